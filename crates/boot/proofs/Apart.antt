@@ -1,0 +1,173 @@
+-- The regions of a layout are apart: FATs, bitmaps, and clusters that are no bitmap's. Assumes nothing.
+use mathlib.Core.Path.{_≡_, refl, sym, _∙_, ap, subst}
+use mathlib.Core.Logic.{_≢_, _⊎_, inl, inr, ⊎-elim}
+use mathlib.Core.Bool.{Bool, true, false, _&&_, _||_, false≢true}
+use Prim.Native.Nat.{ℕ, zero, suc, _+_, _-_, _*_, _/_, _≤_, _<_}
+use native.Mathlib.Decide.{decLt}
+use native.Mathlib.Nat.{add-mul, mul-le-mul-right}
+use native.Mathlib.Omega.{arith}
+use lib.Dec.{eqb, leb, ltb}
+use borrow.Author.Tests.{eqb-true, eqb-false, leb-true, ltb-true, le-leb, lt-ltb, lt-leb, le-ltb}
+use Rattle.tables.proofs.Cases.{not-so}
+use Rattle.boot.specs.declared.geometry.Geometry.{Geometry}
+use Rattle.boot.specs.declared.layout.Layout.{Layout}
+use Rattle.boot.specs.Geometry.{numberOfFats, activeFat, clusterCount, bitmap0, bitmap1, clusterSize, bitmapBytes, bitmapClusters}
+use Rattle.boot.specs.Facts.{Shape, Bitmaps, Accepted}
+use Rattle.boot.specs.Layout.{fatStart, clusterStart, bitmapFirst, layoutOf, clusterAt, inHeap, inRun, isBitmapCluster, Laid}
+use Rattle.boot.proofs.Tests.{and-left, and-right, and-both}
+use Rattle.boot.proofs.Clusters.{mul-step}
+use Rattle.boot.proofs.Places.{first-zero, first-suc, first-low, first-high, fat-heap, fat-fat, bytes-le}
+
+-- the facts by which a layout's regions are apart
+pub record Apart (y : Layout) : Type 0 where
+  -- the active FAT and bitmap are the first ones or, where there are two, the second ones
+  pub active : ((y .fat ≡ y .fat0) × (y .bitmap ≡ y .bitmap0)) ⊎ ((y .two ≡ true) × (y .fat ≡ y .fat1) × (y .bitmap ≡ y .bitmap1))
+  pub fats : y .two ≡ true → y .fat0 + 4 * (y .count + 2) ≤ y .fat1
+  pub fat0-heap : y .fat0 + 4 * (y .count + 2) ≤ y .heap
+  pub fat1-heap : y .fat1 + 4 * (y .count + 2) ≤ y .heap
+  pub at0 : y .bitmap0 ≡ clusterAt y (y .first0)
+  pub at1 : y .bitmap1 ≡ clusterAt y (y .first1)
+  pub low0 : 2 ≤ y .first0
+  pub low1 : 2 ≤ y .first1
+  pub holds : bitmapBytes (y .count) ≤ y .span * y .size
+  pub bitmaps : y .two ≡ true → (y .first0 + y .span ≤ y .first1) ⊎ (y .first1 + y .span ≤ y .first0)
+
+-- ---- a geometry that keeps the limits has such a layout
+
+start-at : (g : Geometry) (len k : ℕ) → clusterStart g k ≡ clusterAt (layoutOf g len) k
+unfolding clusterStart clusterAt
+start-at g len k = omega arith
+
+module _ (g : Geometry) (len : ℕ) (p : Accepted g len) where
+  active-is : (i n : ℕ) → activeFat g ≡ i → numberOfFats g ≡ n → i < n → n ≤ 2
+      → ((fatStart g i ≡ fatStart g 0) × (clusterStart g (bitmapFirst g i) ≡ clusterStart g (bitmap0 g)))
+      ⊎ ((eqb n 2 ≡ true) × (fatStart g i ≡ fatStart g (n - 1)) × (clusterStart g (bitmapFirst g i) ≡ clusterStart g (bitmapFirst g (n - 1))))
+  active-is zero n a b h l = inl (refl, ap (clusterStart g) (first-zero g))
+  active-is (suc zero) (suc (suc zero)) a b h l = inr (refl, refl, refl)
+  active-is (suc zero) zero a b h l = absurd (omega arith)
+  active-is (suc zero) (suc zero) a b h l = absurd (omega arith)
+  active-is (suc zero) (suc (suc (suc n))) a b h l = absurd (omega arith)
+  active-is (suc (suc i)) n a b h l = absurd (omega arith)
+
+  -- with two FATs the last one is the second
+  last : eqb (numberOfFats g) 2 ≡ true → numberOfFats g - 1 ≡ 1
+  last t = omega (arith, eqb-true (numberOfFats g) 2 t)
+
+  pub apart-of : Apart (layoutOf g len)
+  apart-of =
+      let s = p .shape in
+      record {
+        active = active-is (activeFat g) (numberOfFats g) refl refl (s .active-in) (s .fats-high);
+        fats = λ t. subst (λ (x : ℕ). fatStart g 0 + 4 * (clusterCount g + 2) ≤ fatStart g x) (sym (last t)) (fat-fat g len p);
+        fat0-heap = fat-heap g len p 0 (omega arith);
+        fat1-heap = fat-heap g len p (numberOfFats g - 1) (omega arith);
+        at0 = start-at g len (bitmap0 g);
+        at1 = start-at g len (bitmapFirst g (numberOfFats g - 1));
+        low0 = p .bitmaps .low0;
+        low1 = first-low g len p (numberOfFats g - 1) (omega arith);
+        holds = bytes-le g;
+        bitmaps = λ t. subst (λ (x : ℕ). (bitmap0 g + bitmapClusters g ≤ x) ⊎ (x + bitmapClusters g ≤ bitmap0 g))
+            (sym (ap (bitmapFirst g) (last t) ∙ first-suc g 0)) (p .bitmaps .share-none (eqb-true (numberOfFats g) 2 t));
+      }
+
+-- ---- membership tests and their facts
+
+pub in-heap : (count k : ℕ) → inHeap count k ≡ true → (2 ≤ k) × (k < count + 2)
+unfolding inHeap
+in-heap count k e =
+    (leb-true 2 k (and-left (leb 2 k) (ltb k (count + 2)) e), ltb-true k (count + 2) (and-right (leb 2 k) (ltb k (count + 2)) e))
+
+pub heap-in : (count k : ℕ) → 2 ≤ k → k < count + 2 → inHeap count k ≡ true
+unfolding inHeap
+heap-in count k l h = and-both (leb 2 k) (ltb k (count + 2)) (le-leb 2 k l) (lt-ltb k (count + 2) h)
+
+pub heap-out : (count k : ℕ) → ((2 ≤ k) × (k < count + 2) → ⊥) → inHeap count k ≡ false
+heap-out count k h = not-so (inHeap count k) (λ e. h (in-heap count k e))
+
+or-left : (a b : Bool) → a || b ≡ false → a ≡ false
+or-left true b e = e
+or-left false b e = refl
+
+or-right : (a b : Bool) → a || b ≡ false → b ≡ false
+or-right true b e = absurd (false≢true (sym e))
+or-right false b e = e
+
+-- a cluster outside a run is before it or after it
+run-out : (first n k : ℕ) → inRun first n k ≡ false → (k < first) ⊎ (first + n ≤ k)
+unfolding inRun
+run-out first n k e =
+    elim (decLt k first) [
+      | yes h ↦ inl h
+      | no h ↦ (elim (decLt k (first + n)) [
+        | yes l ↦ absurd (false≢true (sym e ∙ and-both (leb first k) (ltb k (first + n)) (le-leb first k (omega arith)) (lt-ltb k (first + n) l)))
+        | no l ↦ inr (omega arith)
+      ])
+    ]
+
+-- ---- no byte is in two places
+
+module _ (y : Layout) (l : Laid y) (a : Apart y) where
+  pub cluster-apart : (k j : ℕ) → 2 ≤ k → k < j → clusterAt y k + y .size ≤ clusterAt y j
+  unfolding clusterAt
+  cluster-apart k j h b = omega (arith, mul-step (k - 2) (j - 2) (y .size) (omega arith))
+
+  pub cluster-start : (k : ℕ) → y .heap ≤ clusterAt y k
+  unfolding clusterAt
+  cluster-start k = omega arith
+
+  pub cluster-end : (k : ℕ) → inHeap (y .count) k ≡ true → clusterAt y k + y .size ≤ y .len
+  unfolding clusterAt
+  cluster-end k h =
+      let i = in-heap (y .count) k h in
+      omega (arith, mul-step (k - 2) (y .count) (y .size) (omega arith))
+
+  -- a cluster after a run of n clusters
+  run-before : (first n k : ℕ) → 2 ≤ first → first + n ≤ k → clusterAt y first + n * y .size ≤ clusterAt y k
+  unfolding clusterAt
+  run-before first n k h b =
+      omega (arith, add-mul (first - 2) n (y .size), mul-le-mul-right {m = first - 2 + n} {n = k - 2} (y .size) (omega arith))
+
+  -- bytes of two clusters
+  pub cluster-cluster : (k j r s : ℕ) → inHeap (y .count) k ≡ true → inHeap (y .count) j ≡ true → k ≢ j → r < y .size → s < y .size
+      → clusterAt y k + r ≢ clusterAt y j + s
+  cluster-cluster k j r s h i d p q =
+      let u = in-heap (y .count) k h in
+      let v = in-heap (y .count) j i in
+      elim (decLt k j) [
+        | yes b ↦ omega (arith, cluster-apart k j (u .0) b)
+        | no b ↦ omega (arith, cluster-apart j k (v .0) (omega arith))
+      ]
+
+  -- a byte of a bitmap from cluster first on, and one of a cluster outside it
+  bitmap-other : (first k i r : ℕ) → 2 ≤ first → inHeap (y .count) k ≡ true → inRun first (y .span) k ≡ false
+      → i < bitmapBytes (y .count) → r < y .size → clusterAt y first + i ≢ clusterAt y k + r
+  bitmap-other first k i r h u o b q =
+      let v = in-heap (y .count) k u in
+      let w = a .holds in
+      ⊎-elim (λ c. omega (arith, cluster-apart k first (v .0) c)) (λ c. omega (arith, run-before first (y .span) k h c))
+      (run-out first (y .span) k o)
+
+  -- a byte of either bitmap, and one of a cluster that is no bitmap's
+  pub bitmap0-cluster : (k i r : ℕ) → inHeap (y .count) k ≡ true → isBitmapCluster y k ≡ false → i < bitmapBytes (y .count) → r < y .size
+      → y .bitmap0 + i ≢ clusterAt y k + r
+  unfolding isBitmapCluster
+  bitmap0-cluster k i r h o b q =
+      omega (arith, a .at0, bitmap-other (y .first0) k i r (a .low0) h (or-left (inRun (y .first0) (y .span) k) (inRun (y .first1) (y .span) k) o) b q)
+
+  pub bitmap1-cluster : (k i r : ℕ) → inHeap (y .count) k ≡ true → isBitmapCluster y k ≡ false → i < bitmapBytes (y .count) → r < y .size
+      → y .bitmap1 + i ≢ clusterAt y k + r
+  unfolding isBitmapCluster
+  bitmap1-cluster k i r h o b q =
+      omega (arith, a .at1, bitmap-other (y .first1) k i r (a .low1) h (or-right (inRun (y .first0) (y .span) k) (inRun (y .first1) (y .span) k) o) b q)
+
+  -- a byte of each of two bitmaps
+  pub bitmap-bitmap : (i j : ℕ) → y .two ≡ true → i < bitmapBytes (y .count) → j < bitmapBytes (y .count) → y .bitmap0 + i ≢ y .bitmap1 + j
+  bitmap-bitmap i j t b c =
+      let w = a .holds in
+      ⊎-elim (λ u. omega (arith, a .at0, a .at1, run-before (y .first0) (y .span) (y .first1) (a .low0) u))
+      (λ u. omega (arith, a .at0, a .at1, run-before (y .first1) (y .span) (y .first0) (a .low1) u))
+      (a .bitmaps t)
+
+  -- every bitmap byte lies past every FAT entry
+  pub fat-bitmap : (i : ℕ) → (y .heap ≤ y .bitmap0 + i) × (y .heap ≤ y .bitmap1 + i)
+  fat-bitmap i = (omega (arith, a .at0, cluster-start (y .first0)), omega (arith, a .at1, cluster-start (y .first1)))

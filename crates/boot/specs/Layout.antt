@@ -1,0 +1,73 @@
+-- Where the parts of a volume lie, in bytes (exFAT specification, 2 and 5.1).
+use mathlib.Core.Bool.{Bool, cond, _&&_, _||_}
+use Prim.Native.Nat.{ℕ, _+_, _-_, _*_, _/_, _≤_}
+use lib.Dec.{eqb, leb, ltb}
+use Rattle.boot.specs.declared.geometry.Geometry.{Geometry}
+use Rattle.boot.specs.declared.layout.Layout.{Layout}
+use Rattle.boot.specs.Geometry.{fatOffset, fatLength, numberOfFats, activeFat, clusterHeapOffset, clusterCount, bitmap0, bitmap1, sectorSize, clusterSize, bitmapBytes, bitmapClusters}
+
+-- the first byte of FAT i
+unfoldable pub fatStart : Geometry → ℕ → ℕ
+fatStart g i = (fatOffset g + i * fatLength g) * sectorSize g
+
+-- the first byte of cluster k
+unfoldable pub clusterStart : Geometry → ℕ → ℕ
+clusterStart g k = clusterHeapOffset g * sectorSize g + (k - 2) * clusterSize g
+
+-- the first cluster of FAT i's bitmap
+unfoldable pub bitmapFirst : Geometry → ℕ → ℕ
+bitmapFirst g i = cond (eqb i 0) (bitmap0 g) (bitmap1 g)
+
+-- the places of a geometry in a volume of len bytes; with one FAT the second places are the first
+abbrev pub layoutOf : Geometry → ℕ → Layout
+layoutOf g len =
+    let last = numberOfFats g - 1 in
+    record {
+      two = eqb (numberOfFats g) 2;
+      fat = fatStart g (activeFat g);
+      fat0 = fatStart g 0;
+      fat1 = fatStart g last;
+      bitmap = clusterStart g (bitmapFirst g (activeFat g));
+      bitmap0 = clusterStart g (bitmap0 g);
+      bitmap1 = clusterStart g (bitmapFirst g last);
+      first0 = bitmap0 g;
+      first1 = bitmapFirst g last;
+      span = bitmapClusters g;
+      heap = clusterStart g 2;
+      size = clusterSize g;
+      count = clusterCount g;
+      len = len;
+    }
+
+-- the first byte of cluster k
+unfoldable pub clusterAt : Layout → ℕ → ℕ
+clusterAt y k = y .heap + (k - 2) * y .size
+
+-- k is a cluster of a heap of count clusters (01: 2..C+1)
+unfoldable pub inHeap : ℕ → ℕ → Bool
+inHeap count k = leb 2 k && ltb k (count + 2)
+
+-- k is one of the n clusters from first
+unfoldable pub inRun : ℕ → ℕ → ℕ → Bool
+inRun first n k = leb first k && ltb k (first + n)
+
+-- k is a cluster of a bitmap, of the active FAT's or of the other's
+unfoldable pub isBitmapCluster : Layout → ℕ → Bool
+isBitmapCluster y k = inRun (y .first0) (y .span) k || inRun (y .first1) (y .span) k
+
+-- a layout's places lie in the volume: what internal functions require
+pub record Laid (y : Layout) : Type 0 where
+  pub fat-in : y .fat + 4 * (y .count + 2) ≤ y .len
+  pub fat0-in : y .fat0 + 4 * (y .count + 2) ≤ y .len
+  pub fat1-in : y .fat1 + 4 * (y .count + 2) ≤ y .len
+  pub bitmap-in : y .bitmap + bitmapBytes (y .count) ≤ y .len
+  pub bitmap0-in : y .bitmap0 + bitmapBytes (y .count) ≤ y .len
+  pub bitmap1-in : y .bitmap1 + bitmapBytes (y .count) ≤ y .len
+  pub heap-in : y .heap + y .count * y .size ≤ y .len
+  pub run0-in : y .first0 + y .span ≤ y .count + 2
+  pub run1-in : y .first1 + y .span ≤ y .count + 2
+  pub size-low : 1 ≤ y .size
+  pub size-high : y .size ≤ 32768
+  pub count-low : 1 ≤ y .count
+  pub count-high : y .count ≤ 32768
+  pub len-high : y .len ≤ 16777216

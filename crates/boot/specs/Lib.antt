@@ -1,0 +1,4 @@
+pub mod Geometry
+pub mod Limits
+pub mod Facts
+pub mod Layout

@@ -1,0 +1,92 @@
+// Where the parts of a volume lie, in bytes: computed once from a geometry that keeps the limits.
+ghost use mathlib.Core.Path.{_≡_};
+ghost use Prim.Native.Nat.{_+_, _-_, _*_, _^_, _≤_, _<_};
+ghost use Rattle.boot.specs.Facts.{Shape, Accepted};
+ghost use Rattle.boot.specs.Layout.{fatStart, clusterStart, bitmapFirst, layoutOf, Laid, clusterAt};
+use crate::geometry;
+use crate::geometry::Geometry;
+
+// Places are of first bytes. With one FAT the second places are the first.
+pub struct Layout {
+    pub two: bool,
+    pub fat: usize,
+    pub fat0: usize,
+    pub fat1: usize,
+    pub bitmap: usize,
+    pub bitmap0: usize,
+    pub bitmap1: usize,
+    pub first0: u32,
+    pub first1: u32,
+    pub span: u32,
+    pub heap: usize,
+    pub size: usize,
+    pub count: u32,
+    pub len: usize,
+}
+
+// i FATs of n sectors.
+fn fats(i: u32, n: u32) -> u64
+    requires { ⌜ i < 2 ⌝ }
+    ensures { λ r. ⌜ (r ≡ i * n) × (r ≤ n) ⌝ }
+{
+    (i as u64) * (n as u64)
+}
+
+// The first byte of FAT i.
+fn fat_start(g: Geometry, i: u32) -> usize
+    requires { ⌜ Shape g × (i < 2) ⌝ }
+    ensures { λ r. ⌜ r ≡ fatStart g i ⌝ }
+{
+    geometry::in_sectors(g, g.fat_offset as u64 + fats(i, g.fat_length)) as usize
+}
+
+// The first byte of cluster k.
+fn cluster_start(g: Geometry, k: u32) -> usize
+    requires { ⌜ Shape g × (2 ≤ k) ⌝ }
+    ensures { λ r. ⌜ r ≡ clusterStart g k ⌝ }
+{
+    (geometry::in_sectors(g, g.cluster_heap_offset as u64)
+        + geometry::in_clusters(g, k - 2)) as usize
+}
+
+// The first cluster of FAT i's bitmap.
+fn bitmap_first(g: Geometry, i: u32) -> u32
+    ensures { λ r. ⌜ r ≡ bitmapFirst g i ⌝ }
+{
+    if i == 0 {
+        return g.bitmap_0;
+    }
+    g.bitmap_1
+}
+
+// The layout of a geometry in a volume of len bytes.
+pub fn layout_of(g: Geometry, len: usize) -> Layout
+    requires { ⌜ Accepted g len ⌝ }
+    ensures { λ r. ⌜ r ≡ layoutOf g len ⌝ }
+{
+    let last = g.number_of_fats - 1;
+    Layout {
+        two: g.number_of_fats == 2,
+        fat: fat_start(g, g.active_fat),
+        fat0: fat_start(g, 0),
+        fat1: fat_start(g, last),
+        bitmap: cluster_start(g, bitmap_first(g, g.active_fat)),
+        bitmap0: cluster_start(g, g.bitmap_0),
+        bitmap1: cluster_start(g, bitmap_first(g, last)),
+        first0: g.bitmap_0,
+        first1: bitmap_first(g, last),
+        span: geometry::bitmap_clusters(g),
+        heap: cluster_start(g, 2),
+        size: geometry::cluster_size(g) as usize,
+        count: g.cluster_count,
+        len: len,
+    }
+}
+
+// The first byte of cluster k (Rust: `cluster_offset`).
+pub fn cluster_offset(y: Layout, k: u32) -> usize
+    requires { ⌜ Laid y × ((2 ≤ k) × (k < y .count + 2)) ⌝ }
+    ensures { λ r. ⌜ (r ≡ clusterAt y k) × (r + y .size ≤ y .len) ⌝ }
+{
+    y.heap + ((k - 2) as usize) * y.size
+}

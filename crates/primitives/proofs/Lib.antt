@@ -1,0 +1,8 @@
+pub mod Cases
+pub mod Every
+pub mod BitLaws
+pub mod CountLaws
+pub mod ChecksumLaws
+pub mod WordLaws
+pub mod SpliceLaws
+pub mod PartLaws

@@ -1,0 +1,101 @@
+-- The laws of a part that is replaced. Assumes nothing.
+use mathlib.Core.Path.{_≡_, refl, ap, ap₂, _∙_, sym}
+use mathlib.Core.List.{List, [], _∷_, _++_, append-assoc, append-nil}
+use Prim.Native.Nat.{ℕ, zero, suc, _+_, _-_, _<_, _≤_}
+use native.Mathlib.Nat.{add-zero, add-suc, zero-add, suc-add}
+use native.Mathlib.Numerals.{add-one}
+use native.Mathlib.Omega.{arith}
+use lib.ListN.{length, getD, take, drop, set, replicate, length-append, length-take, length-drop, length-set, length-replicate, List·getD-append, take-append-drop, replicate-append-replicate}
+use lib.Seq.{length-take-le, getD-take, getD-drop, getD-append-add, drop-cons, set-at, append-snoc, take-suc, drop-drop, set-append-left}
+use Rattle.primitives.specs.Splice.{splice}
+
+-- a part that fits: nothing past its end, the part, what is before it
+module _ (d : List ℕ) (at : ℕ) (s : List ℕ) (fits : at + length s ≤ length d) where
+  head : length (take at d ++ s) ≡ at + length s
+  head = length-append (take at d) s ∙ ap (λ (n : ℕ). n + length s) (length-take-le at d (omega arith))
+
+  pub length-splice : length (splice d at s) ≡ length d
+  unfolding splice
+  length-splice = simp (length-append, length-drop, length-take-le at d (omega arith)) (omega arith)
+
+  pub splice-below : (i : ℕ) → i < at → getD (splice d at s) i 0 ≡ getD d i 0
+  unfolding splice
+  splice-below i h =
+      List·getD-append (take at d ++ s) _ 0 i (omega (arith, head))
+      ∙ List·getD-append (take at d) s 0 i (omega (arith, length-take-le at d (omega arith))) ∙ getD-take at d i 0 h
+
+  pub splice-in : (k : ℕ) → k < length s → getD (splice d at s) (at + k) 0 ≡ getD s k 0
+  unfolding splice
+  splice-in k h =
+      List·getD-append (take at d ++ s) _ 0 (at + k) (omega (arith, head))
+      ∙ ap (λ (n : ℕ). getD (take at d ++ s) (n + k) 0) (sym (length-take-le at d (omega arith))) ∙ getD-append-add (take at d) s k 0
+
+  pub splice-above : (i : ℕ) → at + length s ≤ i → getD (splice d at s) i 0 ≡ getD d i 0
+  unfolding splice
+  splice-above i h =
+      let j = i - (at + length s) in
+      let e : i ≡ length (take at d ++ s) + j = omega (arith, head) in
+      let f : at + length s + j ≡ i = omega arith in
+      ap (λ (n : ℕ). getD (take at d ++ s ++ drop (at + length s) d) n 0) e ∙ getD-append-add (take at d ++ s) _ j 0
+      ∙ getD-drop (at + length s) d j 0 ∙ ap (λ (n : ℕ). getD d n 0) f
+
+-- a copy of no bytes, and a turn of a loop that copies one more
+pub splice-nil : (d : List ℕ) (at : ℕ) → splice d at [] ≡ d
+unfolding splice
+splice-nil d at = simp (add-zero, append-nil, take-append-drop)
+
+pub splice-more : (d : List ℕ) (at : ℕ) (s : List ℕ) (x : ℕ) → at + length s < length d
+    → set (splice d at s) (at + length s) x ≡ splice d at (s ++ (x ∷ []))
+unfolding splice
+splice-more d at s x h =
+    let n = at + length s in
+    let e : length (s ++ (x ∷ [])) ≡ suc (length s) = length-append s (x ∷ []) ∙ add-one (length s) in
+    ap (λ (r : List ℕ). set (take at d ++ s ++ r) n x) (drop-cons d n 0 h)
+    ∙ set-at (take at d ++ s) (getD d n 0) (drop (suc n) d) x n (head d at s (omega arith))
+    ∙ sym (append-snoc (take at d ++ s) x (drop (suc n) d))
+    ∙ ap₂ (λ (r : List ℕ) (k : ℕ). r ++ drop k d) (append-assoc (take at d) s (x ∷ [])) (sym (ap (λ (k : ℕ). at + k) e ∙ add-suc at (length s)))
+
+-- the same where the part's length is known by another name, and the part that it becomes
+pub splice-turn : (d : List ℕ) (at : ℕ) (s t : List ℕ) (k x : ℕ) → length s ≡ k → at + k < length d → s ++ (x ∷ []) ≡ t
+    → set (splice d at s) (at + k) x ≡ splice d at t
+splice-turn d at s t k x e h m =
+    ap (λ (n : ℕ). set (splice d at s) (at + n) x) (sym e) ∙ splice-more d at s x (omega arith) ∙ ap (splice d at) m
+
+-- k bytes of a source from `from`
+module _ (src : List ℕ) (from k : ℕ) (h : from + k < length src) where
+  pub length-part : length (take k (drop from src)) ≡ k
+  length-part = length-take-le k (drop from src) (omega (arith, length-drop from src))
+
+  pub part-more : take k (drop from src) ++ (getD src (from + k) 0 ∷ []) ≡ take (k + 1) (drop from src)
+  part-more =
+      ap (λ (x : ℕ). take k (drop from src) ++ (x ∷ [])) (sym (getD-drop from src k 0))
+      ∙ sym (take-suc (drop from src) k 0 (omega (arith, length-drop from src))) ∙ ap (λ (n : ℕ). take n (drop from src)) (sym (add-one k))
+
+-- ---- a part that is lent and comes back
+
+-- what the language gives back for a part `&mut d[a..e]` that holds s last
+pub back : (d : List ℕ) (a k : ℕ) (s : List ℕ) → length s ≡ k → take a d ++ (s ++ drop k (drop a d)) ≡ splice d a s
+unfolding splice
+back d a k s e = rw (← e, drop-drop (length s) a d) (sym (append-assoc (take a d) s (drop (a + length s) d)))
+
+-- a part that is put back as it was
+pub splice-self : (d : List ℕ) (a k : ℕ) → a + k ≤ length d → splice d a (take k (drop a d)) ≡ d
+unfolding splice
+splice-self d a k h =
+    let e : length (take k (drop a d)) ≡ k = length-take-le k (drop a d) (omega (arith, length-drop a d)) in
+    rw (e, append-assoc, ← drop-drop k a d, take-append-drop, take-append-drop)
+
+set-right : (p s : List ℕ) (j x : ℕ) → set (p ++ s) (length p + j) x ≡ p ++ set s j x
+set-right [] s j x = rw zero-add
+set-right (y ∷ p) s j x = rw suc-add (ap (λ (r : List ℕ). y ∷ r) (set-right p s j x))
+
+-- a store into the part is one into the whole
+pub splice-set : (d : List ℕ) (a : ℕ) (s : List ℕ) (j x : ℕ) → a + length s ≤ length d → j < length s
+    → splice d a (set s j x) ≡ set (splice d a s) (a + j) x
+unfolding splice
+splice-set d a s j x h b =
+    let t : length (take a d) ≡ a = length-take-le a d (omega arith) in
+    rw length-set
+    (sym
+    (set-append-left (take a d ++ s) (drop (a + length s) d) (a + j) x (omega (arith, head d a s h))
+    ∙ ap (λ (r : List ℕ). r ++ drop (a + length s) d) (ap (λ (n : ℕ). set (take a d ++ s) (n + j) x) (sym t) ∙ set-right (take a d) s j x)))

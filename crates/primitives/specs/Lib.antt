@@ -1,0 +1,4 @@
+pub mod Bits
+pub mod Checksum
+pub mod Splice
+pub mod Words

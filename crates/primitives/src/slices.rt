@@ -1,0 +1,29 @@
+// Runs of bytes stored into a slice.
+ghost use mathlib.Core.Path.{_≡_};
+ghost use Prim.Native.Nat.{_+_, _≤_};
+ghost use lib.ListN.{length, take, drop, replicate};
+ghost use Rattle.primitives.specs.Splice.{splice};
+
+// Stores the n bytes of src from `from` into dst from `at`.
+pub fn copy_in(dst: &mut [u8], at: usize, src: &[u8], from: usize, n: usize)
+    requires { ⌜ (at + n ≤ length (now dst)) × (from + n ≤ length (now src)) ⌝ }
+    ensures { λ _. ⌜ now (dst .exit) ≡ splice (now (dst .entry)) at (take n (drop from (now (src .entry)))) ⌝ }
+{
+    let mut k = 0;
+    while k < n {
+        dst[at + k] = src[from + k];
+        k += 1;
+    }
+}
+
+// Stores n zeros into dst from `at`.
+pub fn fill_zero(dst: &mut [u8], at: usize, n: usize)
+    requires { ⌜ at + n ≤ length (now dst) ⌝ }
+    ensures { λ _. ⌜ now (dst .exit) ≡ splice (now (dst .entry)) at (replicate n 0) ⌝ }
+{
+    let mut k = 0;
+    while k < n {
+        dst[at + k] = 0;
+        k += 1;
+    }
+}

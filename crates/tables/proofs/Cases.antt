@@ -1,0 +1,26 @@
+-- Cases on a test, and from a contradiction between constructors. Assumes nothing.
+use mathlib.Core.Path.{_≡_, refl}
+use mathlib.Core.Bool.{Bool, true, false, cond, false≢true}
+use Prim.Native.Nat.{ℕ}
+use native.Mathlib.Omega.{arith}
+
+-- two constructors that are equal prove anything: `clash (cc)`
+pub clash {ℓ} : {X : Type ℓ} → _≡_ {A = ℕ} 0 1 → X
+clash e = absurd (omega arith)
+
+-- what holds of a choice, by cases of its test
+pub cond-case {ℓ κ} : {A : Type ℓ} (P : A → Type κ) (b : Bool) (x y : A) → (b ≡ true → P x) → (b ≡ false → P y) → P (cond b x y)
+cond-case P true x y t f = t refl
+cond-case P false x y t f = f refl
+
+-- two truth values that are true together are equal
+pub bool-ext : (a b : Bool) → (a ≡ true → b ≡ true) → (b ≡ true → a ≡ true) → a ≡ b
+bool-ext true true f g = refl
+bool-ext true false f g = absurd (false≢true (f refl))
+bool-ext false true f g = absurd (false≢true (g refl))
+bool-ext false false f g = refl
+
+-- a truth value that is not true is false
+pub not-so : (b : Bool) → (b ≡ true → ⊥) → b ≡ false
+not-so true h = absurd (h refl)
+not-so false h = refl

@@ -1,0 +1,4 @@
+pub mod Cases
+pub mod CountLaws
+pub mod ListLaws
+pub mod TableLaws

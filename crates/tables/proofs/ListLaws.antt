@@ -1,0 +1,34 @@
+-- The laws of membership. Assumes nothing.
+use mathlib.Core.Path.{_≡_, refl, sym, _∙_}
+use mathlib.Core.Logic.{_⊎_, inl, inr, ⊎-elim}
+use mathlib.Core.List.{List, [], _∷_, _++_}
+use Prim.Native.Nat.{ℕ, zero, suc}
+use lib.ListN.{take, drop}
+use Rattle.tables.specs.Lists.{Mem, here, there, Distinct, none, more}
+
+pub mem-append : {k : ℕ} (xs : List ℕ) {ys : List ℕ} → Mem k (xs ++ ys) → Mem k xs ⊎ Mem k ys
+mem-append [] m = inr m
+mem-append (x ∷ xs) (here e) = inl (here e)
+mem-append (x ∷ xs) (there m) = ⊎-elim (λ p. inl (there p)) (λ p. inr p) (mem-append xs m)
+
+pub mem-left : {k : ℕ} {xs : List ℕ} (ys : List ℕ) → Mem k xs → Mem k (xs ++ ys)
+mem-left ys (here e) = here e
+mem-left ys (there m) = there (mem-left ys m)
+
+pub mem-right : {k : ℕ} (xs : List ℕ) {ys : List ℕ} → Mem k ys → Mem k (xs ++ ys)
+mem-right [] m = m
+mem-right (x ∷ xs) m = there (mem-right xs m)
+
+pub mem-take : {k : ℕ} (n : ℕ) (xs : List ℕ) → Mem k (take n xs) → Mem k xs
+mem-take (suc n) (x ∷ xs) (here e) = here e
+mem-take (suc n) (x ∷ xs) (there m) = there (mem-take n xs m)
+
+pub distinct-append : (xs ys : List ℕ) → Distinct xs → Distinct ys → ((k : ℕ) → Mem k xs → Mem k ys → ⊥) → Distinct (xs ++ ys)
+distinct-append [] ys d e h = e
+distinct-append (x ∷ xs) ys (more o d) e h =
+    more (λ m. ⊎-elim o (λ p. h x (here refl) p) (mem-append xs m)) (distinct-append xs ys d e (λ k p q. h k (there p) q))
+
+pub distinct-take : (n : ℕ) (xs : List ℕ) → Distinct xs → Distinct (take n xs)
+distinct-take zero xs d = none
+distinct-take (suc n) [] d = none
+distinct-take (suc n) (x ∷ xs) (more o d) = more (λ m. o (mem-take n xs m)) (distinct-take n xs d)
