@@ -8,7 +8,7 @@ use native.Mathlib.Nat.{add-mul, mul-le-mul-right}
 use native.Mathlib.Omega.{arith}
 use lib.Dec.{eqb, leb, ltb}
 use borrow.Author.Tests.{eqb-true, eqb-false, leb-true, ltb-true, le-leb, lt-ltb, lt-leb, le-ltb}
-use Rattle.tables.proofs.Cases.{not-so}
+use Rattle.tables.proofs.Cases.{not-so, bool-ext}
 use Rattle.boot.specs.declared.geometry.Geometry.{Geometry}
 use Rattle.boot.specs.declared.layout.Layout.{Layout}
 use Rattle.boot.specs.Geometry.{numberOfFats, activeFat, clusterCount, bitmap0, bitmap1, clusterSize, bitmapBytes, bitmapClusters}
@@ -35,7 +35,7 @@ pub record Apart (y : Layout) : Type 0 where
 -- ---- a geometry that keeps the limits has such a layout
 
 start-at : (g : Geometry) (len k : ℕ) → clusterStart g k ≡ clusterAt (layoutOf g len) k
-unfolding clusterStart clusterAt
+unfolding clusterStart clusterAt layoutOf
 start-at g len k = omega arith
 
 module _ (g : Geometry) (len : ℕ) (p : Accepted g len) where
@@ -54,6 +54,7 @@ module _ (g : Geometry) (len : ℕ) (p : Accepted g len) where
   last t = omega (arith, eqb-true (numberOfFats g) 2 t)
 
   pub apart-of : Apart (layoutOf g len)
+  unfolding layoutOf
   apart-of =
       let s = p .shape in
       record {
@@ -72,17 +73,55 @@ module _ (g : Geometry) (len : ℕ) (p : Accepted g len) where
 
 -- ---- membership tests and their facts
 
+-- a cluster of a run
+run-facts : (first n k : ℕ) → inRun first n k ≡ true → (first ≤ k) × (k < first + n)
+unfolding inRun
+run-facts first n k e =
+    (leb-true first k (and-left (leb first k) (ltb k (first + n)) e), ltb-true k (first + n) (and-right (leb first k) (ltb k (first + n)) e))
+
+run-true : (first n k : ℕ) → first ≤ k → k < first + n → inRun first n k ≡ true
+unfolding inRun
+run-true first n k l h = and-both (leb first k) (ltb k (first + n)) (le-leb first k l) (lt-ltb k (first + n) h)
+
+pub run-low : (first n k : ℕ) → k < first → inRun first n k ≡ false
+run-low first n k h = not-so (inRun first n k) (λ e. let f = run-facts first n k e in omega arith)
+
+pub run-is : (first n k : ℕ) → first ≤ k → ltb (k - first) n ≡ inRun first n k
+run-is first n k h =
+    bool-ext (ltb (k - first) n) (inRun first n k)
+    (λ e. run-true first n k h (omega (arith, ltb-true (k - first) n e)))
+    (λ e. let f = run-facts first n k e in lt-ltb (k - first) n (omega arith))
+
+-- a cluster outside a run is before it or after it
+run-out : (first n k : ℕ) → inRun first n k ≡ false → (k < first) ⊎ (first + n ≤ k)
+run-out first n k e =
+    elim (decLt k first) [
+      | yes h ↦ inl h
+      | no h ↦ (elim (decLt k (first + n)) [
+        | yes l ↦ absurd (false≢true (sym e ∙ run-true first n k (omega arith) l))
+        | no l ↦ inr (omega arith)
+      ])
+    ]
+
 pub in-heap : (count k : ℕ) → inHeap count k ≡ true → (2 ≤ k) × (k < count + 2)
 unfolding inHeap
-in-heap count k e =
-    (leb-true 2 k (and-left (leb 2 k) (ltb k (count + 2)) e), ltb-true k (count + 2) (and-right (leb 2 k) (ltb k (count + 2)) e))
+in-heap count k e = let f = run-facts 2 count k e in (f .0, omega arith)
 
 pub heap-in : (count k : ℕ) → 2 ≤ k → k < count + 2 → inHeap count k ≡ true
 unfolding inHeap
-heap-in count k l h = and-both (leb 2 k) (ltb k (count + 2)) (le-leb 2 k l) (lt-ltb k (count + 2) h)
+heap-in count k l h = run-true 2 count k l (omega arith)
 
 pub heap-out : (count k : ℕ) → ((2 ≤ k) × (k < count + 2) → ⊥) → inHeap count k ≡ false
 heap-out count k h = not-so (inHeap count k) (λ e. h (in-heap count k e))
+
+-- a cluster of either bitmap
+pub bitmap-first : (y : Layout) (k : ℕ) → inRun (y .first0) (y .span) k ≡ true → isBitmapCluster y k ≡ true
+unfolding isBitmapCluster
+bitmap-first y k e = rw e refl
+
+pub bitmap-second : (y : Layout) (k : ℕ) → inRun (y .first0) (y .span) k ≡ false → isBitmapCluster y k ≡ inRun (y .first1) (y .span) k
+unfolding isBitmapCluster
+bitmap-second y k e = rw e refl
 
 or-left : (a b : Bool) → a || b ≡ false → a ≡ false
 or-left true b e = e
@@ -91,18 +130,6 @@ or-left false b e = refl
 or-right : (a b : Bool) → a || b ≡ false → b ≡ false
 or-right true b e = absurd (false≢true (sym e))
 or-right false b e = e
-
--- a cluster outside a run is before it or after it
-run-out : (first n k : ℕ) → inRun first n k ≡ false → (k < first) ⊎ (first + n ≤ k)
-unfolding inRun
-run-out first n k e =
-    elim (decLt k first) [
-      | yes h ↦ inl h
-      | no h ↦ (elim (decLt k (first + n)) [
-        | yes l ↦ absurd (false≢true (sym e ∙ and-both (leb first k) (ltb k (first + n)) (le-leb first k (omega arith)) (lt-ltb k (first + n) l)))
-        | no l ↦ inr (omega arith)
-      ])
-    ]
 
 -- ---- no byte is in two places
 

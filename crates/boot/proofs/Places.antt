@@ -85,6 +85,7 @@ module _ (g : Geometry) (len : ℕ) (p : Accepted g len) where
   heap-len = run-in 2 (clusterCount g) (omega arith) (omega arith)
 
   pub laid-of : Laid (layoutOf g len)
+  unfolding layoutOf
   laid-of =
       let s = p .shape in
       let r = p .room in

@@ -19,7 +19,7 @@ unfoldable pub bitmapFirst : Geometry → ℕ → ℕ
 bitmapFirst g i = cond (eqb i 0) (bitmap0 g) (bitmap1 g)
 
 -- the places of a geometry in a volume of len bytes; with one FAT the second places are the first
-abbrev pub layoutOf : Geometry → ℕ → Layout
+unfoldable pub layoutOf : Geometry → ℕ → Layout
 layoutOf g len =
     let last = numberOfFats g - 1 in
     record {
@@ -43,13 +43,13 @@ layoutOf g len =
 unfoldable pub clusterAt : Layout → ℕ → ℕ
 clusterAt y k = y .heap + (k - 2) * y .size
 
--- k is a cluster of a heap of count clusters (01: 2..C+1)
-unfoldable pub inHeap : ℕ → ℕ → Bool
-inHeap count k = leb 2 k && ltb k (count + 2)
-
 -- k is one of the n clusters from first
 unfoldable pub inRun : ℕ → ℕ → ℕ → Bool
 inRun first n k = leb first k && ltb k (first + n)
+
+-- k is a cluster of a heap of count clusters (01: 2..C+1)
+unfoldable pub inHeap : ℕ → ℕ → Bool
+inHeap count k = inRun 2 count k
 
 -- k is a cluster of a bitmap, of the active FAT's or of the other's
 unfoldable pub isBitmapCluster : Layout → ℕ → Bool

@@ -2,7 +2,7 @@
 ghost use mathlib.Core.Path.{_≡_};
 ghost use Prim.Native.Nat.{_+_, _-_, _*_, _^_, _≤_, _<_};
 ghost use Rattle.boot.specs.Facts.{Shape, Accepted};
-ghost use Rattle.boot.specs.Layout.{fatStart, clusterStart, bitmapFirst, layoutOf, Laid, clusterAt};
+ghost use Rattle.boot.specs.Layout.{fatStart, clusterStart, bitmapFirst, layoutOf, Laid, clusterAt, inHeap, inRun, isBitmapCluster};
 use crate::geometry;
 use crate::geometry::Geometry;
 
@@ -89,4 +89,31 @@ pub fn cluster_offset(y: Layout, k: u32) -> usize
     ensures { λ r. ⌜ (r ≡ clusterAt y k) × (r + y .size ≤ y .len) ⌝ }
 {
     y.heap + ((k - 2) as usize) * y.size
+}
+
+// Whether k is one of the n clusters from first.
+fn in_run(first: u32, n: u32, k: u32) -> bool
+    ensures { λ r. ⌜ r ≡ inRun first n k ⌝ }
+{
+    if k < first {
+        return false;
+    }
+    k - first < n
+}
+
+// Whether k is a cluster of a heap of count clusters.
+pub fn in_heap(count: u32, k: u32) -> bool
+    ensures { λ r. ⌜ r ≡ inHeap count k ⌝ }
+{
+    in_run(2, count, k)
+}
+
+// Whether k is a cluster of a bitmap, of the active FAT's or of the other's.
+pub fn is_bitmap_cluster(y: Layout, k: u32) -> bool
+    ensures { λ r. ⌜ r ≡ isBitmapCluster y k ⌝ }
+{
+    if in_run(y.first0, y.span, k) {
+        return true;
+    }
+    in_run(y.first1, y.span, k)
 }

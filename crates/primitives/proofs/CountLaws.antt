@@ -5,7 +5,8 @@ use Prim.Native.Nat.{ℕ, zero, suc, _+_, _-_, _*_, _/_, _%_, _^_, _<_, _≤_}
 use native.Mathlib.Nat.{add-zero, add-suc, add-assoc}
 use native.Mathlib.Omega.{arith}
 use lib.Dec.{T, eqb, leb, eqb→eq, leb→le}
-use lib.ListN.{getD}
+use lib.ListN.{getD, take}
+use lib.Seq.{getD-take}
 use lib.Bits.{bitAnd}
 use lib.Count.{ones, onesIn}
 use Rattle.primitives.specs.Bits.{bitOf, bitAt, countBits}
@@ -68,3 +69,16 @@ pub no-rest : (l : List ℕ) (n i : ℕ) → i ≡ n / 8 → n % 8 ≡ 0 → cou
 no-rest l n i e z =
     let d : i * 8 ≡ n = omega arith in
     ap (countBits l) d
+
+-- bitmaps with the same bits have the same count
+pub count-same : (l m : List ℕ) (n : ℕ) → ((i : ℕ) → i < n → bitAt m i ≡ bitAt l i) → countBits m n ≡ countBits l n
+unfolding countBits
+count-same l m zero h = refl
+count-same l m (suc n) h = ap₂ _+_ (count-same l m n (λ i b. h i (omega arith))) (h n (omega arith))
+
+-- the bytes after the last bit counted do not matter
+pub count-take : (l : List ℕ) (k n : ℕ) → n ≤ 8 * k → countBits (take k l) n ≡ countBits l n
+count-take l k n h = count-same l (take k l) n (λ i b. in-part i (omega arith))
+  where
+    in-part : (i : ℕ) → i / 8 < k → bitAt (take k l) i ≡ bitAt l i
+    in-part i b = unfold bitAt in ap (λ (x : ℕ). bitOf x (i % 8)) (getD-take k l (i / 8) 0 b)

@@ -1,4 +1,5 @@
 use native.Mathlib.Omega.{arith}
+use Rattle.boot.specs.Layout.{layoutOf}
 use Rattle.boot.proofs.Places.{first-low}
 use borrow.Author.Needs.{needs}
 use Rattle.boot.proofs.layout.layout_of.Statement.{statement}
@@ -48,6 +49,7 @@ cluster-size-requires : tie.Need-cluster-size-requires
 cluster-size-requires c κs = search needs
 
 returns : tie.Need-returns
+unfolding layoutOf
 returns c = cc
 
 pub layout-of-spec : {M : Type 1} → statement M

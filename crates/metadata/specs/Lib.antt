@@ -1,0 +1,4 @@
+pub mod Fat
+pub mod Marks
+pub mod Usable
+pub mod Free

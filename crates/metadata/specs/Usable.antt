@@ -1,0 +1,24 @@
+-- Which clusters may be taken (01: usable).
+use mathlib.Core.Bool.{Bool, _&&_, not, cond}
+use mathlib.Core.List.{List}
+use Prim.Native.Nat.{ℕ, zero, suc, _+_}
+use lib.Dec.{eqb}
+use Rattle.boot.specs.declared.layout.Layout.{Layout}
+use Rattle.boot.specs.Limits.{inMap}
+use Rattle.metadata.specs.declared.usable.Found.{Found}
+use Rattle.metadata.specs.declared.usable.Found.the-variants.{At, Nothing}
+use Rattle.metadata.specs.Fat.{BAD, fatEntry}
+use Rattle.metadata.specs.Marks.{marked}
+
+-- the first of the n clusters from k whose FAT entry is bad
+unfoldable pub firstBad : (ℕ → ℕ) → ℕ → ℕ → Found
+firstBad fat k zero = Nothing
+firstBad fat k (suc n) = cond (eqb (fat k) BAD) (At k) (firstBad fat (k + 1) n)
+
+-- unmarked, and not in the system map
+unfoldable pub isFree : Layout → List ℕ → List ℕ → ℕ → Bool
+isFree y d m k = not (marked y d k) && not (inMap m k)
+
+-- unmarked, not in the system map, and not bad in the active FAT
+unfoldable pub isUsable : Layout → List ℕ → List ℕ → ℕ → Bool
+isUsable y d m k = isFree y d m k && not (eqb (fatEntry y d k) BAD)

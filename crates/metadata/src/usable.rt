@@ -1,0 +1,76 @@
+// Which clusters may be taken: unmarked, not in the system map and not bad.
+ghost use mathlib.Core.Path.{_≡_};
+ghost use Prim.Native.Nat.{_+_, _*_, _≤_, _<_};
+ghost use lib.ListN.{length};
+ghost use Rattle.boot.specs.Layout.{Laid};
+ghost use Rattle.metadata.specs.Fat.{fatEntry, entryOf};
+ghost use Rattle.metadata.specs.Usable.{firstBad, isFree, isUsable};
+use boot::layout::Layout;
+
+// The first cluster of a search, or none.
+pub enum Found {
+    At(u32),
+    Nothing,
+}
+
+// The first of the n entries from k that is bad. It sees only a FAT's part of the volume.
+fn first_bad(fat: &[u8], first: u32, n: u32) -> Found
+    requires { ⌜ (4 * (first + n) ≤ length (now fat)) × (first + n ≤ 65536) ⌝ }
+    ensures { λ r. ⌜ r ≡ firstBad (entryOf (now (fat .entry))) first n ⌝ }
+{
+    let mut k = first;
+    let mut left = n;
+    while 0 < left {
+        let at = 4 * (k as usize);
+        let v = primitives::words::u32_at(fat, at);
+        if v == 0xFFFF_FFF7 {
+            return Found::At(k);
+        }
+        k += 1;
+        left -= 1;
+    }
+    Found::Nothing
+}
+
+// The first of the n clusters from first that is bad in the active FAT. The FAT begins mid-volume; that part is handed on.
+pub fn bad_in(vol: &[u8], y: Layout, first: u32, n: u32) -> Found
+    requires { ⌜ Laid y × ((length (now vol) ≡ y .len) × (first + n ≤ y .count + 2)) ⌝ }
+    ensures { λ r. ⌜ r ≡ firstBad (fatEntry y (now (vol .entry))) first n ⌝ }
+{
+    let a = y.fat;
+    let e = a + 4 * (y.count as usize + 2);
+    first_bad(&vol[a..e], first, n)
+}
+
+// Whether cluster k is unmarked and not in the system map.
+fn is_free(vol: &[u8], map: &[u8], y: Layout, k: u32) -> bool
+    requires { ⌜ Laid y × ((length (now vol) ≡ y .len) × ((y .count ≤ 8 * length (now map)) × ((2 ≤ k) × (k < y .count + 2)))) ⌝ }
+    ensures { λ r. ⌜ r ≡ isFree y (now (vol .entry)) (now (map .entry)) k ⌝ }
+{
+    if crate::bitmap::allocated(vol, y, k) {
+        return false;
+    }
+    if boot::geometry::in_map(map, k) {
+        return false;
+    }
+    true
+}
+
+// Whether cluster k may be taken.
+pub fn usable(vol: &[u8], map: &[u8], y: Layout, k: u32) -> bool
+    requires { ⌜ Laid y × ((length (now vol) ≡ y .len) × ((y .count ≤ 8 * length (now map)) × ((2 ≤ k) × (k < y .count + 2)))) ⌝ }
+    ensures { λ r. ⌜ r ≡ isUsable y (now (vol .entry)) (now (map .entry)) k ⌝ }
+{
+    if is_free(vol, map, y, k) {
+        let bad = bad_in(vol, y, k, 1);
+        match bad {
+            Found::At(_) => {
+                return false;
+            }
+            Found::Nothing => {
+                return true;
+            }
+        }
+    }
+    false
+}
