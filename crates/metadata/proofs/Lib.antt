@@ -1,1 +1,4 @@
 pub mod Stores
+pub mod Frame
+pub mod View
+pub mod Counting

@@ -2,3 +2,4 @@ pub mod Fat
 pub mod Marks
 pub mod Usable
 pub mod Free
+pub mod Cluster

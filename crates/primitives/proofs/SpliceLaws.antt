@@ -4,6 +4,7 @@ use mathlib.Core.List.{List, [], _∷_, _++_, append-assoc, append-nil}
 use Prim.Native.Nat.{ℕ, zero, suc, _+_, _-_, _<_, _≤_}
 use native.Mathlib.Nat.{add-zero, add-suc, zero-add, suc-add}
 use native.Mathlib.Numerals.{add-one}
+use native.Mathlib.Decide.{decLt}
 use native.Mathlib.Omega.{arith}
 use lib.ListN.{length, getD, take, drop, set, replicate, length-append, length-take, length-drop, length-set, length-replicate, List·getD-append, take-append-drop, replicate-append-replicate}
 use lib.Seq.{length-take-le, getD-take, getD-drop, getD-append-add, drop-cons, set-at, append-snoc, take-suc, drop-drop, set-append-left}
@@ -38,6 +39,17 @@ module _ (d : List ℕ) (at : ℕ) (s : List ℕ) (fits : at + length s ≤ leng
       let f : at + length s + j ≡ i = omega arith in
       ap (λ (n : ℕ). getD (take at d ++ s ++ drop (at + length s) d) n 0) e ∙ getD-append-add (take at d ++ s) _ j 0
       ∙ getD-drop (at + length s) d j 0 ∙ ap (λ (n : ℕ). getD d n 0) f
+
+  -- a byte outside the part
+  pub splice-off : (i : ℕ) → ((r : ℕ) → r < length s → i ≡ at + r → ⊥) → getD (splice d at s) i 0 ≡ getD d i 0
+  splice-off i h =
+      elim (decLt i at) [
+        | yes b ↦ splice-below i b
+        | no b ↦ splice-above i (elim (decLt i (at + length s)) [
+          | yes c ↦ absurd (h (i - at) (omega arith) (omega arith))
+          | no c ↦ omega arith
+        ])
+      ]
 
 -- a copy of no bytes, and a turn of a loop that copies one more
 pub splice-nil : (d : List ℕ) (at : ℕ) → splice d at [] ≡ d

@@ -20,16 +20,17 @@ length-put zero l at v = refl
 length-put (suc n) l at v = length-set (putLe n l at v) (at + n) (v / 256 ^ n % 256) ∙ length-put n l at v
 
 -- outside the field nothing changes
-pub put-below : (n : ℕ) (l : List ℕ) (at v i : ℕ) → i < at → getD (putLe n l at v) i 0 ≡ getD l i 0
+pub put-off : (n : ℕ) (l : List ℕ) (at v i : ℕ) → ((r : ℕ) → r < n → i ≡ at + r → ⊥) → getD (putLe n l at v) i 0 ≡ getD l i 0
 unfolding putLe
-put-below zero l at v i h = refl
-put-below (suc n) l at v i h = getD-set-other (putLe n l at v) (at + n) i (v / 256 ^ n % 256) 0 (λ e. omega arith) ∙ put-below n l at v i h
+put-off zero l at v i h = refl
+put-off (suc n) l at v i h =
+    getD-set-other (putLe n l at v) (at + n) i (v / 256 ^ n % 256) 0 (h n (omega arith)) ∙ put-off n l at v i (λ r b. h r (omega arith))
+
+pub put-below : (n : ℕ) (l : List ℕ) (at v i : ℕ) → i < at → getD (putLe n l at v) i 0 ≡ getD l i 0
+put-below n l at v i h = put-off n l at v i (λ r b e. omega arith)
 
 pub put-above : (n : ℕ) (l : List ℕ) (at v i : ℕ) → at + n ≤ i → getD (putLe n l at v) i 0 ≡ getD l i 0
-unfolding putLe
-put-above zero l at v i h = refl
-put-above (suc n) l at v i h =
-    getD-set-other (putLe n l at v) (at + n) i (v / 256 ^ n % 256) 0 (λ e. omega arith) ∙ put-above n l at v i (omega arith)
+put-above n l at v i h = put-off n l at v i (λ r b e. omega arith)
 
 -- a word is what its bytes are, wherever it stands
 pub get-same : (n : ℕ) (l m : List ℕ) (at to : ℕ) → ((k : ℕ) → k < n → getD l (at + k) 0 ≡ getD m (to + k) 0) → getLe n l at ≡ getLe n m to

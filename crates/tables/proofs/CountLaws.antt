@@ -56,6 +56,24 @@ count-all p lo n (k ∷ ks) b b′ (more o d) h =
     = subst (λ x. count (upd (updAll p ks b) k b) lo n + one x ≡ count (updAll p ks b) lo n + one b) e (count-upd (updAll p ks b) lo n k b (i .0) (i .1)) in
     omega (arith, u, count-all p lo n ks b b′ d (λ j m. h j (there m)))
 
+-- counting from the front is counting from the back
+pub count-last : (p : ℕ → Bool) (lo n : ℕ) → count p lo (suc n) ≡ count p lo n + one (p (lo + n))
+unfolding count
+count-last p lo zero = let e : lo + 0 ≡ lo = omega arith in rw e (omega arith)
+count-last p lo (suc n) =
+    let e : suc lo + n ≡ lo + suc n = omega arith in
+    ap (λ (x : ℕ). one (p lo) + x) (count-last p (suc lo) n) ∙ rw e (omega arith)
+
+-- tests that no number passes together pass at most n numbers between them
+pub count-split : (p q : ℕ → Bool) (lo n : ℕ) → ((k : ℕ) → p k ≡ true → q k ≡ false) → count p lo n + count q lo n ≤ n
+unfolding count
+count-split p q lo zero h = omega arith
+count-split p q lo (suc n) h = omega (arith, both (p lo) refl, count-split p q (suc lo) n h)
+  where
+    both : (b : Bool) → p lo ≡ b → one (p lo) + one (q lo) ≤ 1
+    both true e = rw (e, h lo e) (omega arith)
+    both false e = rw e (omega (arith, one-le (q lo)))
+
 -- ---- the list of those that pass
 
 pub length-keep : (p : ℕ → Bool) (lo n : ℕ) → length (keep p lo n) ≡ count p lo n

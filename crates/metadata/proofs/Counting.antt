@@ -1,0 +1,151 @@
+-- Counts of clusters: the marked ones, as the free count counts them, and the usable ones. Assumes nothing.
+use mathlib.Core.Path.{_≡_, refl, sym, _∙_, ap, ap₂}
+use mathlib.Core.Logic.{_≢_}
+use mathlib.Core.Bool.{Bool, true, false, _&&_, not}
+use mathlib.Core.List.{List}
+use Prim.Native.Nat.{ℕ, zero, suc, _+_, _-_, _*_, _/_, _%_, _^_, _≤_, _<_}
+use native.Mathlib.Decide.{ℕ-discrete}
+use native.Mathlib.Omega.{arith}
+use lib.Dec.{eqb}
+use lib.ListN.{length, getD, drop}
+use lib.Seq.{getD-drop}
+use Rattle.primitives.specs.Bits.{bitOf, bitAt, countBits}
+use Rattle.tables.specs.Table.{upd}
+use Rattle.tables.specs.Lists.{Mem, Distinct}
+use Rattle.tables.specs.Count.{one, count, keep}
+use Rattle.tables.proofs.TableLaws.{upd-same, upd-other}
+use Rattle.tables.proofs.CountLaws.{count-le, count-cong, count-upd, count-last, count-split, length-keep, in-keep, keep-in, keep-distinct}
+use Rattle.boot.specs.declared.layout.Layout.{Layout}
+use Rattle.boot.specs.Limits.{inMap}
+use Rattle.boot.specs.Layout.{inHeap}
+use borrow.Author.Tests.{not-true, eqb-false}
+use Rattle.boot.proofs.Tests.{and-left, and-right}
+use Rattle.boot.proofs.Apart.{in-heap, heap-in}
+use Rattle.metadata.specs.Fat.{BAD, fatEntry, setFat}
+use Rattle.metadata.specs.Marks.{markByte, marked, setMark, allocatedCount, freeCount}
+use Rattle.metadata.specs.Usable.{isFree, isUsable}
+use Rattle.metadata.proofs.Frame.{Fits, fat-fat-same, fat-fat-other, mark-fat, mark-mark-same, mark-mark-other, fat-mark}
+use Rattle.metadata.proofs.Stores.{usable-not-free, free-marked}
+
+-- how many clusters are marked, and how many may be taken
+unfoldable pub markedCount : Layout → List ℕ → ℕ
+markedCount y d = count (marked y d) 2 (y .count)
+
+unfoldable pub usableCount : Layout → List ℕ → List ℕ → ℕ
+usableCount y d m = count (isUsable y d m) 2 (y .count)
+
+-- those that may be taken, lowest first
+unfoldable pub usableList : Layout → List ℕ → List ℕ → List ℕ
+usableList y d m = keep (isUsable y d m) 2 (y .count)
+
+-- ---- the ones of the bitmap are the marked clusters
+
+-- 0 or 1 as a test
+bit-one : (b : ℕ) → b < 2 → one (eqb b 1) ≡ b
+bit-one zero h = refl
+bit-one (suc zero) h = refl
+bit-one (suc (suc b)) h = absurd (omega arith)
+
+mark-bit : (y : Layout) (d : List ℕ) (n : ℕ) → bitAt (drop (y .bitmap) d) n ≡ one (marked y d (2 + n))
+unfolding bitAt bitOf marked markByte
+mark-bit y d n =
+    let e : 2 + n - 2 ≡ n = omega arith in
+    let b = getD d (y .bitmap + n / 8) 0 / 2 ^ (n % 8) % 2 in
+    rw (e, getD-drop (y .bitmap) d (n / 8) 0) (sym (bit-one b (omega arith)))
+
+bits-marked : (y : Layout) (d : List ℕ) (n : ℕ) → countBits (drop (y .bitmap) d) n ≡ count (marked y d) 2 n
+unfolding countBits count
+bits-marked y d zero = refl
+bits-marked y d (suc n) = ap₂ _+_ (bits-marked y d n) (mark-bit y d n) ∙ sym (count-last (marked y d) 2 n)
+
+pub allocated-is : (y : Layout) (d : List ℕ) → allocatedCount y d ≡ markedCount y d
+unfolding allocatedCount markedCount
+allocated-is y d = bits-marked y d (y .count)
+
+pub free-is-unmarked : (y : Layout) (d : List ℕ) → freeCount y d + markedCount y d ≡ y .count
+unfolding freeCount markedCount
+free-is-unmarked y d = omega (arith, allocated-is y d, count-le (marked y d) 2 (y .count))
+
+-- ---- a store's effect on the counts
+
+module _ (y : Layout) (d : List ℕ) (w : Fits y d) where
+  -- a mark counts for itself
+  pub count-mark : (k : ℕ) (on : Bool) → inHeap (y .count) k ≡ true
+      → markedCount y (setMark y d k on) + one (marked y d k) ≡ markedCount y d + one on
+  unfolding markedCount
+  count-mark k on h =
+      let i = in-heap (y .count) k h in
+      ap (λ (x : ℕ). x + one (marked y d k)) (count-cong (upd (marked y d) k on) (marked y (setMark y d k on)) 2 (y .count) same)
+      ∙ count-upd (marked y d) 2 (y .count) k on (i .0) (omega arith)
+    where
+      same : (j : ℕ) → 2 ≤ j → j < 2 + y .count → marked y (setMark y d k on) j ≡ upd (marked y d) k on j
+      same j l b =
+          elim (ℕ-discrete j k) [
+            | yes e ↦ rw e (mark-mark-same y d w k on h ∙ sym (upd-same (marked y d) k on))
+            | no n ↦ mark-mark-other y d w k on j h (heap-in (y .count) j l (omega arith)) n ∙ sym (upd-other (marked y d) k on j n)
+          ]
+
+  pub mark-adds : (k : ℕ) → inHeap (y .count) k ≡ true → marked y d k ≡ false → markedCount y (setMark y d k true) ≡ markedCount y d + 1
+  mark-adds k h e = omega (arith, ap one e, count-mark k true h)
+
+  pub unmark-takes : (k : ℕ) → inHeap (y .count) k ≡ true → marked y d k ≡ true → markedCount y (setMark y d k false) + 1 ≡ markedCount y d
+  unmark-takes k h e = omega (arith, ap one e, count-mark k false h)
+
+  pub fat-counts : (k v : ℕ) → k < y .count + 2 → markedCount y (setFat y d k v) ≡ markedCount y d
+  unfolding markedCount
+  fat-counts k v h = count-cong (marked y d) (marked y (setFat y d k v)) 2 (y .count) (λ j l b. mark-fat y d w k v j h)
+
+  -- ---- and on which clusters may be taken
+
+  pub usable-mark-other : (m : List ℕ) (k : ℕ) (on : Bool) (j : ℕ) → inHeap (y .count) k ≡ true → inHeap (y .count) j ≡ true → j ≢ k
+      → isUsable y (setMark y d k on) m j ≡ isUsable y d m j
+  unfolding isUsable isFree
+  usable-mark-other m k on j h i n = rw (mark-mark-other y d w k on j h i n, fat-mark y d w k on j (in-heap (y .count) j i .1)) refl
+
+  pub usable-marked : (m : List ℕ) (k : ℕ) → inHeap (y .count) k ≡ true → isUsable y (setMark y d k true) m k ≡ false
+  usable-marked m k h =
+      usable-not-free y (setMark y d k true) m k (free-marked y (setMark y d k true) m k (mark-mark-same y d w k true h))
+
+  pub usable-fat-other : (m : List ℕ) (k v j : ℕ) → k < y .count + 2 → j < y .count + 2 → j ≢ k
+      → isUsable y (setFat y d k v) m j ≡ isUsable y d m j
+  unfolding isUsable isFree
+  usable-fat-other m k v j h i n = rw (mark-fat y d w k v j h, fat-fat-other y d w k v j h i n) refl
+
+-- ---- the usable clusters
+
+-- what holds of one
+pub usable-facts : (y : Layout) (d m : List ℕ) (k : ℕ) → isUsable y d m k ≡ true
+    → (marked y d k ≡ false) × (inMap m k ≡ false) × (fatEntry y d k ≢ BAD)
+unfolding isUsable isFree
+usable-facts y d m k e =
+    let a = not (marked y d k) in
+    let b = not (inMap m k) in
+    let z = not (eqb (fatEntry y d k) BAD) in
+    let f = and-left (a && b) z e in (
+      not-true (marked y d k) (and-left a b f),
+      not-true (inMap m k) (and-right a b f),
+      eqb-false (fatEntry y d k) BAD (not-true (eqb (fatEntry y d k) BAD) (and-right (a && b) z e)),
+    )
+
+module _ (y : Layout) (d m : List ℕ) where
+  pub usable-length : length (usableList y d m) ≡ usableCount y d m
+  unfolding usableList usableCount
+  usable-length = length-keep (isUsable y d m) 2 (y .count)
+
+  pub usable-in : (k : ℕ) → Mem k (usableList y d m) → (inHeap (y .count) k ≡ true) × (isUsable y d m k ≡ true)
+  unfolding usableList
+  usable-in k i = let r = in-keep (isUsable y d m) 2 (y .count) k i in (heap-in (y .count) k (r .0) (omega arith), r .2)
+
+  pub in-usable : (k : ℕ) → inHeap (y .count) k ≡ true → isUsable y d m k ≡ true → Mem k (usableList y d m)
+  unfolding usableList
+  in-usable k h u = let i = in-heap (y .count) k h in keep-in (isUsable y d m) 2 (y .count) k (i .0) (omega arith) u
+
+  pub usable-distinct : Distinct (usableList y d m)
+  unfolding usableList
+  usable-distinct = keep-distinct (isUsable y d m) 2 (y .count)
+
+  -- never more than the free count says
+  pub usable-free : usableCount y d m ≤ freeCount y d
+  unfolding usableCount markedCount
+  usable-free =
+      omega (arith, free-is-unmarked y d, count-split (isUsable y d m) (marked y d) 2 (y .count) (λ k e. usable-facts y d m k e .0))
