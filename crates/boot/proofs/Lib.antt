@@ -5,3 +5,4 @@ pub mod Accepted
 pub mod Places
 pub mod Clusters
 pub mod Apart
+pub mod CauseLaws

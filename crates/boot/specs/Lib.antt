@@ -2,3 +2,4 @@ pub mod Geometry
 pub mod Limits
 pub mod Facts
 pub mod Layout
+pub mod Causes

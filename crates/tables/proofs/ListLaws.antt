@@ -1,10 +1,11 @@
 -- The laws of membership. Assumes nothing.
 use mathlib.Core.Path.{_≡_, refl, sym, _∙_}
 use mathlib.Core.Logic.{_⊎_, inl, inr, ⊎-elim}
+use mathlib.Core.Bool.{Bool, true, false, _&&_, false≢true}
 use mathlib.Core.List.{List, [], _∷_, _++_}
 use Prim.Native.Nat.{ℕ, zero, suc}
 use lib.ListN.{take, drop}
-use Rattle.tables.specs.Lists.{Mem, here, there, Distinct, none, more}
+use Rattle.tables.specs.Lists.{Mem, here, there, Distinct, none, more, every, lastOr}
 
 pub mem-append : {k : ℕ} (xs : List ℕ) {ys : List ℕ} → Mem k (xs ++ ys) → Mem k xs ⊎ Mem k ys
 mem-append [] m = inr m
@@ -32,3 +33,31 @@ pub distinct-take : (n : ℕ) (xs : List ℕ) → Distinct xs → Distinct (take
 distinct-take zero xs d = none
 distinct-take (suc n) [] d = none
 distinct-take (suc n) (x ∷ xs) (more o d) = more (λ m. o (mem-take n xs m)) (distinct-take n xs d)
+
+-- ---- a test that every number passes
+
+module _ (p : ℕ → Bool) where
+  pub every-head : (k : ℕ) (ks : List ℕ) → every p (k ∷ ks) ≡ true → p k ≡ true
+  unfolding every
+  every-head k ks e = by (p k) refl
+    where
+      by : (b : Bool) → p k ≡ b → p k ≡ true
+      by true q = q
+      by false q = absurd (false≢true (rw q at e))
+
+  pub every-tail : (k : ℕ) (ks : List ℕ) → every p (k ∷ ks) ≡ true → every p ks ≡ true
+  unfolding every
+  every-tail k ks e = rw (every-head k ks e) at e
+
+  pub every-cons : (k : ℕ) (ks : List ℕ) → p k ≡ true → every p ks ≡ true → every p (k ∷ ks) ≡ true
+  unfolding every
+  every-cons k ks h t = rw h t
+
+  pub every-mem : (ks : List ℕ) → every p ks ≡ true → (k : ℕ) → Mem k ks → p k ≡ true
+  every-mem (x ∷ xs) e k (here q) = rw q (every-head x xs e)
+  every-mem (x ∷ xs) e k (there m) = every-mem xs (every-tail x xs e) k m
+
+  pub mem-every : (ks : List ℕ) → ((k : ℕ) → Mem k ks → p k ≡ true) → every p ks ≡ true
+  unfolding every
+  mem-every [] h = refl
+  mem-every (x ∷ xs) h = every-cons x xs (h x (here refl)) (mem-every xs (λ k m. h k (there m)))

@@ -1,7 +1,8 @@
--- Lists of numbers: membership, and no number twice.
+-- Lists of numbers: membership, no number twice, tests, the last one, and consecutive numbers.
 use mathlib.Core.Path.{_≡_}
+use mathlib.Core.Bool.{Bool, true, _&&_}
 use mathlib.Core.List.{List, [], _∷_}
-use Prim.Native.Nat.{ℕ}
+use Prim.Native.Nat.{ℕ, zero, suc, _+_}
 
 -- k stands in the list
 pub data Mem (k : ℕ) : List ℕ → Type 0 where
@@ -12,3 +13,18 @@ pub data Mem (k : ℕ) : List ℕ → Type 0 where
 pub data Distinct : List ℕ → Type 0 where
   none : Distinct []
   more : {x : ℕ} {xs : List ℕ} → (Mem x xs → ⊥) → Distinct xs → Distinct (x ∷ xs)
+
+-- every number of the list passes the test
+unfoldable pub every : (ℕ → Bool) → List ℕ → Bool
+every p [] = true
+every p (k ∷ ks) = p k && every p ks
+
+-- the last number of the list, or the one before it
+unfoldable pub lastOr : ℕ → List ℕ → ℕ
+lastOr z [] = z
+lastOr z (k ∷ ks) = lastOr k ks
+
+-- the n numbers from k on
+unfoldable pub consec : ℕ → ℕ → List ℕ
+consec k zero = []
+consec k (suc n) = k ∷ consec (k + 1) n

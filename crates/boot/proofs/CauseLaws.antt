@@ -1,0 +1,49 @@
+-- The first cause that is met. Assumes nothing.
+use mathlib.Core.Path.{_≡_, refl, sym, _∙_}
+use mathlib.Core.Bool.{Bool, true, false, cond}
+use mathlib.Core.List.{List, [], _∷_}
+use Prim.Native.Nat.{ℕ}
+use native.Mathlib.Omega.{arith}
+use lib.Dec.{eqb}
+use lib.ListN.{length}
+use borrow.Author.Tests.{eq-eqb, ne-eqb, eqb-true}
+use Rattle.boot.specs.declared.geometry.Geometry.{Geometry}
+use Rattle.boot.specs.Limits.{limits}
+use Rattle.boot.specs.Layout.{inHeap}
+use Rattle.boot.specs.Causes.{firstCause, limitsCause, heapCause}
+
+-- a cause that is not met is passed over
+pub cause-skip : (c : ℕ) (cs : List ℕ) → c ≡ 0 → firstCause (c ∷ cs) ≡ firstCause cs
+unfolding firstCause
+cause-skip c cs e = rw (eq-eqb c 0 e) refl
+
+-- the first that is met is the number
+pub cause-met : (c : ℕ) (cs : List ℕ) → (c ≡ 0 → ⊥) → firstCause (c ∷ cs) ≡ c
+unfolding firstCause
+cause-met c cs n = rw (ne-eqb c 0 n) refl
+
+-- the last one decides where no other did
+pub cause-last : (c : ℕ) → firstCause (c ∷ []) ≡ c
+unfolding firstCause
+cause-last c = by (eqb c 0) refl
+  where
+    by : (b : Bool) → eqb c 0 ≡ b → cond b 0 c ≡ c
+    by true e = sym (eqb-true c 0 e)
+    by false e = refl
+
+module _ (g : Geometry) (d m : List ℕ) where
+  pub limits-met : limits g (length d) m ≡ false → limitsCause g d m ≡ 1
+  unfolding limitsCause
+  limits-met e = rw e refl
+
+  pub limits-kept : limits g (length d) m ≡ true → limitsCause g d m ≡ 0
+  unfolding limitsCause
+  limits-kept e = rw e refl
+
+pub heap-met : (C k : ℕ) → inHeap C k ≡ false → heapCause C k ≡ 2
+unfolding heapCause
+heap-met C k e = rw e refl
+
+pub heap-kept : (C k : ℕ) → inHeap C k ≡ true → heapCause C k ≡ 0
+unfolding heapCause
+heap-kept C k e = rw e refl

@@ -1,0 +1,3 @@
+pub mod ChainLaws
+pub mod StreamLaws
+pub mod ListingLaws

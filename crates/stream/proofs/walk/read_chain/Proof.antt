@@ -1,0 +1,28 @@
+use mathlib.Core.Path.{sym, _∙_}
+use native.Mathlib.Omega.{arith}
+use Rattle.boot.proofs.Apart.{in-heap}
+use Rattle.stream.proofs.ChainLaws.{chain-number, chain-out-number}
+use borrow.Author.Needs.{needs}
+use Rattle.stream.proofs.walk.read_chain.Statement.{statement}
+use Rattle.stream.proofs.walk.read_chain.Tie as tie
+
+in-heap-requires : tie.Need-in-heap-requires
+in-heap-requires c κs = search needs
+
+fat-chain-requires : tie.Need-fat-chain-requires
+fat-chain-requires c κs =
+    let h = in-heap _ _ (sym (c .before .in-heap .ensures) ∙ c .if1 .taken) in
+    search needs
+
+chain-cause-requires : tie.Need-chain-cause-requires
+chain-cause-requires c κs = search needs
+
+returns : tie.Need-returns
+returns c = (cc) ∙ chain-number _ _ _ _ _ _ _ (sym (c .before .before .before .in-heap .ensures) ∙ c .before .before .if1 .taken) (c .before .fat-chain .ensures)
+
+returns-2 : tie.Need-returns-2
+returns-2 c = sym (chain-out-number _ _ _ _ _ _ (cc))
+
+pub read-chain-spec : {M : Type 1} → statement M
+read-chain-spec =
+    tie.close (tie.spec in-heap-requires fat-chain-requires chain-cause-requires returns returns-2)

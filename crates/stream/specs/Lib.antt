@@ -1,0 +1,4 @@
+pub mod Chain
+pub mod Stream
+pub mod Along
+pub mod Listing

@@ -1,0 +1,39 @@
+-- Listing, a call of its own (01: "writes count numbers and leaves the rest of the list").
+use mathlib.Core.Bool.{cond}
+use mathlib.Core.List.{List, [], _∷_}
+use Prim.Native.Nat.{ℕ}
+use lib.Dec.{eqb, ltb}
+use lib.ListN.{length}
+use Rattle.primitives.specs.Splice.{splice}
+use Rattle.boot.specs.declared.geometry.Geometry.{Geometry}
+use Rattle.boot.specs.declared.layout.Layout.{Layout}
+use Rattle.boot.specs.Layout.{layoutOf}
+use Rattle.boot.specs.Causes.{firstCause, limitsCause}
+use Rattle.stream.specs.declared.allocation.Allocation.{Allocation}
+use Rattle.stream.specs.Chain.{Clusters, listed, refused}
+use Rattle.stream.specs.Stream.{numberOf, streamOf}
+
+-- 14: the list is shorter than the stream's count
+unfoldable pub roomCause : Allocation → ℕ → ℕ
+roomCause a room = cond (ltb room (a .count)) 14 0
+
+-- the clusters of a stream that is not refused
+abbrev pub clustersOf : Clusters → List ℕ
+clustersOf (listed ks) = ks
+clustersOf (refused n) = []
+
+-- on a volume that keeps the limits: 14, then the record's own causes
+unfoldable pub listedNumber : Layout → List ℕ → Allocation → ℕ → ℕ
+listedNumber y d a room = firstCause (roomCause a room ∷ numberOf (streamOf y d a) ∷ [])
+
+-- and the list after it: the clusters at its front, the rest as it was; refused, as it was
+unfoldable pub listedList : Layout → List ℕ → Allocation → List ℕ → List ℕ
+listedList y d a l = cond (eqb (listedNumber y d a (length l)) 0) (splice l 0 (clustersOf (streamOf y d a))) l
+
+-- the number: 1, 14, then the record's own causes
+unfoldable pub listingNumber : Geometry → List ℕ → List ℕ → Allocation → ℕ → ℕ
+listingNumber g d m a room = firstCause (limitsCause g d m ∷ listedNumber (layoutOf g (length d)) d a room ∷ [])
+
+-- the list after the call
+unfoldable pub listingList : Geometry → List ℕ → List ℕ → Allocation → List ℕ → List ℕ
+listingList g d m a l = cond (eqb (limitsCause g d m) 0) (listedList (layoutOf g (length d)) d a l) l

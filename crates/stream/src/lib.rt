@@ -1,0 +1,4 @@
+// A stream: an allocation record read as a list of clusters, and the bytes of those clusters.
+pub mod allocation;
+pub mod list;
+pub mod walk;

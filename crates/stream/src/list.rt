@@ -1,0 +1,68 @@
+// Listing: the clusters of a record written to a lent list (Rust: `clusters`).
+ghost use mathlib.Core.Path.{_≡_};
+ghost use mathlib.Core.Bool.{true};
+ghost use Prim.Native.Nat.{_+_, _≤_, _<_};
+ghost use lib.ListN.{length};
+ghost use Rattle.primitives.specs.Splice.{splice};
+ghost use Rattle.tables.specs.Lists.{every};
+ghost use Rattle.boot.specs.Layout.{Laid, inHeap};
+ghost use Rattle.metadata.specs.Fat.{fatEntry};
+ghost use Rattle.stream.specs.Along.{after, along};
+ghost use Rattle.stream.specs.Listing.{listedNumber, listedList, listingNumber, listingList};
+use crate::allocation::Allocation;
+use boot::geometry::Geometry;
+use boot::layout::Layout;
+
+// The cluster after k in a stream.
+pub fn next_cluster(vol: &[u8], y: Layout, run: bool, k: u32) -> u32
+    requires { ⌜ Laid y × ((length (now vol) ≡ y .len) × (k < y .count + 2)) ⌝ }
+    ensures { λ r. ⌜ r ≡ after (fatEntry y (now (vol .entry))) run k ⌝ }
+{
+    if run {
+        return k + 1;
+    }
+    metadata::fat::fat_entry(vol, y, k)
+}
+
+// Writes the clusters of a stream to the front of a list.
+fn write_clusters(vol: &[u8], y: Layout, a: Allocation, list: &mut [u32])
+    requires { ⌜ Laid y × ((length (now vol) ≡ y .len) × ((a .count ≤ length (now list)) × (every (inHeap (y .count)) (along (fatEntry y (now vol)) (a .«no_fat_chain») (a .first) (a .count)) ≡ true))) ⌝ }
+    ensures { λ _. ⌜ now (list .exit) ≡ splice (now (list .entry)) 0 (along (fatEntry y (now (vol .entry))) (a .«no_fat_chain») (a .first) (a .count)) ⌝ }
+{
+    let mut k = a.first;
+    let mut i: usize = 0;
+    let mut left = a.count;
+    while 0 < left {
+        list[i] = k;
+        k = next_cluster(vol, y, a.no_fat_chain, k);
+        i += 1;
+        left -= 1;
+    }
+}
+
+// The same once the limits are known to hold.
+fn list_clusters(vol: &[u8], y: Layout, a: Allocation, list: &mut [u32]) -> u32
+    requires { ⌜ Laid y × (length (now vol) ≡ y .len) ⌝ }
+    ensures { λ r. ⌜ (r ≡ listedNumber y (now (vol .entry)) a (length (now (list .entry)))) × (now (list .exit) ≡ listedList y (now (vol .entry)) a (now (list .entry))) ⌝ }
+{
+    if list.len() < a.count as usize {
+        return 14;
+    }
+    let number = crate::walk::stream_cause(vol, y, a);
+    if number != 0 {
+        return number;
+    }
+    write_clusters(vol, y, a, list);
+    0
+}
+
+// Writes the clusters of a record, in stream order, to a lent list, and answers the number.
+pub fn clusters(vol: &[u8], map: &[u8], g: Geometry, a: Allocation, list: &mut [u32]) -> u32
+    ensures { λ r. ⌜ (r ≡ listingNumber g (now (vol .entry)) (now (map .entry)) a (length (now (list .entry)))) × (now (list .exit) ≡ listingList g (now (vol .entry)) (now (map .entry)) a (now (list .entry))) ⌝ }
+{
+    if boot::geometry::validate(g, vol.len(), map) {
+        let y = boot::layout::layout_of(g, vol.len());
+        return list_clusters(vol, y, a, list);
+    }
+    1
+}

@@ -1,0 +1,175 @@
+// A record's clusters walked and tested: what refuses it.
+ghost use mathlib.Core.Path.{_≡_};
+ghost use mathlib.Core.Bool.{_&&_};
+ghost use Prim.Native.Nat.{_+_, _≤_, _<_};
+ghost use lib.ListN.{length};
+ghost use Rattle.boot.specs.Layout.{Laid, inHeap};
+ghost use Rattle.metadata.specs.Fat.{fatEntry};
+ghost use Rattle.metadata.specs.Marks.{marked};
+ghost use Rattle.stream.specs.Chain.{nextOf, readChain};
+ghost use Rattle.stream.specs.Stream.{runCause, readRun, checkChain, streamOf, numberOf, walked, walkCause};
+use crate::allocation::Allocation;
+use boot::layout::Layout;
+
+// What a FAT value says: the end of the chain, another cluster, or neither.
+pub enum Next {
+    End,
+    More,
+    Wrong,
+}
+
+// A chain walked to its end: its last cluster, its length, and whether all its clusters are marked; or the number of the refusal.
+pub struct Walked {
+    pub number: u32,
+    pub last: u32,
+    pub count: u32,
+    pub marked: bool,
+}
+
+fn next_of(count: u32, v: u32) -> Next
+    ensures { λ r. ⌜ r ≡ nextOf count v ⌝ }
+{
+    if v == 0xFFFF_FFFF {
+        return Next::End;
+    }
+    if boot::layout::in_heap(count, v) {
+        return Next::More;
+    }
+    Next::Wrong
+}
+
+// Whether cluster k is marked as those before it were.
+fn still_marked(vol: &[u8], y: Layout, k: u32, so_far: bool) -> bool
+    requires { ⌜ Laid y × ((length (now vol) ≡ y .len) × ((2 ≤ k) × (k < y .count + 2))) ⌝ }
+    ensures { λ r. ⌜ r ≡ «so_far» && marked y (now (vol .entry)) k ⌝ }
+{
+    if so_far {
+        return metadata::bitmap::allocated(vol, y, k);
+    }
+    false
+}
+
+// The chain from first, a cluster of the heap (Rust: `fat_chain`).
+fn fat_chain(vol: &[u8], y: Layout, first: u32) -> Walked
+    requires { ⌜ Laid y × ((length (now vol) ≡ y .len) × ((2 ≤ first) × (first < y .count + 2))) ⌝ }
+    ensures { λ r. ⌜ r ≡ walked (marked y (now (vol .entry))) (readChain (y .count) (fatEntry y (now (vol .entry))) first) ⌝ }
+{
+    let mut k = first;
+    let mut before: u32 = 0;
+    let mut all = true;
+    let mut left = y.count - 1;
+    loop {
+        let v = metadata::fat::fat_entry(vol, y, k);
+        all = still_marked(vol, y, k, all);
+        let next = next_of(y.count, v);
+        match next {
+            Next::End => {
+                return Walked {
+                    number: 0,
+                    last: k,
+                    count: before + 1,
+                    marked: all,
+                };
+            }
+            Next::Wrong => {
+                return Walked {
+                    number: 3,
+                    last: 0,
+                    count: 0,
+                    marked: false,
+                };
+            }
+            Next::More => {
+                if left == 0 {
+                    return Walked {
+                        number: 4,
+                        last: 0,
+                        count: 0,
+                        marked: false,
+                    };
+                }
+                k = v;
+                before += 1;
+                left -= 1;
+            }
+        }
+    }
+}
+
+// What refuses the n clusters from first as a run: the earliest outside the heap or unmarked.
+fn run_cause(vol: &[u8], y: Layout, first: u32, n: u32) -> u32
+    requires { ⌜ Laid y × (length (now vol) ≡ y .len) ⌝ }
+    ensures { λ r. ⌜ r ≡ runCause (y .count) (marked y (now (vol .entry))) first n ⌝ }
+{
+    let mut k = first;
+    let mut left = n;
+    while 0 < left {
+        if boot::layout::in_heap(y.count, k) {
+            if metadata::bitmap::allocated(vol, y, k) {
+                k += 1;
+                left -= 1;
+            } else {
+                return 6;
+            }
+        } else {
+            return 2;
+        }
+    }
+    0
+}
+
+// What refuses a run: its length, then its clusters.
+fn read_run(vol: &[u8], y: Layout, a: Allocation) -> u32
+    requires { ⌜ Laid y × (length (now vol) ≡ y .len) ⌝ }
+    ensures { λ r. ⌜ r ≡ numberOf (readRun (y .count) (marked y (now (vol .entry))) (a .first) (a .last) (a .count)) ⌝ }
+{
+    if a.last as u64 + 1 != a.first as u64 + a.count as u64 {
+        return 5;
+    }
+    run_cause(vol, y, a.first, a.count)
+}
+
+// The number of a walked chain under a record.
+fn chain_cause(w: Walked, a: Allocation) -> u32
+    ensures { λ r. ⌜ r ≡ walkCause w (a .last) (a .count) ⌝ }
+{
+    if w.number != 0 {
+        return w.number;
+    }
+    if w.count != a.count {
+        return 5;
+    }
+    if w.last != a.last {
+        return 5;
+    }
+    if w.marked {
+        return 0;
+    }
+    6
+}
+
+// What refuses a chain: its walk, then its length and last cluster, then its marks.
+fn read_chain(vol: &[u8], y: Layout, a: Allocation) -> u32
+    requires { ⌜ Laid y × (length (now vol) ≡ y .len) ⌝ }
+    ensures { λ r. ⌜ r ≡ numberOf (checkChain (marked y (now (vol .entry))) (a .last) (a .count) (readChain (y .count) (fatEntry y (now (vol .entry))) (a .first))) ⌝ }
+{
+    if boot::layout::in_heap(y.count, a.first) {
+        let w = fat_chain(vol, y, a.first);
+        return chain_cause(w, a);
+    }
+    2
+}
+
+// What refuses a record's clusters (Rust: `clusters`, and the test of it).
+pub fn stream_cause(vol: &[u8], y: Layout, a: Allocation) -> u32
+    requires { ⌜ Laid y × (length (now vol) ≡ y .len) ⌝ }
+    ensures { λ r. ⌜ r ≡ numberOf (streamOf y (now (vol .entry)) a) ⌝ }
+{
+    if a.count == 0 {
+        return 0;
+    }
+    if a.no_fat_chain {
+        return read_run(vol, y, a);
+    }
+    read_chain(vol, y, a)
+}
