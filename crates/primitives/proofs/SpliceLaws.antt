@@ -111,3 +111,13 @@ splice-set d a s j x h b =
     (sym
     (set-append-left (take a d ++ s) (drop (a + length s) d) (a + j) x (omega (arith, head d a s h))
     ∙ ap (λ (r : List ℕ). r ++ drop (a + length s) d) (ap (λ (n : ℕ). set (take a d ++ s) (n + j) x) (sym t) ∙ set-right (take a d) s j x)))
+
+-- the front of a list
+take-front : (s t : List ℕ) → take (length s) (s ++ t) ≡ s
+take-front [] t = refl
+take-front (x ∷ s) t = ap {B = List ℕ} (λ (r : List ℕ). x ∷ r) (take-front s t)
+
+-- what was stored at the front is read back
+pub splice-front : (d s : List ℕ) (n : ℕ) → length s ≡ n → take n (drop 0 (splice d 0 s)) ≡ s
+unfolding splice
+splice-front d s n e = rw (← e) (take-front s (drop (0 + length s) d))

@@ -5,7 +5,7 @@ ghost use lib.ListN.{length, take, drop, replicate};
 ghost use Rattle.primitives.specs.Splice.{splice};
 
 // Stores the n bytes of src from `from` into dst from `at`.
-pub fn copy_in(dst: &mut [u8], at: usize, src: &[u8], from: usize, n: usize)
+fn copy_bytes(dst: &mut [u8], at: usize, src: &[u8], from: usize, n: usize)
     requires { ⌜ (at + n ≤ length (now dst)) × (from + n ≤ length (now src)) ⌝ }
     ensures { λ _. ⌜ now (dst .exit) ≡ splice (now (dst .entry)) at (take n (drop from (now (src .entry)))) ⌝ }
 {
@@ -14,6 +14,16 @@ pub fn copy_in(dst: &mut [u8], at: usize, src: &[u8], from: usize, n: usize)
         dst[at + k] = src[from + k];
         k += 1;
     }
+}
+
+// The same for at most a cluster's bytes, through a block of its own: the compiler makes one memory copy of the two loops.
+pub fn copy_in(dst: &mut [u8], at: usize, src: &[u8], from: usize, n: usize)
+    requires { ⌜ (n ≤ 32768) × ((at + n ≤ length (now dst)) × (from + n ≤ length (now src))) ⌝ }
+    ensures { λ _. ⌜ now (dst .exit) ≡ splice (now (dst .entry)) at (take n (drop from (now (src .entry)))) ⌝ }
+{
+    let mut block = [0u8; 32768];
+    copy_bytes(&mut block, 0, src, from, n);
+    copy_bytes(dst, at, &block, 0, n);
 }
 
 // Stores n zeros into dst from `at`.

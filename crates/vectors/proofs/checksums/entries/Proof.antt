@@ -1,0 +1,33 @@
+use Prim.Native.Nat.{_≤_, _-_}
+use borrow.Author.Needs.{needs}
+use Rattle.vectors.proofs.checksums.entries.Statement.{statement}
+use Rattle.vectors.proofs.checksums.entries.Tie as tie
+
+abbrev Inv-loop : tie.InvT-loop
+Inv-loop name set n i₀ i = i ≤ n
+
+abbrev μ-loop : tie.MeasureT-loop
+μ-loop name set n i₀ i = n - i
+
+loop-holds : tie.Need-loop-holds Inv-loop μ-loop
+loop-holds c = search needs
+
+entry-requires : tie.Need-entry-requires Inv-loop μ-loop
+entry-requires c κs = search needs
+
+add-i : tie.Need-add-i Inv-loop μ-loop
+add-i c = search needs
+
+loop-less : tie.Need-loop-less Inv-loop μ-loop
+loop-less c = search needs
+
+loop-again : tie.Need-loop-again Inv-loop μ-loop
+loop-again c = search needs
+
+returns : tie.Need-returns Inv-loop μ-loop
+returns c = search needs
+
+pub entries-spec : {M : Type 1} → statement M
+entries-spec =
+    tie.close
+    (tie.spec Inv-loop μ-loop loop-holds entry-requires add-i loop-less loop-again returns)
