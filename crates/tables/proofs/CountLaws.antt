@@ -114,3 +114,10 @@ keep-distinct p lo zero = none
 keep-distinct p lo (suc n) =
     cond-case Distinct (p lo) (lo ∷ keep p (suc lo) n) (keep p (suc lo) n)
     (λ e. more (λ m. let r = in-keep p (suc lo) n lo m in omega arith) (keep-distinct p (suc lo) n)) (λ e. keep-distinct p (suc lo) n)
+
+-- only the numbers in the range matter
+pub keep-cong : (p q : ℕ → Bool) (lo n : ℕ) → ((k : ℕ) → lo ≤ k → k < lo + n → q k ≡ p k) → keep q lo n ≡ keep p lo n
+unfolding keep
+keep-cong p q lo zero h = refl
+keep-cong p q lo (suc n) h =
+    cc (h lo (omega arith) (omega arith), keep-cong p q (suc lo) n (λ k a b. h k (omega arith) (omega arith)))

@@ -66,11 +66,15 @@ fn usable_count(vol: &[u8], map: &[u8], y: Layout) -> u32
     let mut k: u32 = 2;
     let mut left = y.count;
     while 0 < left {
+        let next = k + 1;
         if metadata::usable::usable(vol, map, y, k) {
             sum += 1;
+            k = next;
+            left -= 1;
+        } else {
+            k = next;
+            left -= 1;
         }
-        k += 1;
-        left -= 1;
     }
     sum
 }

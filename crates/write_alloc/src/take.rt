@@ -4,6 +4,7 @@ ghost use mathlib.Core.Bool.{true};
 ghost use Prim.Native.Nat.{_+_, _-_, _*_, _≤_, _<_};
 ghost use lib.ListN.{length};
 ghost use Rattle.boot.specs.Layout.{Laid};
+ghost use Rattle.boot.proofs.Apart.{Apart};
 ghost use Rattle.write_alloc.specs.Take.{markRun, linkRun, takeAll, takeOne, prevTaken, takenFrom, takenOf};
 use boot::layout::Layout;
 
@@ -53,8 +54,15 @@ fn take_one(vol: &mut [u8], y: Layout, prev: u32, k: u32)
 }
 
 // Takes usable clusters from `from` on, below end, until none is left to be taken.
-pub fn take_usable(vol: &mut [u8], map: &[u8], y: Layout, from: u32, end: u32, start: Taken) -> Taken
-    requires { ⌜ Laid y × ((length (now vol) ≡ y .len) × ((y .count ≤ 8 * length (now map)) × ((2 ≤ from) × ((end ≤ y .count + 2) × ((start .prev < y .count + 2) × (prevTaken y (now vol) (start .prev) ≡ true)))))) ⌝ }
+pub fn take_usable(
+    vol: &mut [u8],
+    map: &[u8],
+    y: Layout,
+    from: u32,
+    end: u32,
+    start: Taken,
+) -> Taken
+    requires { ⌜ Laid y × ((length (now vol) ≡ y .len) × ((y .count ≤ 8 * length (now map)) × ((2 ≤ from) × ((end ≤ y .count + 2) × ((start .prev < y .count + 2) × ((prevTaken y (now vol) (start .prev) ≡ true) × Apart y)))))) ⌝ }
     ensures { λ r. ⌜ (now (vol .exit) ≡ takeAll y (now (vol .entry)) (start .prev) (takenFrom y (now (vol .entry)) (now (map .entry)) from end (start .left))) × (r ≡ takenOf start (takenFrom y (now (vol .entry)) (now (map .entry)) from end (start .left))) ⌝ }
 {
     let mut k = from;
@@ -62,14 +70,23 @@ pub fn take_usable(vol: &mut [u8], map: &[u8], y: Layout, from: u32, end: u32, s
     let mut left = start.left;
     while k < end {
         if left == 0 {
-            return Taken { prev: prev, left: left };
+            return Taken {
+                prev: prev,
+                left: left,
+            };
         }
+        let next = k + 1;
         if metadata::usable::usable(vol, map, y, k) {
             take_one(vol, y, prev, k);
             prev = k;
             left -= 1;
+            k = next;
+        } else {
+            k = next;
         }
-        k += 1;
     }
-    Taken { prev: prev, left: left }
+    Taken {
+        prev: prev,
+        left: left,
+    }
 }
