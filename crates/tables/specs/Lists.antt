@@ -1,7 +1,7 @@
--- Lists of numbers: membership, and no number twice.
+-- Lists of numbers: membership, no number twice, and numbers in a row.
 use mathlib.Core.Path.{_≡_}
 use mathlib.Core.List.{List, [], _∷_}
-use Prim.Native.Nat.{ℕ}
+use Prim.Native.Nat.{ℕ, zero, suc, _+_}
 
 -- k stands in the list
 pub data Mem (k : ℕ) : List ℕ → Type 0 where
@@ -12,3 +12,8 @@ pub data Mem (k : ℕ) : List ℕ → Type 0 where
 pub data Distinct : List ℕ → Type 0 where
   none : Distinct []
   more : {x : ℕ} {xs : List ℕ} → (Mem x xs → ⊥) → Distinct xs → Distinct (x ∷ xs)
+
+-- the n numbers from k
+unfoldable pub consec : ℕ → ℕ → List ℕ
+consec k zero = []
+consec k (suc n) = k ∷ consec (k + 1) n

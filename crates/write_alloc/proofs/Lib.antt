@@ -1,2 +1,3 @@
+pub mod ChoiceLaws
 pub mod Runs
 pub mod Taking
