@@ -111,6 +111,17 @@ module _ (y : Layout) (d : List ℕ) (w : Fits y d) where
   unfolding isUsable isFree
   usable-fat-other m k v j h i n = rw (mark-fat y d w k v j h, fat-fat-other y d w k v j h i n) refl
 
+  -- the entry of a marked cluster does not matter: it may not be taken, before or after
+  pub usable-fat-marked : (m : List ℕ) (k v j : ℕ) → k < y .count + 2 → marked y d k ≡ true → j < y .count + 2
+      → isUsable y (setFat y d k v) m j ≡ isUsable y d m j
+  usable-fat-marked m k v j h e i =
+      elim (ℕ-discrete j k) [
+        | yes q ↦ rw q
+            (usable-not-free y (setFat y d k v) m k (free-marked y (setFat y d k v) m k (mark-fat y d w k v k h ∙ e))
+            ∙ sym (usable-not-free y d m k (free-marked y d m k e)))
+        | no n ↦ usable-fat-other m k v j h i n
+      ]
+
 -- ---- the usable clusters
 
 -- what holds of one

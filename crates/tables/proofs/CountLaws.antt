@@ -2,13 +2,14 @@
 use mathlib.Core.Path.{_≡_, refl, sym, _∙_, ap, subst}
 use mathlib.Core.Logic.{_≢_, _⊎_, inl, inr}
 use mathlib.Core.Bool.{Bool, true, false, cond}
-use mathlib.Core.List.{List, [], _∷_}
+use mathlib.Core.List.{List, [], _∷_, _++_}
 use Prim.Native.Nat.{ℕ, zero, suc, _+_, _*_, _≤_, _<_}
 use native.Mathlib.Decide.{ℕ-discrete}
 use native.Mathlib.Omega.{arith}
-use lib.ListN.{length}
+use native.Mathlib.Numerals.{add-one}
+use lib.ListN.{length, take}
 use Rattle.tables.specs.Table.{upd, updAll}
-use Rattle.tables.specs.Lists.{Mem, here, there, Distinct, none, more}
+use Rattle.tables.specs.Lists.{Mem, here, there, Distinct, none, more, consec}
 use Rattle.tables.specs.Count.{one, count, keep}
 use Rattle.tables.proofs.Cases.{cond-case}
 use Rattle.tables.proofs.TableLaws.{upd-same, upd-other, all-other}
@@ -114,3 +115,39 @@ keep-distinct p lo zero = none
 keep-distinct p lo (suc n) =
     cond-case Distinct (p lo) (lo ∷ keep p (suc lo) n) (keep p (suc lo) n)
     (λ e. more (λ m. let r = in-keep p (suc lo) n lo m in omega arith) (keep-distinct p (suc lo) n)) (λ e. keep-distinct p (suc lo) n)
+
+-- only the numbers in the range matter
+pub keep-cong : (p q : ℕ → Bool) (lo n : ℕ) → ((k : ℕ) → lo ≤ k → k < lo + n → q k ≡ p k) → keep q lo n ≡ keep p lo n
+unfolding keep
+keep-cong p q lo zero h = refl
+keep-cong p q lo (suc n) h =
+    cc (h lo (omega arith) (omega arith), keep-cong p q (suc lo) n (λ k a b. h k (omega arith) (omega arith)))
+
+-- ---- ranges put together, and ranges that pass whole
+
+pub count-append : (p : ℕ → Bool) (lo a b : ℕ) → count p lo (a + b) ≡ count p lo a + count p (lo + a) b
+unfolding count
+count-append p lo zero b =
+    let e : 0 + b ≡ b = omega arith in
+    let f : lo + 0 ≡ lo = omega arith in
+    rw (e, f) (omega arith)
+count-append p lo (suc a) b =
+    let e : suc a + b ≡ suc (a + b) = omega arith in
+    let f : lo + suc a ≡ suc lo + a = omega arith in
+    rw (e, f) (omega (arith, count-append p (suc lo) a b))
+
+pub count-whole : (p : ℕ → Bool) (lo n : ℕ) → ((k : ℕ) → lo ≤ k → k < lo + n → p k ≡ true) → count p lo n ≡ n
+unfolding count
+count-whole p lo zero h = refl
+count-whole p lo (suc n) h =
+    rw (h lo (omega arith) (omega arith)) (omega (arith, count-whole p (suc lo) n (λ k a b. h k (omega arith) (omega arith))))
+
+-- the first n of a range that begins with n that pass
+pub take-whole : (p : ℕ → Bool) (lo n m : ℕ) (ys : List ℕ) → n ≤ m → ((k : ℕ) → lo ≤ k → k < lo + n → p k ≡ true)
+    → take n (keep p lo m ++ ys) ≡ consec lo n
+unfolding keep consec
+take-whole p lo zero m ys l h = refl
+take-whole p lo (suc n) zero ys l h = absurd (omega arith)
+take-whole p lo (suc n) (suc m) ys l h =
+    rw (h lo (omega arith) (omega arith), add-one lo)
+    (ap (λ (ks : List ℕ). lo ∷ ks) (take-whole p (suc lo) n m ys (omega arith) (λ k a b. h k (omega arith) (omega arith))))

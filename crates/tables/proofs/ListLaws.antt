@@ -1,11 +1,13 @@
--- The laws of membership. Assumes nothing.
-use mathlib.Core.Path.{_≡_, refl, sym, _∙_}
+-- The laws of membership, of tests, and of consecutive numbers. Assumes nothing.
+use mathlib.Core.Path.{_≡_, refl, sym, _∙_, ap}
 use mathlib.Core.Logic.{_⊎_, inl, inr, ⊎-elim}
 use mathlib.Core.Bool.{Bool, true, false, _&&_, false≢true}
 use mathlib.Core.List.{List, [], _∷_, _++_}
-use Prim.Native.Nat.{ℕ, zero, suc}
-use lib.ListN.{take, drop}
-use Rattle.tables.specs.Lists.{Mem, here, there, Distinct, none, more, every, lastOr}
+use Prim.Native.Nat.{ℕ, zero, suc, _+_, _≤_, _<_}
+use native.Mathlib.Decide.{ℕ-discrete}
+use native.Mathlib.Omega.{arith}
+use lib.ListN.{length, take, drop}
+use Rattle.tables.specs.Lists.{Mem, here, there, Distinct, none, more, every, consec}
 
 pub mem-append : {k : ℕ} (xs : List ℕ) {ys : List ℕ} → Mem k (xs ++ ys) → Mem k xs ⊎ Mem k ys
 mem-append [] m = inr m
@@ -61,3 +63,37 @@ module _ (p : ℕ → Bool) where
   unfolding every
   mem-every [] h = refl
   mem-every (x ∷ xs) h = every-cons x xs (h x (here refl)) (mem-every xs (λ k m. h k (there m)))
+
+-- ---- numbers in a row
+
+pub length-consec : (k n : ℕ) → length (consec k n) ≡ n
+unfolding consec
+length-consec k zero = refl
+length-consec k (suc n) = ap suc (length-consec (k + 1) n)
+
+pub in-consec : (k n j : ℕ) → Mem j (consec k n) → (k ≤ j) × (j < k + n)
+unfolding consec
+in-consec k (suc n) j (here e) = (omega arith, omega arith)
+in-consec k (suc n) j (there m) = let r = in-consec (k + 1) n j m in (omega arith, omega arith)
+
+pub consec-in : (k n j : ℕ) → k ≤ j → j < k + n → Mem j (consec k n)
+unfolding consec
+consec-in k zero j l h = absurd (omega arith)
+consec-in k (suc n) j l h =
+    elim (ℕ-discrete j k) [ yes e ↦ here e | no d ↦ there (consec-in (k + 1) n j (omega arith) (omega arith)) ]
+
+pub consec-distinct : (k n : ℕ) → Distinct (consec k n)
+unfolding consec
+consec-distinct k zero = none
+consec-distinct k (suc n) = more (λ m. let r = in-consec (k + 1) n k m in omega arith) (consec-distinct (k + 1) n)
+
+pub consec-append : (k a b : ℕ) → consec k (a + b) ≡ consec k a ++ consec (k + a) b
+unfolding consec
+consec-append k zero b =
+    let e : 0 + b ≡ b = omega arith in
+    let f : k + 0 ≡ k = omega arith in
+    rw (e, f) refl
+consec-append k (suc a) b =
+    let e : suc a + b ≡ suc (a + b) = omega arith in
+    let f : k + suc a ≡ k + 1 + a = omega arith in
+    rw (e, f) (ap (λ (ks : List ℕ). k ∷ ks) (consec-append (k + 1) a b))

@@ -1,0 +1,55 @@
+use mathlib.Core.Path.{sym}
+use native.Mathlib.Omega.{arith}
+use Rattle.write_alloc.proofs.Runs.{choose-after, choose-lowest, choose-few, choose-scattered}
+use borrow.Author.Needs.{needs}
+use Rattle.write_alloc.proofs.choice.choose_clusters.Statement.{statement}
+use Rattle.write_alloc.proofs.choice.choose_clusters.Tie as tie
+
+scan-requires : tie.Need-scan-requires
+scan-requires c κs = search needs
+
+enum-known-after : tie.Need-enum-known-after
+enum-known-after c = search needs
+
+returns : tie.Need-returns
+returns c = sym (choose-after _ _ _ _ _ (cc))
+
+enum-told : tie.Need-enum-told
+enum-told c = search needs
+
+scan-requires-2 : tie.Need-scan-requires-2
+scan-requires-2 c κs = search needs
+
+enum-known-lowest : tie.Need-enum-known-lowest
+enum-known-lowest c = search needs
+
+returns-2 : tie.Need-returns-2
+returns-2 c = sym (choose-lowest _ _ _ _ _ (cc) (cc))
+
+enum-told-2 : tie.Need-enum-told-2
+enum-told-2 c = search needs
+
+usable-count-requires : tie.Need-usable-count-requires
+usable-count-requires c κs = search needs
+
+returns-3 : tie.Need-returns-3
+returns-3 c = sym (choose-few _ _ _ _ (cc) (cc) (omega arith))
+
+returns-4 : tie.Need-returns-4
+returns-4 c = sym (choose-scattered _ _ _ _ (cc) (cc) (omega arith))
+
+pub choose-clusters-spec : {M : Type 1} → statement M
+choose-clusters-spec =
+    tie.close
+    (tie.spec
+    scan-requires
+    enum-known-after
+    returns
+    enum-told
+    scan-requires-2
+    enum-known-lowest
+    returns-2
+    enum-told-2
+    usable-count-requires
+    returns-3
+    returns-4)

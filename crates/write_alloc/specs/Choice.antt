@@ -1,0 +1,50 @@
+-- Which clusters are taken (01: Allocate). u says which clusters are usable, count is C.
+use mathlib.Core.Bool.{Bool, true, _&&_, cond}
+use mathlib.Core.List.{List, _++_}
+use Prim.Native.Nat.{ℕ, zero, suc, _+_, _-_}
+use lib.Dec.{leb, ltb}
+use lib.ListN.{take}
+use Rattle.tables.specs.Count.{count, keep}
+use Rattle.metadata.specs.declared.usable.Found.{Found}
+use Rattle.metadata.specs.declared.usable.Found.the-variants.{At, Nothing}
+use Rattle.write_alloc.specs.declared.choice.Choice.{Choice}
+use Rattle.write_alloc.specs.declared.choice.Choice.the-variants.{Run, Scattered, TooFew}
+
+-- the n clusters from k are all usable
+unfoldable pub allFrom : (ℕ → Bool) → ℕ → ℕ → Bool
+allFrom u k zero = true
+allFrom u k (suc n) = allFrom u k n && u (k + n)
+
+-- the lowest of the starts s, .. , s + tries - 1 from which n clusters are usable
+unfoldable pub firstRun : (ℕ → Bool) → ℕ → ℕ → ℕ → Found
+firstRun u n zero s = Nothing
+firstRun u n (suc tries) s = cond (allFrom u s n) (At s) (firstRun u n tries (s + 1))
+
+-- the lowest run of n usable clusters that starts at or after s and ends below end
+unfoldable pub runFrom : (ℕ → Bool) → ℕ → ℕ → ℕ → Found
+runFrom u end n s = firstRun u n (end + 1 - (n + s)) s
+
+-- a run where one was found, else another choice
+abbrev pub orElse : Found → Choice → Choice
+orElse (At k) c = Run k
+orElse Nothing c = c
+
+-- the lowest run starting at or after start, else the lowest of all, else usable clusters one by one; too few
+unfoldable pub choose : (ℕ → Bool) → ℕ → ℕ → ℕ → Choice
+choose u C n start =
+    orElse (runFrom u (C + 2) n start)
+    (orElse (runFrom u (C + 2) n 2) (cond (ltb (count u 2 C) n) TooFew Scattered))
+
+-- the usable clusters from start to the end of the heap, then from 2
+unfoldable pub around : (ℕ → Bool) → ℕ → ℕ → List ℕ
+around u C start = keep u start (C + 2 - start) ++ keep u 2 (start - 2)
+
+-- where a choice begins: at its run, or at the search's start
+abbrev pub beginOf : Choice → ℕ → ℕ
+beginOf (Run k) start = k
+beginOf Scattered start = start
+beginOf TooFew start = start
+
+-- the n clusters that are taken
+unfoldable pub chosen : (ℕ → Bool) → ℕ → ℕ → ℕ → List ℕ
+chosen u C n start = take n (around u C (beginOf (choose u C n start) start))

@@ -1,0 +1,105 @@
+// Which clusters are taken: the lowest run that fits, else usable clusters one by one.
+ghost use mathlib.Core.Path.{_≡_};
+ghost use Prim.Native.Nat.{_+_, _-_, _*_, _≤_, _<_};
+ghost use lib.ListN.{length};
+ghost use Rattle.tables.specs.Count.{count};
+ghost use Rattle.boot.specs.Layout.{Laid};
+ghost use Rattle.metadata.specs.Usable.{isUsable};
+ghost use Rattle.write_alloc.specs.Choice.{allFrom, runFrom, choose};
+use boot::layout::Layout;
+use metadata::usable::Found;
+
+// A run from a cluster on, usable clusters one by one, or too few.
+pub enum Choice {
+    Run(u32),
+    Scattered,
+    TooFew,
+}
+
+// Whether the n clusters from first lie in the heap and are all usable (Rust: `run_is_free`).
+pub fn run_is_free(vol: &[u8], map: &[u8], y: Layout, first: u32, n: u32) -> bool
+    requires { ⌜ Laid y × ((length (now vol) ≡ y .len) × ((y .count ≤ 8 * length (now map)) × ((2 ≤ first) × (first + n ≤ y .count + 2)))) ⌝ }
+    ensures { λ r. ⌜ r ≡ allFrom (isUsable y (now (vol .entry)) (now (map .entry))) first n ⌝ }
+{
+    let mut k = first;
+    let mut left = n;
+    while 0 < left {
+        if metadata::usable::usable(vol, map, y, k) {
+            k += 1;
+            left -= 1;
+        } else {
+            return false;
+        }
+    }
+    true
+}
+
+// The lowest run of n usable clusters that starts at or after start (Rust: the closure `scan` of `free_run`).
+fn scan(vol: &[u8], map: &[u8], y: Layout, start: u32, n: u32) -> Found
+    requires { ⌜ Laid y × ((length (now vol) ≡ y .len) × ((y .count ≤ 8 * length (now map)) × ((2 ≤ start) × (1 ≤ n)))) ⌝ }
+    ensures { λ r. ⌜ r ≡ runFrom (isUsable y (now (vol .entry)) (now (map .entry))) (y .count + 2) n start ⌝ }
+{
+    let end = y.count + 2;
+    let mut base = start;
+    let mut k = start;
+    while k < end {
+        let next = k + 1;
+        if metadata::usable::usable(vol, map, y, k) {
+            if next - base == n {
+                return Found::At(base);
+            }
+            k = next;
+        } else {
+            base = next;
+            k = next;
+        }
+    }
+    Found::Nothing
+}
+
+// How many clusters are usable.
+fn usable_count(vol: &[u8], map: &[u8], y: Layout) -> u32
+    requires { ⌜ Laid y × ((length (now vol) ≡ y .len) × (y .count ≤ 8 * length (now map))) ⌝ }
+    ensures { λ r. ⌜ r ≡ count (isUsable y (now (vol .entry)) (now (map .entry))) 2 (y .count) ⌝ }
+{
+    let mut sum: u32 = 0;
+    let mut k: u32 = 2;
+    let mut left = y.count;
+    while 0 < left {
+        let next = k + 1;
+        if metadata::usable::usable(vol, map, y, k) {
+            sum += 1;
+            k = next;
+            left -= 1;
+        } else {
+            k = next;
+            left -= 1;
+        }
+    }
+    sum
+}
+
+// The choice of n clusters for a search that starts at start (Rust: `free_run`, `free_list`).
+pub fn choose_clusters(vol: &[u8], map: &[u8], y: Layout, start: u32, n: u32) -> Choice
+    requires { ⌜ Laid y × ((length (now vol) ≡ y .len) × ((y .count ≤ 8 * length (now map)) × ((2 ≤ start) × (1 ≤ n)))) ⌝ }
+    ensures { λ r. ⌜ r ≡ choose (isUsable y (now (vol .entry)) (now (map .entry))) (y .count) n start ⌝ }
+{
+    let after = scan(vol, map, y, start, n);
+    match after {
+        Found::At(k) => {
+            return Choice::Run(k);
+        }
+        Found::Nothing => {}
+    }
+    let lowest = scan(vol, map, y, 2, n);
+    match lowest {
+        Found::At(k) => {
+            return Choice::Run(k);
+        }
+        Found::Nothing => {}
+    }
+    if usable_count(vol, map, y) < n {
+        return Choice::TooFew;
+    }
+    Choice::Scattered
+}

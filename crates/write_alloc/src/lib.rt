@@ -1,0 +1,3 @@
+// Which clusters are taken, and how a stream is allocated, extended and shrunk (from write_alloc.rs).
+pub mod choice;
+pub mod take;

@@ -1,0 +1,92 @@
+// Clusters taken: marked, and linked where they are to be a chain.
+ghost use mathlib.Core.Path.{_≡_};
+ghost use mathlib.Core.Bool.{true};
+ghost use Prim.Native.Nat.{_+_, _-_, _*_, _≤_, _<_};
+ghost use lib.ListN.{length};
+ghost use Rattle.boot.specs.Layout.{Laid};
+ghost use Rattle.boot.proofs.Apart.{Apart};
+ghost use Rattle.write_alloc.specs.Take.{markRun, linkRun, takeAll, takeOne, prevTaken, takenFrom, takenOf};
+use boot::layout::Layout;
+
+// The cluster reached, 0 before the first, and how many are still to be taken.
+pub struct Taken {
+    pub prev: u32,
+    pub left: u32,
+}
+
+// Marks the n clusters from first.
+pub fn mark_run(vol: &mut [u8], y: Layout, first: u32, n: u32)
+    requires { ⌜ Laid y × ((length (now vol) ≡ y .len) × ((2 ≤ first) × (first + n ≤ y .count + 2))) ⌝ }
+    ensures { λ _. ⌜ now (vol .exit) ≡ markRun y (now (vol .entry)) first n ⌝ }
+{
+    let mut k = first;
+    let mut left = n;
+    while 0 < left {
+        metadata::bitmap::mark(vol, y, k, true);
+        k += 1;
+        left -= 1;
+    }
+}
+
+// Links n clusters from first, each to the next one (Rust: `link`, without the end).
+pub fn link_run(vol: &mut [u8], y: Layout, first: u32, n: u32)
+    requires { ⌜ Laid y × ((length (now vol) ≡ y .len) × (first + n ≤ y .count + 2)) ⌝ }
+    ensures { λ _. ⌜ now (vol .exit) ≡ linkRun y (now (vol .entry)) first n ⌝ }
+{
+    let mut k = first;
+    let mut left = n;
+    while 0 < left {
+        metadata::fat::set_fat(vol, y, k, k + 1);
+        k += 1;
+        left -= 1;
+    }
+}
+
+// Takes one cluster: marks it, and links the one before to it.
+fn take_one(vol: &mut [u8], y: Layout, prev: u32, k: u32)
+    requires { ⌜ Laid y × ((length (now vol) ≡ y .len) × ((prev < y .count + 2) × ((2 ≤ k) × (k < y .count + 2)))) ⌝ }
+    ensures { λ _. ⌜ now (vol .exit) ≡ takeOne y (now (vol .entry)) prev k ⌝ }
+{
+    metadata::bitmap::mark(vol, y, k, true);
+    if prev != 0 {
+        metadata::fat::set_fat(vol, y, prev, k);
+    }
+}
+
+// Takes usable clusters from `from` on, below end, until none is left to be taken.
+pub fn take_usable(
+    vol: &mut [u8],
+    map: &[u8],
+    y: Layout,
+    from: u32,
+    end: u32,
+    start: Taken,
+) -> Taken
+    requires { ⌜ Laid y × ((length (now vol) ≡ y .len) × ((y .count ≤ 8 * length (now map)) × ((2 ≤ from) × ((end ≤ y .count + 2) × ((start .prev < y .count + 2) × ((prevTaken y (now vol) (start .prev) ≡ true) × Apart y)))))) ⌝ }
+    ensures { λ r. ⌜ (now (vol .exit) ≡ takeAll y (now (vol .entry)) (start .prev) (takenFrom y (now (vol .entry)) (now (map .entry)) from end (start .left))) × (r ≡ takenOf start (takenFrom y (now (vol .entry)) (now (map .entry)) from end (start .left))) ⌝ }
+{
+    let mut k = from;
+    let mut prev = start.prev;
+    let mut left = start.left;
+    while k < end {
+        if left == 0 {
+            return Taken {
+                prev: prev,
+                left: left,
+            };
+        }
+        let next = k + 1;
+        if metadata::usable::usable(vol, map, y, k) {
+            take_one(vol, y, prev, k);
+            prev = k;
+            left -= 1;
+            k = next;
+        } else {
+            k = next;
+        }
+    }
+    Taken {
+        prev: prev,
+        left: left,
+    }
+}
