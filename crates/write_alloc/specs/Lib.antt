@@ -1,2 +1,6 @@
 pub mod Choice
 pub mod Take
+pub mod Outcome
+pub mod Allocate
+pub mod Extend
+pub mod Shrink

@@ -1,3 +1,5 @@
 // Which clusters are taken, and how a stream is allocated, extended and shrunk (from write_alloc.rs).
+pub mod allocate;
+pub mod answer;
 pub mod choice;
 pub mod take;

@@ -1,0 +1,71 @@
+-- Shrink (01, "Shrink"; Rust: `shrink_clusters`).
+use mathlib.Core.Bool.{Bool, true, false, _&&_, _||_, not, cond}
+use mathlib.Core.List.{List, [], _∷_}
+use Prim.Native.Nat.{ℕ, _+_}
+use lib.Dec.{eqb, leb}
+use lib.ListN.{length, take, drop}
+use Rattle.tables.specs.Lists.{every, lastOr}
+use Rattle.boot.specs.declared.geometry.Geometry.{Geometry}
+use Rattle.boot.specs.declared.layout.Layout.{Layout}
+use Rattle.boot.specs.Limits.{inMap, limits}
+use Rattle.boot.specs.Layout.{layoutOf}
+use Rattle.boot.specs.Causes.{firstCause, heapCause}
+use Rattle.metadata.specs.Fat.{END, setFat}
+use Rattle.metadata.specs.Marks.{setMark}
+use Rattle.stream.specs.declared.allocation.Allocation.{Allocation}
+use Rattle.stream.specs.Stream.{numberOf, streamOf}
+use Rattle.stream.specs.Listing.{clustersOf}
+use Rattle.write_alloc.specs.Outcome.{Outcome, unchanged, done, empty}
+
+-- 9: a system cluster among those of a list
+unfoldable pub systemCause : List ℕ → List ℕ → ℕ
+systemCause m ks = cond (every (λ k. not (inMap m k)) ks) 0 9
+
+-- the clusters of a list freed: each gets FAT entry 0 and is unmarked
+unfoldable pub freeAll : Layout → List ℕ → List ℕ → List ℕ
+freeAll y d [] = d
+freeAll y d (k ∷ ks) = freeAll y (setMark y (setFat y d k 0) k false) ks
+
+-- each number of a list is the one before it and 1
+unfoldable pub risingFrom : ℕ → List ℕ → Bool
+risingFrom k [] = true
+risingFrom k (j ∷ js) = eqb j (k + 1) && risingFrom j js
+
+-- numbers that rise by one
+unfoldable pub rising : List ℕ → Bool
+rising [] = true
+rising (k ∷ ks) = risingFrom k ks
+
+-- the record of the kept clusters: empty, or a run where it was one or its numbers rise by one
+unfoldable pub keptRecord : Allocation → List ℕ → Allocation
+keptRecord a [] = empty
+keptRecord a (k ∷ ks) =
+    record { first = k; last = lastOr k ks; count = length (k ∷ ks); «no_fat_chain» = a .«no_fat_chain» || rising (k ∷ ks) }
+
+-- the last kept entry of a chain becomes the end
+unfoldable pub endKept : Layout → List ℕ → Allocation → List ℕ → List ℕ
+endKept y d a [] = d
+endKept y d a (k ∷ ks) = cond (a .«no_fat_chain») d (setFat y d (lastOr k ks) END)
+
+-- what refuses it: the record's own causes, then 9 for the freed clusters
+unfoldable pub shrinkCause : Layout → List ℕ → List ℕ → Allocation → ℕ → ℕ
+shrinkCause y d m a keep =
+    firstCause (numberOf (streamOf y d a) ∷ systemCause m (drop keep (clustersOf (streamOf y d a))) ∷ [])
+
+-- the first `keep` clusters kept, the others freed
+unfoldable pub cut : Layout → List ℕ → Allocation → ℕ → ℕ → Outcome
+cut y d a keep hint =
+    let ks = clustersOf (streamOf y d a) in
+    done (keptRecord a (take keep ks)) hint (freeAll y (endKept y d a (take keep ks)) (drop keep ks))
+
+-- shrink on a volume that keeps the limits: the hint's 2; keep at or above count does nothing, unread; the causes; the cut
+unfoldable pub shrinkIn : Layout → List ℕ → List ℕ → Allocation → ℕ → ℕ → Outcome
+shrinkIn y d m a keep hint =
+    let idle = leb (a .count) keep in
+    let number = firstCause (heapCause (y .count) hint ∷ cond idle 0 (shrinkCause y d m a keep) ∷ []) in
+    cond (eqb number 0) (cond idle (unchanged 0 a hint d) (cut y d a keep hint)) (unchanged number a hint d)
+
+-- shrink a record to its first `keep` clusters
+unfoldable pub shrinkClusters : Geometry → List ℕ → List ℕ → Allocation → ℕ → ℕ → Outcome
+shrinkClusters g d m a keep hint =
+    cond (limits g (length d) m) (shrinkIn (layoutOf g (length d)) d m a keep hint) (unchanged 1 a hint d)
