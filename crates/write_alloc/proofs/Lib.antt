@@ -1,3 +1,4 @@
 pub mod ChoiceLaws
 pub mod Runs
+pub mod TakeLaws
 pub mod Taking
