@@ -3,7 +3,7 @@ use mathlib.Core.Path.{_≡_, refl, sym, _∙_, ap}
 use mathlib.Core.Logic.{_⊎_, inl, inr, ⊎-elim}
 use mathlib.Core.Bool.{Bool, true, false, _&&_, false≢true}
 use mathlib.Core.List.{List, [], _∷_, _++_}
-use Prim.Native.Nat.{ℕ, zero, suc, _+_, _≤_, _<_}
+use Prim.Native.Nat.{ℕ, zero, suc, _+_, _-_, _≤_, _<_}
 use native.Mathlib.Decide.{ℕ-discrete}
 use native.Mathlib.Omega.{arith}
 use lib.ListN.{length, take, drop}
@@ -25,6 +25,14 @@ mem-right (x ∷ xs) m = there (mem-right xs m)
 pub mem-take : {k : ℕ} (n : ℕ) (xs : List ℕ) → Mem k (take n xs) → Mem k xs
 mem-take (suc n) (x ∷ xs) (here e) = here e
 mem-take (suc n) (x ∷ xs) (there m) = there (mem-take n xs m)
+
+-- the first n of two lists
+pub take-append : (n : ℕ) (xs ys : List ℕ) → take n (xs ++ ys) ≡ take n xs ++ take (n - length (take n xs)) ys
+take-append zero xs ys = refl
+take-append (suc n) [] ys = let e : suc n - 0 ≡ suc n = omega arith in rw e refl
+take-append (suc n) (x ∷ xs) ys =
+    let e : suc n - suc (length (take n xs)) ≡ n - length (take n xs) = omega arith in
+    rw e (ap (λ (zs : List ℕ). x ∷ zs) (take-append n xs ys))
 
 pub distinct-append : (xs ys : List ℕ) → Distinct xs → Distinct ys → ((k : ℕ) → Mem k xs → Mem k ys → ⊥) → Distinct (xs ++ ys)
 distinct-append [] ys d e h = e

@@ -40,6 +40,22 @@ module _ {ℓ} {A : Type ℓ} where
   all-same f (k ∷ ks) v j (here e) = rw e (upd-same (updAll f ks v) k v)
   all-same f (k ∷ ks) v j (there m) = upd-case (λ x. x ≡ v) (updAll f ks v) k v j (λ _. refl) (λ _. all-same f ks v j m)
 
+  -- the order of keys that get one value does not matter
+  upd-swap : (f : ℕ → A) (k l : ℕ) (v : A) → upd (upd f k v) l v ≡ upd (upd f l v) k v
+  unfolding upd
+  upd-swap f k l v = fun-ext (λ j. at (eqb j k) (eqb j l) (f j))
+    where
+      at : (a b : Bool) (x : A) → cond b v (cond a v x) ≡ cond a v (cond b v x)
+      at true true x = refl
+      at true false x = refl
+      at false true x = refl
+      at false false x = refl
+
+  pub all-upd : (f : ℕ → A) (k : ℕ) (v : A) (ks : List ℕ) → updAll (upd f k v) ks v ≡ upd (updAll f ks v) k v
+  unfolding updAll
+  all-upd f k v [] = refl
+  all-upd f k v (l ∷ ks) = ap (λ (g : ℕ → A). upd g l v) (all-upd f k v ks) ∙ upd-swap (updAll f ks v) k l v
+
   -- ---- a table cut to some keys: two are equal where they agree on those
 
   pub only-in : (p : ℕ → Bool) (z : A) (f : ℕ → A) (k : ℕ) → p k ≡ true → only p z f k ≡ f k

@@ -1,10 +1,9 @@
 -- What the choice means, for any test u of which clusters are usable. Assumes nothing.
 use mathlib.Core.Path.{_≡_, refl, sym, _∙_, ap, subst}
 use mathlib.Core.Logic.{_≢_, _⊎_, inl, inr, ⊎-elim}
-use mathlib.Core.Bool.{Bool, true, false, _&&_, cond, false≢true}
-use mathlib.Core.List.{List, [], _∷_, _++_}
+use mathlib.Core.Bool.{Bool, true, false, cond, false≢true}
 use Prim.Native.Nat.{ℕ, zero, suc, _+_, _-_, _≤_, _<_}
-use native.Mathlib.Decide.{decLt, decLe}
+use native.Mathlib.Decide.{decLt}
 use native.Mathlib.Omega.{arith}
 use lib.Dec.{ltb}
 use lib.ListN.{length, take, length-append}
@@ -13,7 +12,7 @@ use borrow.Author.Tests.{ltb-true, ltb-false}
 use Rattle.tables.specs.Lists.{Mem, Distinct, consec}
 use Rattle.tables.specs.Count.{count, keep}
 use Rattle.tables.proofs.Cases.{clash, cond-case}
-use Rattle.tables.proofs.ListLaws.{mem-append, mem-left, mem-right, mem-take, distinct-append, distinct-take, length-consec}
+use Rattle.tables.proofs.ListLaws.{mem-append, mem-left, mem-right, mem-take, distinct-append, distinct-take}
 use Rattle.tables.proofs.CountLaws.{count-cong, count-append, count-whole, length-keep, in-keep, keep-in, keep-distinct, keep-cong, take-whole}
 use Rattle.boot.specs.Layout.{inHeap}
 use Rattle.boot.proofs.Tests.{and-left, and-right, and-both}
@@ -23,7 +22,7 @@ use Rattle.metadata.specs.declared.usable.Found.the-variants.{At, Nothing}
 use Rattle.write_alloc.specs.declared.choice.Choice.{Choice}
 use Rattle.write_alloc.specs.declared.choice.Choice.the-variants.{Run, Scattered, TooFew}
 use Rattle.write_alloc.specs.Choice.{allFrom, firstRun, runFrom, orElse, choose, around, beginOf, chosen}
-use Rattle.write_alloc.proofs.Runs.{all-not, run-none, choose-few}
+use Rattle.write_alloc.proofs.Runs.{run-none}
 
 -- the n clusters from s are all usable
 abbrev pub Whole : (ℕ → Bool) → ℕ → ℕ → Type 0

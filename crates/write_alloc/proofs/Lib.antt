@@ -1,3 +1,5 @@
 pub mod ChoiceLaws
+pub mod Links
 pub mod Runs
+pub mod TakeLaws
 pub mod Taking

@@ -1,19 +1,16 @@
 -- Runs of clusters that pass a test, and the choice, as the code meets them. Assumes nothing.
 use mathlib.Core.Path.{_≡_, refl, sym, _∙_, ap}
-use mathlib.Core.Bool.{Bool, true, false, _&&_, and-false, cond}
+use mathlib.Core.Bool.{Bool, true, false, and-false}
 use Prim.Native.Nat.{ℕ, zero, suc, _+_, _-_, _≤_, _<_}
 use native.Mathlib.Decide.{decLt}
 use native.Mathlib.Numerals.{sub-one, add-one}
 use native.Mathlib.Omega.{arith}
-use lib.Dec.{ltb}
 use borrow.Author.Tests.{lt-ltb, le-ltb}
-use Rattle.tables.specs.Count.{one, count}
+use Rattle.tables.specs.Count.{count}
 use Rattle.boot.proofs.Tests.{and-both}
-use Rattle.metadata.specs.declared.usable.Found.{Found}
 use Rattle.metadata.specs.declared.usable.Found.the-variants.{At, Nothing}
-use Rattle.write_alloc.specs.declared.choice.Choice.{Choice}
 use Rattle.write_alloc.specs.declared.choice.Choice.the-variants.{Run, Scattered, TooFew}
-use Rattle.write_alloc.specs.Choice.{allFrom, firstRun, runFrom, orElse, choose}
+use Rattle.write_alloc.specs.Choice.{allFrom, firstRun, runFrom, choose}
 
 module _ (u : ℕ → Bool) where
   -- ---- all of a run

@@ -1,7 +1,7 @@
 -- Marks, links and takings, as the code meets them. Assumes nothing.
 use mathlib.Core.Path.{_≡_, refl, sym, _∙_, ap}
 use mathlib.Core.Logic.{_≢_}
-use mathlib.Core.Bool.{Bool, true, false, cond, _||_, or-true}
+use mathlib.Core.Bool.{true, false, or-true}
 use mathlib.Core.List.{List, [], _∷_}
 use Prim.Native.Nat.{ℕ, zero, suc, _+_, _-_, _≤_, _<_}
 use native.Mathlib.Decide.{decLe, ℕ-discrete}
@@ -9,7 +9,7 @@ use native.Mathlib.Numerals.{sub-one, add-one}
 use native.Mathlib.Omega.{arith}
 use lib.Dec.{eqb}
 use lib.ListN.{length, take}
-use borrow.Author.Tests.{eq-eqb, ne-eqb, eqb-true}
+use borrow.Author.Tests.{eq-eqb, ne-eqb}
 use Rattle.tables.specs.Count.{keep}
 use Rattle.tables.proofs.CountLaws.{keep-cong}
 use Rattle.boot.specs.declared.layout.Layout.{Layout}
@@ -135,7 +135,7 @@ module _ (y : Layout) (d m : List ℕ) (k end : ℕ) where
   taken-yes (suc n) h p e = let q : end - k ≡ suc (end - (k + 1)) = omega arith in rw (q, e, add-one k, sub-one) refl
 
 -- only what is usable matters
-taken-cong : (y : Layout) (d d′ m : List ℕ) (k end n : ℕ) → ((j : ℕ) → k ≤ j → j < end → isUsable y d′ m j ≡ isUsable y d m j)
+pub taken-cong : (y : Layout) (d d′ m : List ℕ) (k end n : ℕ) → ((j : ℕ) → k ≤ j → j < end → isUsable y d′ m j ≡ isUsable y d m j)
     → takenFrom y d′ m k end n ≡ takenFrom y d m k end n
 unfolding takenFrom
 taken-cong y d d′ m k end n h =

@@ -2,7 +2,7 @@
 use mathlib.Core.Bool.{Bool, true, _&&_, cond}
 use mathlib.Core.List.{List, _++_}
 use Prim.Native.Nat.{ℕ, zero, suc, _+_, _-_}
-use lib.Dec.{leb, ltb}
+use lib.Dec.{ltb}
 use lib.ListN.{take}
 use Rattle.tables.specs.Count.{count, keep}
 use Rattle.metadata.specs.declared.usable.Found.{Found}
