@@ -13,24 +13,10 @@ use Rattle.boot.specs.declared.geometry.Geometry.{Geometry}
 use Rattle.boot.specs.declared.layout.Layout.{Layout}
 use Rattle.boot.specs.Geometry.{numberOfFats, activeFat, clusterCount, bitmap0, bitmap1, clusterSize, bitmapBytes, bitmapClusters}
 use Rattle.boot.specs.Facts.{Shape, Bitmaps, Accepted}
-use Rattle.boot.specs.Layout.{fatStart, clusterStart, bitmapFirst, layoutOf, clusterAt, inHeap, inRun, isBitmapCluster, Laid}
+use Rattle.boot.specs.Layout.{fatStart, clusterStart, bitmapFirst, layoutOf, clusterAt, inHeap, inRun, isBitmapCluster, Laid, Apart}
 use Rattle.boot.proofs.Tests.{and-left, and-right, and-both}
 use Rattle.boot.proofs.Clusters.{mul-step}
 use Rattle.boot.proofs.Places.{first-zero, first-suc, first-low, first-high, fat-heap, fat-fat, bytes-le}
-
--- the facts by which a layout's regions are apart
-pub record Apart (y : Layout) : Type 0 where
-  -- the active FAT and bitmap are the first ones or, where there are two, the second ones
-  pub active : ((y .fat ≡ y .fat0) × (y .bitmap ≡ y .bitmap0)) ⊎ ((y .two ≡ true) × (y .fat ≡ y .fat1) × (y .bitmap ≡ y .bitmap1))
-  pub fats : y .two ≡ true → y .fat0 + 4 * (y .count + 2) ≤ y .fat1
-  pub fat0-heap : y .fat0 + 4 * (y .count + 2) ≤ y .heap
-  pub fat1-heap : y .fat1 + 4 * (y .count + 2) ≤ y .heap
-  pub at0 : y .bitmap0 ≡ clusterAt y (y .first0)
-  pub at1 : y .bitmap1 ≡ clusterAt y (y .first1)
-  pub low0 : 2 ≤ y .first0
-  pub low1 : 2 ≤ y .first1
-  pub holds : bitmapBytes (y .count) ≤ y .span * y .size
-  pub bitmaps : y .two ≡ true → (y .first0 + y .span ≤ y .first1) ⊎ (y .first1 + y .span ≤ y .first0)
 
 -- ---- a geometry that keeps the limits has such a layout
 

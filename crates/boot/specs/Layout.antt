@@ -1,5 +1,7 @@
 -- Where the parts of a volume lie, in bytes (exFAT specification, 2 and 5.1).
-use mathlib.Core.Bool.{Bool, cond, _&&_, _||_}
+use mathlib.Core.Path.{_≡_}
+use mathlib.Core.Logic.{_⊎_}
+use mathlib.Core.Bool.{Bool, true, cond, _&&_, _||_}
 use Prim.Native.Nat.{ℕ, _+_, _-_, _*_, _/_, _≤_}
 use lib.Dec.{eqb, leb, ltb}
 use Rattle.boot.specs.declared.geometry.Geometry.{Geometry}
@@ -71,3 +73,17 @@ pub record Laid (y : Layout) : Type 0 where
   pub count-low : 1 ≤ y .count
   pub count-high : y .count ≤ 32768
   pub len-high : y .len ≤ 16777216
+
+-- FATs, bitmaps and clusters are apart: what internal functions that store require besides
+pub record Apart (y : Layout) : Type 0 where
+  -- the active FAT and bitmap are the first ones or, where there are two, the second ones
+  pub active : ((y .fat ≡ y .fat0) × (y .bitmap ≡ y .bitmap0)) ⊎ ((y .two ≡ true) × (y .fat ≡ y .fat1) × (y .bitmap ≡ y .bitmap1))
+  pub fats : y .two ≡ true → y .fat0 + 4 * (y .count + 2) ≤ y .fat1
+  pub fat0-heap : y .fat0 + 4 * (y .count + 2) ≤ y .heap
+  pub fat1-heap : y .fat1 + 4 * (y .count + 2) ≤ y .heap
+  pub at0 : y .bitmap0 ≡ clusterAt y (y .first0)
+  pub at1 : y .bitmap1 ≡ clusterAt y (y .first1)
+  pub low0 : 2 ≤ y .first0
+  pub low1 : 2 ≤ y .first1
+  pub holds : bitmapBytes (y .count) ≤ y .span * y .size
+  pub bitmaps : y .two ≡ true → (y .first0 + y .span ≤ y .first1) ⊎ (y .first1 + y .span ≤ y .first0)

@@ -9,10 +9,9 @@ use native.Mathlib.Omega.{arith}
 use lib.Dec.{eqb}
 use borrow.Author.Tests.{ne-eqb}
 use Rattle.tables.specs.Table.{upd}
-use Rattle.tables.specs.Lists.{Mem, here, there, Distinct, more, consec}
+use Rattle.tables.specs.Lists.{Mem, here, there, Distinct, more, lastOr, consec}
 use Rattle.tables.proofs.TableLaws.{upd-same, upd-other}
 use Rattle.tables.proofs.ListLaws.{in-consec}
-use Rattle.write_alloc.specs.Take.{lastOr}
 
 -- ---- the last of a list
 

@@ -13,8 +13,8 @@ use borrow.Author.Tests.{eq-eqb, ne-eqb}
 use Rattle.tables.specs.Count.{keep}
 use Rattle.tables.proofs.CountLaws.{keep-cong}
 use Rattle.boot.specs.declared.layout.Layout.{Layout}
-use Rattle.boot.specs.Layout.{Laid, inHeap}
-use Rattle.boot.proofs.Apart.{Apart, in-heap, heap-in}
+use Rattle.boot.specs.Layout.{Laid, inHeap, Apart}
+use Rattle.boot.proofs.Apart.{in-heap, heap-in}
 use Rattle.metadata.specs.Fat.{setFat}
 use Rattle.metadata.specs.Marks.{marked, setMark}
 use Rattle.metadata.specs.Usable.{isUsable}

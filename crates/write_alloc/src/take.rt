@@ -3,8 +3,7 @@ ghost use mathlib.Core.Path.{_≡_};
 ghost use mathlib.Core.Bool.{true};
 ghost use Prim.Native.Nat.{_+_, _-_, _*_, _≤_, _<_};
 ghost use lib.ListN.{length};
-ghost use Rattle.boot.specs.Layout.{Laid};
-ghost use Rattle.boot.proofs.Apart.{Apart};
+ghost use Rattle.boot.specs.Layout.{Laid, Apart};
 ghost use Rattle.write_alloc.specs.Take.{markRun, linkRun, takeAll, takeOne, prevTaken, takenFrom, takenOf};
 use boot::layout::Layout;
 
