@@ -3,3 +3,5 @@ pub mod Links
 pub mod Runs
 pub mod TakeLaws
 pub mod Taking
+pub mod FirstLaws
+pub mod AllocateLaws

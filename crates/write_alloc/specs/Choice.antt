@@ -3,7 +3,7 @@ use mathlib.Core.Bool.{Bool, true, _&&_, cond}
 use mathlib.Core.List.{List, _++_}
 use Prim.Native.Nat.{ℕ, zero, suc, _+_, _-_}
 use lib.Dec.{ltb}
-use lib.ListN.{take}
+use lib.ListN.{take, getD}
 use Rattle.tables.specs.Count.{count, keep}
 use Rattle.metadata.specs.declared.usable.Found.{Found}
 use Rattle.metadata.specs.declared.usable.Found.the-variants.{At, Nothing}
@@ -48,3 +48,7 @@ beginOf TooFew start = start
 -- the n clusters that are taken
 unfoldable pub chosen : (ℕ → Bool) → ℕ → ℕ → ℕ → List ℕ
 chosen u C n start = take n (around u C (beginOf (choose u C n start) start))
+
+-- the first usable cluster from start on, then from 2; 0 where there is none
+unfoldable pub firstUsable : (ℕ → Bool) → ℕ → ℕ → ℕ
+firstUsable u C start = getD (around u C start) 0 0

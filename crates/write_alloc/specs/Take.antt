@@ -1,5 +1,5 @@
 -- Clusters taken: marked, and linked where they are to be a chain. Stores stand in the order of the code.
-use mathlib.Core.Bool.{Bool, true, cond, _||_}
+use mathlib.Core.Bool.{Bool, true, cond, _&&_, _||_}
 use mathlib.Core.List.{List, [], _∷_}
 use Prim.Native.Nat.{ℕ, zero, suc, _+_, _-_}
 use lib.Dec.{eqb}
@@ -7,6 +7,7 @@ use lib.ListN.{length, take}
 use Rattle.tables.specs.Count.{keep}
 use Rattle.tables.specs.Lists.{lastOr}
 use Rattle.boot.specs.declared.layout.Layout.{Layout}
+use Rattle.boot.specs.Layout.{inHeap}
 use Rattle.metadata.specs.Fat.{setFat}
 use Rattle.metadata.specs.Marks.{marked, setMark}
 use Rattle.metadata.specs.Usable.{isUsable}
@@ -42,3 +43,7 @@ takenFrom y d m from end n = take n (keep (isUsable y d m) from (end - from))
 -- where taking the clusters of a list leads
 abbrev pub takenOf : Taken → List ℕ → Taken
 takenOf t ks = record { prev = lastOr (t .prev) ks; left = t .left - length ks }
+
+-- the one before is none, or a cluster of the heap that is taken already
+unfoldable pub prevOk : Layout → List ℕ → ℕ → Bool
+prevOk y d prev = eqb prev 0 || (inHeap (y .count) prev && marked y d prev)

@@ -5,7 +5,7 @@ ghost use lib.ListN.{length};
 ghost use Rattle.tables.specs.Count.{count};
 ghost use Rattle.boot.specs.Layout.{Laid};
 ghost use Rattle.metadata.specs.Usable.{isUsable};
-ghost use Rattle.write_alloc.specs.Choice.{allFrom, runFrom, choose};
+ghost use Rattle.write_alloc.specs.Choice.{allFrom, runFrom, choose, firstUsable};
 use boot::layout::Layout;
 use metadata::usable::Found;
 
@@ -102,4 +102,23 @@ pub fn choose_clusters(vol: &[u8], map: &[u8], y: Layout, start: u32, n: u32) ->
         return Choice::TooFew;
     }
     Choice::Scattered
+}
+
+// The first usable cluster from start on, then from 2; 0 where there is none.
+pub fn first_usable(vol: &[u8], map: &[u8], y: Layout, start: u32) -> u32
+    requires { ⌜ Laid y × ((length (now vol) ≡ y .len) × ((y .count ≤ 8 * length (now map)) × ((2 ≤ start) × (start < y .count + 2)))) ⌝ }
+    ensures { λ r. ⌜ r ≡ firstUsable (isUsable y (now (vol .entry)) (now (map .entry))) (y .count) start ⌝ }
+{
+    let choice = choose_clusters(vol, map, y, start, 1);
+    match choice {
+        Choice::Run(k) => {
+            return k;
+        }
+        Choice::Scattered => {
+            return 0;
+        }
+        Choice::TooFew => {
+            return 0;
+        }
+    }
 }
