@@ -1,3 +1,4 @@
 pub mod ChainLaws
 pub mod StreamLaws
 pub mod ListingLaws
+pub mod BytesSteps
