@@ -2,3 +2,4 @@ pub mod ChainLaws
 pub mod StreamLaws
 pub mod ListingLaws
 pub mod BytesSteps
+pub mod BytesLaws
