@@ -1,21 +1,22 @@
 -- What a store does to the bytes of streams, and what leaves them as they were. Assumes nothing.
 use mathlib.Core.Path.{_≡_, refl, sym, _∙_, ap, ap₂, subst}
 use mathlib.Core.Logic.{_≢_}
-use mathlib.Core.Bool.{Bool, true}
-use mathlib.Core.List.{List, [], _∷_, _++_, append-assoc, append-nil}
+use mathlib.Core.Bool.{Bool, true, false}
+use mathlib.Core.List.{List, [], _∷_, _++_, append-assoc}
 use Prim.Native.Nat.{ℕ, zero, suc, _+_, _-_, _*_, _≤_, _<_}
 use native.Mathlib.Decide.{decLe}
 use native.Mathlib.Nat.{suc-mul}
 use native.Mathlib.Omega.{arith}
-use lib.ListN.{length, getD, take, drop, replicate, length-append, length-take, length-drop, take-append-drop, drop-of-length-le}
-use lib.Seq.{length-take-le, take-all, take-append-add, take-append-le, drop-append-le, drop-append-add, take-at, drop-at, drop-drop, getD-take, getD-drop, ext-getD}
+use lib.ListN.{length, getD, take, drop, replicate, length-replicate, replicate-append-replicate, length-append, length-take, length-drop, take-append-drop, drop-of-length-le, List·getD-append}
+use lib.Seq.{take-append-seam, drop-append-seam, length-take-le, take-all, take-append-add, take-append-le, drop-append-le, drop-append-add, take-at, drop-at, getD-take, getD-drop, getD-append-add, ext-getD}
 use Rattle.primitives.specs.Splice.{splice}
 use Rattle.primitives.proofs.SpliceLaws.{splice-nil, length-splice}
 use Rattle.tables.specs.Lists.{Mem, here, there, Distinct, none, more, every}
 use Rattle.tables.proofs.ListLaws.{every-head, every-tail, every-mem, mem-every}
+use Rattle.tables.proofs.TableLaws.{only-cong}
 use Rattle.boot.specs.declared.layout.Layout.{Layout}
 use Rattle.boot.specs.Layout.{clusterAt, inHeap}
-use Rattle.boot.proofs.Apart.{in-heap}
+use Rattle.boot.proofs.Apart.{in-heap, cluster-end}
 use Rattle.metadata.specs.Fat.{fatEntry, setFat}
 use Rattle.metadata.specs.Marks.{marked, setMark}
 use Rattle.metadata.specs.Cluster.{clusterByte, putBytes}
@@ -23,7 +24,7 @@ use Rattle.metadata.proofs.Frame.{Fits, fits-kept, length-fat, length-mark, len
 use Rattle.metadata.proofs.View.{plain, plain-heap, plain-off, view, view-byte-at}
 use Rattle.stream.specs.Along.{along}
 use Rattle.stream.specs.Bytes.{clusterBytes, bytesOf, storeAt}
-use Rattle.stream.proofs.BytesSteps.{take-two, every-take, splice-join, along-same, store-past, store-here, store-nothing, length-cluster, bytes-over}
+use Rattle.stream.proofs.BytesSteps.{every-take, splice-join, along-same, store-past, store-here, store-nothing, store-over, length-cluster, bytes-over}
 
 -- ---- parts of lists
 
@@ -55,6 +56,14 @@ splice-over c r at s t e =
     sym (splice-join (c ++ r) at s t (at + length s) (omega arith) refl)
     ∙ ap (λ (u : List ℕ). splice u (at + length s) t) (splice-left c r at s (omega arith))
     ∙ splice-right (splice c at s) r (at + length s) 0 t (omega arith)
+
+-- the part itself
+pub splice-part : (d : List ℕ) (at : ℕ) (s : List ℕ) → at + length s ≤ length d → take (length s) (drop at (splice d at s)) ≡ s
+unfolding splice
+splice-part d at s h =
+    let n : length (take at d) ≡ at = length-take-le at d (omega arith) in
+    ap (λ (l : List ℕ). take (length s) (drop at l)) (append-assoc (take at d) s (drop (at + length s) d))
+    ∙ ap (take (length s)) (drop-at (take at d) (s ++ drop (at + length s) d) at n) ∙ take-append-seam s (drop (at + length s) d)
 
 -- ---- the bytes of a cluster
 
@@ -118,6 +127,22 @@ module _ (y : Layout) (d : List ℕ) (w : Fits y d) where
   length-of (k ∷ ks) e =
       let n = length-cluster y d (w .laid) (w .long) k (every-head (inHeap (y .count)) k ks e) in
       omega (arith, length-append (clusterBytes y d k) (bytesOf y d ks), length-of ks (every-tail (inHeap (y .count)) k ks e), suc-mul (length ks) (y .size))
+
+  -- byte r of the cluster at place m
+  pub byte-of : (ks : List ℕ) (m r : ℕ) → every (inHeap (y .count)) ks ≡ true → m < length ks → r < y .size
+      → getD (bytesOf y d ks) (m * y .size + r) 0 ≡ clusterByte y d (getD ks m 0) r
+  unfolding bytesOf
+  byte-of [] m r e h b = absurd (omega arith)
+  byte-of (k ∷ ks) zero r e h b =
+      let n = length-cluster y d (w .laid) (w .long) k (every-head (inHeap (y .count)) k ks e) in
+      let z : 0 * y .size + r ≡ r = omega arith in
+      ap (λ (x : ℕ). getD (clusterBytes y d k ++ bytesOf y d ks) x 0) z ∙ List·getD-append (clusterBytes y d k) (bytesOf y d ks) 0 r (omega arith)
+      ∙ cluster-at y d k r b
+  byte-of (k ∷ ks) (suc m) r e h b =
+      let n = length-cluster y d (w .laid) (w .long) k (every-head (inHeap (y .count)) k ks e) in
+      let z : suc m * y .size + r ≡ length (clusterBytes y d k) + (m * y .size + r) = omega (arith, suc-mul m (y .size)) in
+      ap (λ (x : ℕ). getD (clusterBytes y d k ++ bytesOf y d ks) x 0) z ∙ getD-append-add (clusterBytes y d k) (bytesOf y d ks) (m * y .size + r) 0
+      ∙ byte-of ks m r (every-tail (inHeap (y .count)) k ks e) (omega arith) b
 
   -- at the border of clusters
   module _ (m : ℕ) (ks : List ℕ) (h : m ≤ length ks) (e : every (inHeap (y .count)) ks ≡ true) where
@@ -202,6 +227,10 @@ module _ (y : Layout) (d : List ℕ) (w : Fits y d) (ks : List ℕ) (e : every (
   along-store run k n h =
       sym (along-same (y .count) (fatEntry y d) (fatEntry y (storeAt y d ks at bs)) (λ j i. sym (fat-store j (in-heap (y .count) j i .1))) run k n h)
 
+  pub heap-store : (run : Bool) (k n : ℕ) → every (inHeap (y .count)) (along (fatEntry y d) run k n) ≡ true
+      → every (inHeap (y .count)) (along (fatEntry y (storeAt y d ks at bs)) run k n) ≡ true
+  heap-store run k n h = ap (every (inHeap (y .count))) (along-store run k n h) ∙ h
+
   pub mark-store : every (plain y) ks ≡ true → (i : ℕ) → inHeap (y .count) i ≡ true → marked y (storeAt y d ks at bs) i ≡ marked y d i
   mark-store o i g =
       store-keeps y (λ l. marked y l i ≡ marked y d i) ks e
@@ -217,6 +246,20 @@ module _ (y : Layout) (d : List ℕ) (w : Fits y d) (ks : List ℕ) (e : every (
       → bytesOf y (storeAt y d ks at bs) js ≡ bytesOf y d js
   bytes-store-apart js g o =
       bytes-cong y d (storeAt y d ks at bs) js (λ k m. cluster-store k (every-mem (inHeap (y .count)) js g k m) (o k m))
+
+-- ---- the tables of the volume after a store
+
+module _ (y : Layout) (d : List ℕ) (w : Fits y d) (ks : List ℕ) (e : every (plain y) ks ≡ true) (at : ℕ) (bs : List ℕ) where
+  pub view-store-fat : view y (storeAt y d ks at bs) .fat ≡ view y d .fat
+  unfolding view
+  view-store-fat =
+      only-cong (inHeap (y .count)) 0 (fatEntry y d) (fatEntry y (storeAt y d ks at bs))
+      (λ i g. fat-store y d w ks (plain-in-heap y ks e) at bs i (in-heap (y .count) i g .1))
+
+  pub view-store-mark : view y (storeAt y d ks at bs) .mark ≡ view y d .mark
+  unfolding view
+  view-store-mark =
+      only-cong (inHeap (y .count)) false (marked y d) (marked y (storeAt y d ks at bs)) (λ i g. mark-store y d w ks (plain-in-heap y ks e) at bs e i g)
 
 -- ---- the bytes of the stream itself
 
@@ -269,3 +312,93 @@ bytes-store y d w (k ∷ ks) (more o u) e at bs b =
   where
     cons-of : (y : Layout) (d : List ℕ) (k : ℕ) (ks c r : List ℕ) → clusterBytes y d k ≡ c → bytesOf y d ks ≡ r → bytesOf y d (k ∷ ks) ≡ c ++ r
     cons-of y d k ks c r p q = unfold bytesOf in (ap₂ (λ (u v : List ℕ). u ++ v) p q)
+
+-- what was stored is read back
+pub read-back : (y : Layout) (d : List ℕ) → Fits y d → (ks : List ℕ) → Distinct ks → every (inHeap (y .count)) ks ≡ true → (at : ℕ) (bs : List ℕ)
+    → at + length bs ≤ length ks * y .size → take (length bs) (drop at (bytesOf y (storeAt y d ks at bs) ks)) ≡ bs
+read-back y d w ks u e at bs b =
+    let n = length-of y d w ks e in
+    ap (λ (l : List ℕ). take (length bs) (drop at l)) (bytes-store y d w ks u e at bs b) ∙ splice-part (bytesOf y d ks) at bs (omega arith)
+
+-- ---- stores one after the other
+
+-- two stores in one cluster
+put-two : (y : Layout) (d : List ℕ) → Fits y d → (k j : ℕ) (a b : List ℕ) → inHeap (y .count) k ≡ true → j + length a ≤ y .size
+    → putBytes y (putBytes y d k j a) k (j + length a) b ≡ putBytes y d k j (a ++ b)
+unfolding putBytes
+put-two y d w k j a b h f =
+    let n = w .long in
+    splice-join d (clusterAt y k + j) a b (clusterAt y k + (j + length a)) (omega (arith, cluster-end y (w .laid) (w .apart) k h)) (omega arith)
+
+-- the store of two parts, the second right after the first, is the store of the whole
+pub store-two : (y : Layout) (d : List ℕ) → Fits y d → (ks : List ℕ) → every (inHeap (y .count)) ks ≡ true → (at : ℕ) (a b : List ℕ)
+    → storeAt y (storeAt y d ks at a) ks (at + length a) b ≡ storeAt y d ks at (a ++ b)
+store-two y d w [] e at a b = unfold storeAt in refl
+store-two y d w (k ∷ ks) e at a b =
+    let h = every-head (inHeap (y .count)) k ks e in
+    let t = every-tail (inHeap (y .count)) k ks e in
+    let n = y .size - at in
+    elim (decLe (y .size) at) [
+      | yes f ↦
+          let z : at + length a - y .size ≡ at - y .size + length a = omega arith in
+          ap (λ (l : List ℕ). storeAt y l (k ∷ ks) (at + length a) b) (store-past y d k ks at a f)
+          ∙ store-past y (storeAt y d ks (at - y .size) a) k ks (at + length a) b (omega arith)
+          ∙ ap (λ (x : ℕ). storeAt y (storeAt y d ks (at - y .size) a) ks x b) z ∙ store-two y d w ks t (at - y .size) a b
+          ∙ sym (store-past y d k ks at (a ++ b) f)
+      | no f ↦ elim (decLe n (length a)) [
+        | yes g ↦
+            let d₁ = putBytes y d k at (take n a) in
+            let l : at + length (take n a) ≤ y .size = omega (arith, take-short n a) in
+            let w₁ = fits-kept y d d₁ (length-bytes y d w k at (take n a) h l) w in
+            let z : at + length a - y .size ≡ 0 + length (drop n a) = omega (arith, length-drop n a) in
+            let p : take n (a ++ b) ≡ take n a = take-append-le n a b g in
+            let q : drop n (a ++ b) ≡ drop n a ++ b = drop-append-le n a b g in
+            ap (λ (l : List ℕ). storeAt y l (k ∷ ks) (at + length a) b) (store-here y d k ks at a (omega arith))
+            ∙ store-past y (storeAt y d₁ ks 0 (drop n a)) k ks (at + length a) b (omega arith)
+            ∙ ap (λ (x : ℕ). storeAt y (storeAt y d₁ ks 0 (drop n a)) ks x b) z ∙ store-two y d₁ w₁ ks t 0 (drop n a) b
+            ∙ sym (store-here y d k ks at (a ++ b) (omega arith) ∙ ap₂ (λ (u v : List ℕ). storeAt y (putBytes y d k at u) ks 0 v) p q)
+        | no g ↦
+            let i : y .size - (at + length a) ≡ n - length a = omega arith in
+            let whole : storeAt y d (k ∷ ks) at a ≡ putBytes y d k at a =
+            store-here y d k ks at a (omega arith)
+            ∙ ap₂ (λ (u v : List ℕ). storeAt y (putBytes y d k at u) ks 0 v) (take-all n a (omega arith)) (drop-of-length-le a {i = n} (omega arith))
+            ∙ store-nothing y (putBytes y d k at a) ks 0 in
+            let s : n ≡ length a + (n - length a) = omega arith in
+            let p : take n (a ++ b) ≡ a ++ take (n - length a) b = ap (λ (x : ℕ). take x (a ++ b)) s ∙ take-append-add a b (n - length a) in
+            let q : drop n (a ++ b) ≡ drop (n - length a) b = ap (λ (x : ℕ). drop x (a ++ b)) s ∙ drop-append-add a b (n - length a) in
+            ap (λ (l : List ℕ). storeAt y l (k ∷ ks) (at + length a) b) whole
+            ∙ store-here y (putBytes y d k at a) k ks (at + length a) b (omega arith)
+            ∙ ap (λ (x : ℕ). storeAt y (putBytes y (putBytes y d k at a) k (at + length a) (take x b)) ks 0 (drop x b)) i
+            ∙ ap (λ (l : List ℕ). storeAt y l ks 0 (drop (n - length a) b)) (put-two y d w k at a (take (n - length a) b) h (omega arith))
+            ∙ sym (store-here y d k ks at (a ++ b) (omega arith) ∙ ap₂ (λ (u v : List ℕ). storeAt y (putBytes y d k at u) ks 0 v) p q)
+      ]
+    ]
+
+-- zeros likewise
+pub store-zeros : (y : Layout) (d : List ℕ) → Fits y d → (ks : List ℕ) → every (inHeap (y .count)) ks ≡ true → (at m n : ℕ)
+    → storeAt y (storeAt y d ks at (replicate m 0)) ks (at + m) (replicate n 0) ≡ storeAt y d ks at (replicate (m + n) 0)
+store-zeros y d w ks e at m n =
+    let z : at + m ≡ at + length (replicate {A = ℕ} m 0) = omega (arith, length-replicate {A = ℕ} m 0) in
+    ap (λ (x : ℕ). storeAt y (storeAt y d ks at (replicate m 0)) ks x (replicate n 0)) z ∙ store-two y d w ks e at (replicate m 0) (replicate n 0)
+    ∙ ap (storeAt y d ks at) (replicate-append-replicate m n 0)
+
+-- ---- stores in the front, and in the rest, of a list of clusters
+
+pub store-front : (y : Layout) (d js ks : List ℕ) (at : ℕ) (bs : List ℕ) → at + length bs ≤ length js * y .size
+    → storeAt y d (js ++ ks) at bs ≡ storeAt y d js at bs
+store-front y d [] ks at [] h = store-nothing y d ks at ∙ (unfold storeAt in refl)
+store-front y d [] ks at (b ∷ bs) h = absurd (omega arith)
+store-front y d (j ∷ js) ks at bs h =
+    let z = suc-mul (length js) (y .size) in
+    let n = y .size - at in
+    elim (decLe (y .size) at) [
+      | yes f ↦ store-past y d j (js ++ ks) at bs f ∙ store-front y d js ks (at - y .size) bs (omega arith) ∙ sym (store-past y d j js at bs f)
+      | no f ↦
+          store-here y d j (js ++ ks) at bs (omega arith)
+          ∙ store-front y (putBytes y d j at (take n bs)) js ks 0 (drop n bs) (omega (arith, length-drop n bs)) ∙ sym (store-here y d j js at bs (omega arith))
+    ]
+
+pub store-rest : (y : Layout) (d js ks : List ℕ) (at : ℕ) (bs : List ℕ) → storeAt y d (js ++ ks) (length js * y .size + at) bs ≡ storeAt y d ks at bs
+store-rest y d js ks at bs =
+    let n = length-append js ks in
+    store-over y (length js) d (js ++ ks) at bs (omega arith) ∙ ap (λ (l : List ℕ). storeAt y d l at bs) (drop-append-seam js ks)

@@ -132,6 +132,20 @@ module _ (fat : ℕ → ℕ) (run : Bool) where
     pub every-from : every p (along fat run (reached fat run k m) (n - m)) ≡ true
     every-from = ap (every p) (sym (drop-along m k n)) ∙ every-drop p m (along fat run k n) e
 
+-- in a run
+pub reach-run : (fat : ℕ → ℕ) (run : Bool) (k n : ℕ) → run ≡ true → reached fat run k n ≡ k + n
+unfolding reached after
+reach-run fat run k zero e = omega arith
+reach-run fat run k (suc n) e = rw e (reach-run fat true (k + 1) n refl ∙ (omega arith))
+
+pub run-end : (C : ℕ) (fat : ℕ → ℕ) (run : Bool) (k n : ℕ) → run ≡ true → every (inHeap C) (along fat run k n) ≡ true → 0 < n → k + n ≤ C + 2
+unfolding along after
+run-end C fat run k zero r e h = absurd (omega arith)
+run-end C fat run k (suc zero) r e h = let i = in-heap C k (every-head (inHeap C) k [] e) in omega arith
+run-end C fat run k (suc (suc n)) r e h =
+    let t = every-tail (inHeap C) k (along fat run (cond run (k + 1) (fat k)) (suc n)) e in
+    omega (arith, run-end C fat true (k + 1) (suc n) refl (rw r at t) (omega arith))
+
 -- FATs that are the same on the heap have the same streams
 module _ (C : ℕ) (f g : ℕ → ℕ) (same : (k : ℕ) → inHeap C k ≡ true → f k ≡ g k) (run : Bool) where
   pub along-same : (k n : ℕ) → every (inHeap C) (along f run k n) ≡ true → along f run k n ≡ along g run k n

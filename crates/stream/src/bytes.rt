@@ -24,15 +24,18 @@ fn lesser(a: usize, b: usize) -> usize
     b
 }
 
-// The cluster that so many steps along a stream lead to.
+// The cluster that so many steps along a stream lead to; in a run they are one sum.
 pub fn seek(vol: &[u8], y: Layout, run: bool, first: u32, steps: u32) -> u32
     requires { ⌜ Laid y × ((length (now vol) ≡ y .len) × (every (inHeap (y .count)) (along (fatEntry y (now vol)) run first steps) ≡ true)) ⌝ }
     ensures { λ r. ⌜ r ≡ reached (fatEntry y (now (vol .entry))) run first steps ⌝ }
 {
+    if run {
+        return first + steps;
+    }
     let mut k = first;
     let mut left = steps;
     while 0 < left {
-        k = crate::list::next_cluster(vol, y, run, k);
+        k = metadata::fat::fat_entry(vol, y, k);
         left -= 1;
     }
     k
