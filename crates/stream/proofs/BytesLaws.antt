@@ -11,7 +11,7 @@ use lib.ListN.{length, getD, take, drop, replicate, length-replicate, replicate-
 use lib.Seq.{take-append-seam, drop-append-seam, length-take-le, take-all, take-append-add, take-append-le, drop-append-le, drop-append-add, take-at, drop-at, getD-take, getD-drop, getD-append-add, ext-getD}
 use Rattle.primitives.specs.Splice.{splice}
 use Rattle.primitives.proofs.SpliceLaws.{splice-nil, length-splice}
-use Rattle.tables.specs.Lists.{Mem, here, there, Distinct, none, more, every}
+use Rattle.tables.specs.Lists.{Mem, here, there, Distinct, more, every}
 use Rattle.tables.proofs.ListLaws.{every-head, every-tail, every-mem, mem-every}
 use Rattle.tables.proofs.TableLaws.{only-cong}
 use Rattle.boot.specs.declared.layout.Layout.{Layout}
