@@ -2,3 +2,5 @@ pub mod ChainLaws
 pub mod StreamLaws
 pub mod ListingLaws
 pub mod Distinct
+pub mod BytesSteps
+pub mod BytesLaws
