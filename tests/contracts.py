@@ -10,7 +10,14 @@ import re
 import sys
 
 # crate, module and name of each public call that is there today
-PUBLIC_CALLS = {"boot::geometry::validate", "metadata::free::free_clusters"}
+PUBLIC_CALLS = {
+    "boot::geometry::validate",
+    "metadata::free::free_clusters",
+    "stream::list::clusters",
+    "write_alloc::allocate::allocate_clusters",
+    "write_alloc::extend::extend_clusters",
+    "write_alloc::shrink::shrink_clusters",
+}
 
 HEAD = re.compile(r"^[ \t]*(?:#\[[^\]]*\]\s*)*((?:pub(?:\([a-z]+\))? )?(?:extern \"C\" )?)fn (\w+)", re.M)
 
