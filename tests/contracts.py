@@ -23,8 +23,9 @@ HEAD = re.compile(r"^[ \t]*(?:#\[[^\]]*\]\s*)*((?:pub(?:\([a-z]+\))? )?(?:extern
 
 
 def plain(text):
-    """The text with comments blanked, so that words in them count for nothing."""
-    return re.sub(r"//[^\n]*", lambda m: " " * len(m.group()), text)
+    """The text with comments blanked, so that words in them count for nothing, and array types without their semicolon."""
+    text = re.sub(r"//[^\n]*", lambda m: " " * len(m.group()), text)
+    return re.sub(r"\[(\w+); (\w+)\]", r"[\1, \2]", text)
 
 
 def head_of(text, start):
