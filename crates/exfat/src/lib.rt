@@ -7,6 +7,7 @@ ghost use lib.ListN.{length};
 ghost use Rattle.metadata.specs.Free.{freeClusters};
 ghost use Rattle.stream.specs.Listing.{listingNumber, listingList};
 ghost use Rattle.write_alloc.specs.Allocate.{allocateClusters};
+ghost use Rattle.write_alloc.specs.Extend.{extendClusters};
 ghost use Rattle.exfat.specs.Words.{flagOf, geometryOf, allocationOf, countWords, answerWords};
 
 // How many clusters are free.
@@ -57,5 +58,24 @@ pub extern "C" fn exfat_allocate(
     let g = words::geometry_of(geometry);
     let given = words::flag_of(has_near);
     let r = write_alloc::allocate::allocate_clusters(vol, map, g, count, given, near, hint);
+    words::put_answer(out, r)
+}
+
+// A record with `more` clusters added.
+#[no_mangle]
+pub extern "C" fn exfat_extend(
+    vol: &mut [u8],
+    map: &[u8],
+    geometry: &[u32; 11],
+    allocation: &[u32; 4],
+    more: u32,
+    hint: u32,
+    out: &mut [u32; 8],
+) -> u32
+    ensures { λ r. ⌜ (let o = extendClusters (geometryOf (now (geometry .entry))) (now (vol .entry)) (now (map .entry)) (allocationOf (now (allocation .entry))) more hint in (r ≡ o .answer .number) × ((now (vol .exit) ≡ o .volume) × (now (out .exit) ≡ answerWords (o .answer)))) ⌝ }
+{
+    let g = words::geometry_of(geometry);
+    let a = words::allocation_of(allocation);
+    let r = write_alloc::extend::extend_clusters(vol, map, g, a, more, hint);
     words::put_answer(out, r)
 }
