@@ -3,3 +3,4 @@ pub mod Links
 pub mod Runs
 pub mod TakeLaws
 pub mod Taking
+pub mod Cutting
