@@ -1,9 +1,9 @@
 -- A stream cut in two parts, as the code of shrink meets it. Assumes nothing.
 use mathlib.Core.Path.{_≡_, refl, sym, _∙_, ap, subst}
 use mathlib.Core.Logic.{_≢_}
-use mathlib.Core.Bool.{Bool, true, false, _&&_, _||_, not, cond}
+use mathlib.Core.Bool.{Bool, true, false, _&&_, _||_, cond}
 use mathlib.Core.List.{List, [], _∷_, _++_}
-use Prim.Native.Nat.{ℕ, zero, suc, _+_, _-_, _*_, _≤_, _<_}
+use Prim.Native.Nat.{ℕ, zero, suc, _+_, _-_, _≤_, _<_}
 use native.Mathlib.Decide.{ℕ-discrete}
 use native.Mathlib.Numerals.{sub-one}
 use native.Mathlib.Omega.{arith}
@@ -13,9 +13,10 @@ use lib.Seq.{take-append-seam, drop-append-seam}
 use borrow.Author.Tests.{eq-eqb, ne-eqb, le-leb, lt-leb}
 use Rattle.tables.specs.Lists.{Mem, here, there, Distinct, more, every, lastOr}
 use Rattle.tables.proofs.ListLaws.{mem-left, mem-right, every-mem, mem-every}
+use Rattle.boot.specs.declared.geometry.Geometry.{Geometry}
 use Rattle.boot.specs.declared.layout.Layout.{Layout}
-use Rattle.boot.specs.Limits.{inMap}
-use Rattle.boot.specs.Layout.{Laid, Apart, inHeap}
+use Rattle.boot.specs.Limits.{inMap, limits}
+use Rattle.boot.specs.Layout.{Laid, Apart, inHeap, layoutOf}
 use Rattle.boot.specs.Causes.{firstCause, heapCause}
 use Rattle.boot.proofs.CauseLaws.{cause-skip, cause-met, cause-last, heap-met, heap-kept}
 use Rattle.boot.proofs.Apart.{in-heap}
@@ -26,14 +27,14 @@ use Rattle.stream.specs.declared.allocation.Allocation.{Allocation}
 use Rattle.stream.specs.Stream.{numberOf, streamOf}
 use Rattle.stream.specs.Along.{after, along}
 use Rattle.stream.specs.Listing.{clustersOf}
-use Rattle.stream.proofs.StreamLaws.{along-step, length-along, along-head, along-rest, Read}
+use Rattle.stream.proofs.StreamLaws.{along-step, length-along, along-head, along-rest}
 use Rattle.stream.proofs.ListingLaws.{stream-read}
 use Rattle.stream.proofs.Distinct.{last-in, along-cong, read-distinct}
 use Rattle.write_alloc.specs.declared.answer.Answer.{Answer}
 use Rattle.write_alloc.specs.declared.shrink.Kept.{Kept}
-use Rattle.write_alloc.specs.Outcome.{Outcome, unchanged, empty}
+use Rattle.write_alloc.specs.Outcome.{Outcome, unchanged}
 use Rattle.write_alloc.specs.Kept.{ahead, keptPart, partRecord}
-use Rattle.write_alloc.specs.Shrink.{systemCause, freeAll, risingFrom, rising, keptRecord, endKept, shrinkCause, cut, shrinkIn}
+use Rattle.write_alloc.specs.Shrink.{systemCause, freeAll, risingFrom, rising, keptRecord, endKept, shrinkCause, cut, shrinkIn, shrinkClusters}
 
 -- ---- lists put together
 
@@ -95,6 +96,14 @@ module _ (fat : ℕ → ℕ) (run : Bool) where
   unfolding keptPart along lastOr rising ahead
   kept-some k zero h = absurd (h refl)
   kept-some k (suc n) h = rw sub-one (sym (walk-is true k n))
+
+  pub part-next : (k n : ℕ) (p : Kept) → p ≡ keptPart fat run k n → p .next ≡ ahead fat run k n
+  unfolding keptPart
+  part-next k n p e = ap (λ (x : Kept). x .next) e
+
+  pub part-last : (k n : ℕ) (p : Kept) → p ≡ keptPart fat run k n → p .last ≡ lastOr 0 (along fat run k n)
+  unfolding keptPart
+  part-last k n p e = ap (λ (x : Kept). x .last) e
 
   -- ---- system clusters
 
@@ -295,9 +304,19 @@ module _ (y : Layout) (d : List ℕ) (a : Allocation) (keep : ℕ) (l : Laid y) 
             (λ p. distinct-apart (keptOf y d a keep) (freedOf y d a keep) whole-distinct j
             (subst (λ (x : ℕ). Mem x (keptOf y d a keep)) (sym p) (last-mem (fatEntry y d) (a .«no_fat_chain») (a .first) keep n)) m)
 
-    pub freed-same : along (fatEntry y d′) (a .«no_fat_chain») (ahead (fatEntry y d) (a .«no_fat_chain») (a .first) keep) (a .count - keep) ≡ freedOf y d a keep
+    freed-same : along (fatEntry y d′) (a .«no_fat_chain») (ahead (fatEntry y d) (a .«no_fat_chain») (a .first) keep) (a .count - keep) ≡ freedOf y d a keep
     freed-same =
         along-cong (fatEntry y d) (fatEntry y d′) (a .«no_fat_chain») (ahead (fatEntry y d) (a .«no_fat_chain») (a .first) keep) (a .count - keep) ended
+
+    module _ (k : ℕ) (n : k ≡ ahead (fatEntry y d) (a .«no_fat_chain») (a .first) keep) where
+      pub left-same : along (fatEntry y d′) (a .«no_fat_chain») k (a .count - keep) ≡ freedOf y d a keep
+      left-same = ap (λ (x : ℕ). along (fatEntry y d′) (a .«no_fat_chain») x (a .count - keep)) n ∙ freed-same
+
+      pub left-heap : every (inHeap (y .count)) (along (fatEntry y d′) (a .«no_fat_chain») k (a .count - keep)) ≡ true
+      left-heap = ap (every (inHeap (y .count))) left-same ∙ freed-heap
+
+      pub left-distinct : Distinct (along (fatEntry y d′) (a .«no_fat_chain») k (a .count - keep))
+      left-distinct = subst Distinct (sym left-same) freed-distinct
 
 -- ---- what the call answers and leaves
 
@@ -357,3 +376,13 @@ module _ (y : Layout) (d m : List ℕ) (a : Allocation) (keep hint : ℕ) where
               freed-is y d a keep w l e,
               part-record (fatEntry y d) a keep,
             ) (refl, refl)
+
+module _ (g : Geometry) (d m : List ℕ) (a : Allocation) (keep hint : ℕ) where
+  pub shrink-limits : limits g (length d) m ≡ false → Shown (shrinkClusters g d m a keep hint) (record { number = 1; allocation = a; hint = hint }) d
+  unfolding shrinkClusters
+  shrink-limits e = rw e (refl, refl)
+
+  pub shrink-is : (r : Answer) (e : List ℕ) → limits g (length d) m ≡ true → r ≡ shrinkIn (layoutOf g (length d)) d m a keep hint .answer
+      → e ≡ shrinkIn (layoutOf g (length d)) d m a keep hint .volume → Shown (shrinkClusters g d m a keep hint) r e
+  unfolding shrinkClusters
+  shrink-is r e h p q = rw h (p, q)

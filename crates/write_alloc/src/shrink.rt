@@ -154,7 +154,14 @@ fn shrink_read(vol: &mut [u8], map: &[u8], y: Layout, a: Allocation, keep: u32, 
 }
 
 // The same once the limits are known to hold.
-pub fn shrink_in(vol: &mut [u8], map: &[u8], y: Layout, a: Allocation, keep: u32, hint: u32) -> Answer
+pub fn shrink_in(
+    vol: &mut [u8],
+    map: &[u8],
+    y: Layout,
+    a: Allocation,
+    keep: u32,
+    hint: u32,
+) -> Answer
     requires { ⌜ Laid y × ((length (now vol) ≡ y .len) × ((y .count ≤ 8 * length (now map)) × Apart y)) ⌝ }
     ensures { λ r. ⌜ (r ≡ shrinkIn y (now (vol .entry)) (now (map .entry)) a keep hint .answer) × (now (vol .exit) ≡ shrinkIn y (now (vol .entry)) (now (map .entry)) a keep hint .volume) ⌝ }
 {

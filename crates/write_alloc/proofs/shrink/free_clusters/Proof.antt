@@ -1,4 +1,3 @@
-use Prim.Native.Nat.{_+_, _<_}
 use mathlib.Core.Bool.{true}
 use mathlib.Core.Path.{_≡_, refl, sym, _∙_}
 use native.Mathlib.Omega.{arith}
@@ -52,16 +51,15 @@ loop-again c =
     let i = l .inv in
     let len = i .0 ∙ p .1 .0 in
     let q : c .before .before .mark .last .0 ≡ freeOne (c .before .before .before .before .before .before .before .before .before .before .before .before .before .args .y) (l .vol) (l .k) = cc in
-    let e = c .before .before .before .before .before .before .before .before .next-cluster .ensures in
-    (
-    omega arith,
-    (
-    rw (q, e) (free-heap _ _ (p .0) (p .1 .1 .0) len _ _ _ (omega arith) (i .1 .0) (i .1 .1 .0)),
-    (
-    rw (q, e) (free-distinct _ _ (p .0) (p .1 .1 .0) len _ _ _ (omega arith) (i .1 .0) (i .1 .1 .0)),
-    rw (q, e) (sym (free-step _ _ (p .0) (p .1 .1 .0) len _ _ _ (omega arith) (i .1 .0) (i .1 .1 .0)) ∙ i .1 .1 .1)
-    )
-    )
+    let e = c .before .before .before .before .before .before .before .before .next-cluster .ensures in (
+      omega arith,
+      (
+        rw (q, e) (free-heap _ _ (p .0) (p .1 .1 .0) len _ _ _ (omega arith) (i .1 .0) (i .1 .1 .0)),
+        (
+          rw (q, e) (free-distinct _ _ (p .0) (p .1 .1 .0) len _ _ _ (omega arith) (i .1 .0) (i .1 .1 .0)),
+          rw (q, e) (sym (free-step _ _ (p .0) (p .1 .1 .0) len _ _ _ (omega arith) (i .1 .0) (i .1 .1 .0)) ∙ i .1 .1 .1),
+        ),
+      ),
     )
 
 same-length : tie.Need-same-length Inv-loop μ-loop

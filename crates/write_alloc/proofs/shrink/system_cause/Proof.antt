@@ -1,4 +1,3 @@
-use Prim.Native.Nat.{_+_, _<_}
 use mathlib.Core.Bool.{true}
 use mathlib.Core.Path.{_≡_, refl, sym, _∙_}
 use native.Mathlib.Omega.{arith}
