@@ -4,7 +4,6 @@ use mathlib.Core.Logic.{_≢_}
 use mathlib.Core.Bool.{Bool, true, false, _&&_, _||_, cond}
 use mathlib.Core.List.{List, [], _∷_, _++_}
 use Prim.Native.Nat.{ℕ, zero, suc, _+_, _-_, _≤_, _<_}
-use native.Mathlib.Decide.{ℕ-discrete}
 use native.Mathlib.Numerals.{sub-one}
 use native.Mathlib.Omega.{arith}
 use lib.Dec.{eqb, leb}
@@ -12,6 +11,7 @@ use lib.ListN.{length, take, drop}
 use lib.Seq.{take-append-seam, drop-append-seam}
 use borrow.Author.Tests.{eq-eqb, ne-eqb, le-leb, lt-leb}
 use Rattle.tables.specs.Lists.{Mem, here, there, Distinct, more, every, lastOr}
+use Rattle.tables.proofs.Cases.{cond-case}
 use Rattle.tables.proofs.ListLaws.{mem-left, mem-right, every-mem, mem-every}
 use Rattle.boot.specs.declared.geometry.Geometry.{Geometry}
 use Rattle.boot.specs.declared.layout.Layout.{Layout}
@@ -142,8 +142,16 @@ module _ (y : Layout) (d : List ℕ) (a : Allocation) where
   end-some fat run k zero h t = absurd (h refl)
   end-some fat run k (suc n) h t = rw t refl
 
+-- what holds of the volume whether or not an end is stored
+pub end-case : (y : Layout) (d : List ℕ) (a : Allocation) (P : List ℕ → Type 0) (ks : List ℕ) → P d
+    → ((c : ℕ) (cs : List ℕ) → ks ≡ c ∷ cs → a .«no_fat_chain» ≡ false → P (setFat y d (lastOr c cs) END)) → P (endKept y d a ks)
+unfolding endKept
+end-case y d a P [] p q = p
+end-case y d a P (c ∷ cs) p q =
+    cond-case P (a .«no_fat_chain») d (setFat y d (lastOr c cs) END) (λ t. p) (λ t. q c cs refl t)
+
 -- the last of some clusters is one of them
-pub last-mem : (fat : ℕ → ℕ) (run : Bool) (k n : ℕ) → n ≢ 0 → Mem (lastOr 0 (along fat run k n)) (along fat run k n)
+last-mem : (fat : ℕ → ℕ) (run : Bool) (k n : ℕ) → n ≢ 0 → Mem (lastOr 0 (along fat run k n)) (along fat run k n)
 unfolding along lastOr
 last-mem fat run k zero h = absurd (h refl)
 last-mem fat run k (suc n) h = last-in k (along fat run (after fat run k) n)
@@ -291,18 +299,15 @@ module _ (y : Layout) (d : List ℕ) (a : Allocation) (keep : ℕ) (l : Laid y) 
   -- the freed ones are read as before once the kept ones have their end
   module _ (z : Apart y) (len : length d ≡ y .len) (d′ : List ℕ) (q : d′ ≡ endKept y d a (keptOf y d a keep)) where
     ended : (j : ℕ) → Mem j (freedOf y d a keep) → fatEntry y d′ j ≡ fatEntry y d j
-    ended j m = rw q (by (a .«no_fat_chain») refl (ℕ-discrete keep 0))
-      where
-        by : (b : Bool) → a .«no_fat_chain» ≡ b → Dec (keep ≡ 0) → fatEntry y (endKept y d a (keptOf y d a keep)) j ≡ fatEntry y d j
-        by true t k = ap (λ (x : List ℕ). fatEntry y x j) (end-run y d a (keptOf y d a keep) t)
-        by false t (yes n) = ap (λ (x : List ℕ). fatEntry y x j) (end-none y d a (fatEntry y d) (a .«no_fat_chain») (a .first) keep n)
-        by false t (no n) =
-            ap (λ (x : List ℕ). fatEntry y x j) (end-some y d a (fatEntry y d) (a .«no_fat_chain») (a .first) keep n t)
-            ∙ fat-fat-other y d (record { laid = l; apart = z; long = len }) (lastOr 0 (keptOf y d a keep)) END j
-            (last-heap (y .count) (fatEntry y d) (a .«no_fat_chain») (a .first) keep (lastOr 0 (keptOf y d a keep)) n kept-heap refl)
-            (in-heap (y .count) j (every-mem (inHeap (y .count)) (freedOf y d a keep) freed-heap j m) .1)
-            (λ p. distinct-apart (keptOf y d a keep) (freedOf y d a keep) whole-distinct j
-            (subst (λ (x : ℕ). Mem x (keptOf y d a keep)) (sym p) (last-mem (fatEntry y d) (a .«no_fat_chain») (a .first) keep n)) m)
+    ended j m =
+        rw q
+        (end-case y d a (λ x. fatEntry y x j ≡ fatEntry y d j) (keptOf y d a keep) refl
+        (λ c cs p t.
+        let i : Mem (lastOr c cs) (keptOf y d a keep) = subst (Mem (lastOr c cs)) (sym p) (last-in c cs) in
+        fat-fat-other y d (record { laid = l; apart = z; long = len }) (lastOr c cs) END j
+        (in-heap (y .count) (lastOr c cs) (every-mem (inHeap (y .count)) (keptOf y d a keep) kept-heap (lastOr c cs) i) .1)
+        (in-heap (y .count) j (every-mem (inHeap (y .count)) (freedOf y d a keep) freed-heap j m) .1)
+        (λ r. distinct-apart (keptOf y d a keep) (freedOf y d a keep) whole-distinct j (subst (λ (x : ℕ). Mem x (keptOf y d a keep)) (sym r) i) m)))
 
     freed-same : along (fatEntry y d′) (a .«no_fat_chain») (ahead (fatEntry y d) (a .«no_fat_chain») (a .first) keep) (a .count - keep) ≡ freedOf y d a keep
     freed-same =
@@ -324,7 +329,7 @@ abbrev pub Shown : Outcome → Answer → List ℕ → Type 0
 Shown o r d = (r ≡ o .answer) × (d ≡ o .volume)
 
 module _ (y : Layout) (d m : List ℕ) (a : Allocation) (keep hint : ℕ) where
-  shrink-by : (idle : Bool) (n : ℕ) → leb (a .count) keep ≡ idle
+  pub shrink-by : (idle : Bool) (n : ℕ) → leb (a .count) keep ≡ idle
       → firstCause (heapCause (y .count) hint ∷ cond idle 0 (shrinkCause y d m a keep) ∷ []) ≡ n
       → shrinkIn y d m a keep hint ≡ cond (eqb n 0) (cond idle (unchanged 0 a hint d) (cut y d a keep hint)) (unchanged n a hint d)
   unfolding shrinkIn

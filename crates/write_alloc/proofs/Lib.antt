@@ -4,3 +4,4 @@ pub mod Runs
 pub mod TakeLaws
 pub mod Taking
 pub mod Cutting
+pub mod ShrinkLaws
