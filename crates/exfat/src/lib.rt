@@ -8,6 +8,7 @@ ghost use Rattle.metadata.specs.Free.{freeClusters};
 ghost use Rattle.stream.specs.Listing.{listingNumber, listingList};
 ghost use Rattle.write_alloc.specs.Allocate.{allocateClusters};
 ghost use Rattle.write_alloc.specs.Extend.{extendClusters};
+ghost use Rattle.write_alloc.specs.Shrink.{shrinkClusters};
 ghost use Rattle.exfat.specs.Words.{flagOf, geometryOf, allocationOf, countWords, answerWords};
 
 // How many clusters are free.
@@ -77,5 +78,24 @@ pub extern "C" fn exfat_extend(
     let g = words::geometry_of(geometry);
     let a = words::allocation_of(allocation);
     let r = write_alloc::extend::extend_clusters(vol, map, g, a, more, hint);
+    words::put_answer(out, r)
+}
+
+// A record cut to its first `keep` clusters.
+#[no_mangle]
+pub extern "C" fn exfat_shrink(
+    vol: &mut [u8],
+    map: &[u8],
+    geometry: &[u32; 11],
+    allocation: &[u32; 4],
+    keep: u32,
+    hint: u32,
+    out: &mut [u32; 8],
+) -> u32
+    ensures { λ r. ⌜ (let o = shrinkClusters (geometryOf (now (geometry .entry))) (now (vol .entry)) (now (map .entry)) (allocationOf (now (allocation .entry))) keep hint in (r ≡ o .answer .number) × ((now (vol .exit) ≡ o .volume) × (now (out .exit) ≡ answerWords (o .answer)))) ⌝ }
+{
+    let g = words::geometry_of(geometry);
+    let a = words::allocation_of(allocation);
+    let r = write_alloc::shrink::shrink_clusters(vol, map, g, a, keep, hint);
     words::put_answer(out, r)
 }
