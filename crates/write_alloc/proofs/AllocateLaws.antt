@@ -12,6 +12,7 @@ use lib.Seq.{length-take-le, getD-take}
 use borrow.Author.Tests.{eq-eqb, ne-eqb, eqb-true, lt-ltb, le-ltb}
 use Rattle.tables.specs.Lists.{Mem, here, there, lastOr}
 use Rattle.tables.specs.Count.{count}
+use Rattle.tables.proofs.Cases.{or-true}
 use Rattle.tables.proofs.ListLaws.{mem-take}
 use Rattle.boot.specs.declared.layout.Layout.{Layout}
 use Rattle.boot.specs.Layout.{Laid, Apart, inHeap, layoutOf}
@@ -58,10 +59,6 @@ prev-none y d = refl
 pub prev-heap : (y : Layout) (d : List ℕ) (k : ℕ) → inHeap (y .count) k ≡ true → marked y d k ≡ true → prevOk y d k ≡ true
 unfolding prevOk
 prev-heap y d k h e = rw (h, e) (or-true (eqb k 0))
-  where
-    or-true : (b : Bool) → b || true ≡ true
-    or-true true = refl
-    or-true false = refl
 
 pub prev-facts : (y : Layout) (d : List ℕ) (prev : ℕ) → prevOk y d prev ≡ true → Prev y d prev
 unfolding prevOk
