@@ -29,9 +29,8 @@ static uint32_t geometry[11];
 static size_t volume_len, map_len, metadata_len;
 static uint32_t first_free; /* the first cluster behind the system's */
 
-/* A call on `volume`, and what it answers. */
+/* What a call on `volume` is given besides it. */
 struct call {
-    const char *name;
     uint32_t record[4];
     uint32_t number; /* count, more or keep */
 };
@@ -130,10 +129,10 @@ static void keep(uint32_t (*run)(const struct call *, uint32_t *), struct call *
     memcpy(c->record, out, sizeof c->record);
 }
 
-/* The four calls at one place of the tables: n clusters taken, n added to a record of n, n cut to 0 and to half. */
+/* A row of a table: n clusters taken; n added to that record; the record of n cut to 0, and to half. */
 static void row(uint32_t clusters, enum heap heap, uint32_t n)
 {
-    struct call c = {"", {0, 0, 0, 0}, n};
+    struct call c = {{0, 0, 0, 0}, n};
 
     make_volume(clusters, heap);
     double taken = median(allocate, &c);
@@ -149,7 +148,7 @@ static void row(uint32_t clusters, enum heap heap, uint32_t n)
 static void head(const char *title)
 {
     printf("\n%s\n", title);
-    printf("%-10s  %8s  %8s  %10s  %10s  %10s  %10s\n", "heap", "C", "n", "allocate n", "extend n+n", "shrink n:0", "n:n/2");
+    printf("%-10s  %8s  %8s  %10s  %10s  %10s  %10s\n", "heap", "C", "n", "allocate", "extend", "shrink", "to half");
 }
 
 static void copy_time(void)
@@ -172,7 +171,8 @@ int main(void)
 
     memset(pristine, 0xA5, VOLUME_BYTES);
     memset(volume, 0xA5, VOLUME_BYTES);
-    printf("Medians of %d calls, in microseconds. C: clusters of the volume; n: clusters of the call.\n", RUNS);
+    printf("Medians of %d calls, in microseconds, on a volume of C clusters.\n", RUNS);
+    puts("allocate: n clusters; extend: that record by n more; shrink: the record of n to 0; to half: the same to n / 2.");
     for (int heap = EMPTY; heap <= FRAGMENTED; heap++) {
         head("n grows, C stays");
         for (size_t i = 0; i < sizeof counts / sizeof *counts; i++)
