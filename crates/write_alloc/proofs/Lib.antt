@@ -6,3 +6,4 @@ pub mod Taking
 pub mod FirstLaws
 pub mod AllocateLaws
 pub mod ExtendLaws
+pub mod GrowLaws
