@@ -4,7 +4,7 @@ use mathlib.Core.Logic.{_≢_}
 use mathlib.Core.Bool.{Bool, true, false, cond}
 use mathlib.Core.List.{List, [], _∷_, _++_}
 use Prim.Native.Nat.{ℕ, zero, suc, _+_, _-_, _^_, _≤_, _<_}
-use native.Mathlib.Decide.{decLt}
+use native.Mathlib.Decide.{ℕ-discrete, decLt}
 use native.Mathlib.Omega.{arith}
 use lib.Dec.{eqb}
 use lib.ListN.{length, take, getD}
@@ -33,7 +33,7 @@ use Rattle.write_alloc.specs.Take.{markRun, takeAll}
 use Rattle.write_alloc.specs.Outcome.{Outcome, unchanged, empty}
 use Rattle.write_alloc.specs.Allocate.{nearCause, newRun, newChain, newStream, allocateIn}
 use Rattle.write_alloc.proofs.Links.{last-in, Linked, linked-at}
-use Rattle.write_alloc.proofs.ChoiceLaws.{Whole, choose-inside, chosen-run, chosen-scattered, length-chosen, in-chosen, chosen-distinct, few-count, count-few}
+use Rattle.write_alloc.proofs.ChoiceLaws.{Whole, choose-inside, chosen-run, chosen-scattered, length-chosen, in-chosen, chosen-distinct, few-count, count-few, enough-count}
 use Rattle.write_alloc.proofs.TakeLaws.{Before, Inside, length-markRun, length-takeAll, fits-takeAll, run-mark, run-mark-other, run-fat, run-byte, run-count-marks, taken-mark, taken-mark-other, taken-fat-other, taken-byte, taken-count, taken-linked, taken-joined}
 use Rattle.write_alloc.proofs.AllocateLaws.{stream-run, stream-chain, stream-few, start-heap, in-hint, in-none, in-free, in-near, in-new}
 
@@ -240,3 +240,102 @@ module _ (y : Layout) (d m : List ℕ) (w : Fits y d) where
       by TooFew q =
           let z : _≡_ {A = ℕ} 7 0 = ap (λ (o : Outcome). o .answer .number) (sym (stream-few y d m n start hint q)) ∙ e in
           absurd (omega arith)
+
+-- ---- allocate
+
+module _ (y : Layout) (d m : List ℕ) (w : Fits y d) (n : ℕ) (given : Bool) (near hint : ℕ) where
+  -- the search starts in the heap, n are usable, n are chosen, and they are taken
+  abbrev pub Allocated : Type 0
+  Allocated =
+      (inHeap (y .count) (cond given near hint) ≡ true)
+      × (n ≤ count (isUsable y d m) 2 (y .count))
+      × (length (chosen (isUsable y d m) (y .count) n (cond given near hint)) ≡ n)
+      × Grows y d m (allocateIn y d m n given near hint) [] (chosen (isUsable y d m) (y .count) n (cond given near hint))
+
+  pub allocate-grown : 1 ≤ n → allocateIn y d m n given near hint .answer .number ≡ 0 → Allocated
+  allocate-grown one e = by (inHeap (y .count) hint) refl (decLt (freeCount y d) n) (eqb (nearCause (y .count) given near) 0) refl
+    where
+      start : ℕ
+      start = cond given near hint
+
+      number : (o : Outcome) → allocateIn y d m n given near hint ≡ o → o .answer .number ≡ 0
+      number o q = ap (λ (o : Outcome). o .answer .number) (sym q) ∙ e
+
+      by : (b : Bool) → inHeap (y .count) hint ≡ b → Dec (freeCount y d < n) → (c : Bool) → eqb (nearCause (y .count) given near) 0 ≡ c → Allocated
+      by false p f c q = let z : _≡_ {A = ℕ} 2 0 = number (unchanged 2 empty hint d) (in-hint y d m n given near hint p) in absurd (omega arith)
+      by true p (yes f) c q =
+          let z : _≡_ {A = ℕ} 7 0 = number (unchanged 7 empty hint d) (in-free y d m n given near hint p (λ t. omega arith) f) in absurd (omega arith)
+      by true p (no f) false q =
+          let z : _≡_ {A = ℕ} 2 0 = number (unchanged 2 empty hint d) (in-near y d m n given near hint p (λ t. omega arith) (omega arith) q) in absurd (omega arith)
+      by true p (no f) true q =
+          let r = in-new y d m n given near hint p (λ t. omega arith) (omega arith) q in
+          let h = start-heap (y .count) given near hint p q in
+          let s = in-heap (y .count) start h in
+          let t : choose (isUsable y d m) (y .count) n start ≢ TooFew = λ z. seven (number (unchanged 7 empty hint d) (r ∙ stream-few y d m n start hint z)) in (
+            h,
+            enough-count (isUsable y d m) (y .count) n start (s .0) t,
+            length-chosen (isUsable y d m) (y .count) n start (s .0) (omega arith) t,
+            subst (λ (o : Outcome). Grows y d m o [] (chosen (isUsable y d m) (y .count) n start)) (sym r)
+                (stream-grown y d m w n start hint one h (number (newStream y d m n start hint) r)),
+          )
+        where
+          seven : _≡_ {A = ℕ} 7 0 → ⊥
+          seven z = omega arith
+
+  -- refused, or with nothing to take, it leaves the volume and answers with the empty record
+  pub allocate-kept : ((allocateIn y d m n given near hint .answer .number ≡ 0) × (1 ≤ n) → ⊥)
+      → allocateIn y d m n given near hint ≡ unchanged (allocateIn y d m n given near hint .answer .number) empty hint d
+  allocate-kept o = by (inHeap (y .count) hint) refl (ℕ-discrete n 0) (decLt (freeCount y d) n) (eqb (nearCause (y .count) given near) 0) refl
+    where
+      start : ℕ
+      start = cond given near hint
+
+      again : (x : ℕ) → allocateIn y d m n given near hint ≡ unchanged x empty hint d
+          → allocateIn y d m n given near hint ≡ unchanged (allocateIn y d m n given near hint .answer .number) empty hint d
+      again x q = q ∙ ap (λ (z : ℕ). unchanged z empty hint d) (sym (ap (λ (o : Outcome). o .answer .number) q))
+
+      by : (b : Bool) → inHeap (y .count) hint ≡ b → Dec (n ≡ 0) → Dec (freeCount y d < n) → (c : Bool) → eqb (nearCause (y .count) given near) 0 ≡ c
+          → allocateIn y d m n given near hint ≡ unchanged (allocateIn y d m n given near hint .answer .number) empty hint d
+      by false p z f c q = again 2 (in-hint y d m n given near hint p)
+      by true p (yes z) f c q = again 0 (in-none y d m n given near hint p z)
+      by true p (no z) (yes f) c q = again 7 (in-free y d m n given near hint p z f)
+      by true p (no z) (no f) false q = again 2 (in-near y d m n given near hint p z (omega arith) q)
+      by true p (no z) (no f) true q =
+          let r = in-new y d m n given near hint p z (omega arith) q in
+          again 7 (r ∙ stream-few y d m n start hint (few (choose (isUsable y d m) (y .count) n start) refl r))
+        where
+          few : (c : Choice) → choose (isUsable y d m) (y .count) n start ≡ c
+              → allocateIn y d m n given near hint ≡ newStream y d m n start hint → c ≡ TooFew
+          few TooFew t r = refl
+          few (Run k) t r =
+              absurd (o (ap (λ (o : Outcome). o .answer .number) (r ∙ stream-run y d m n start hint k t) ∙ (unfold newRun in refl), omega arith))
+          few Scattered t r =
+              let l = in-heap (y .count) start (start-heap (y .count) given near hint p q) .0 in
+              absurd (o (ap (λ (o : Outcome). o .answer .number) (r ∙ stream-chain y d m n start hint l t) ∙ (unfold newChain in refl), omega arith))
+
+  -- where hint and near are in the heap, the one cause is that fewer are usable than wanted
+  module _ (one : 1 ≤ n) (hint-in : inHeap (y .count) hint ≡ true) (near-in : eqb (nearCause (y .count) given near) 0 ≡ true) where
+    pub allocate-few : count (isUsable y d m) 2 (y .count) < n → allocateIn y d m n given near hint ≡ unchanged 7 empty hint d
+    allocate-few h =
+        elim (decLt (freeCount y d) n) [
+          | yes f ↦ in-free y d m n given near hint hint-in (λ t. omega arith) f
+          | no f ↦ in-new y d m n given near hint hint-in (λ t. omega arith) (omega arith) near-in
+              ∙ stream-few y d m n (cond given near hint) hint
+              (count-few (isUsable y d m) (y .count) n (cond given near hint) (in-heap (y .count) (cond given near hint) (start-heap (y .count) given near hint hint-in near-in) .0) h)
+        ]
+
+    pub allocate-enough : n ≤ count (isUsable y d m) 2 (y .count) → allocateIn y d m n given near hint .answer .number ≡ 0
+    allocate-enough h =
+        let f : n ≤ freeCount y d = omega (arith, usable-enough) in
+        let r = in-new y d m n given near hint hint-in (λ t. omega arith) f near-in in
+        ap (λ (o : Outcome). o .answer .number) r ∙ by (choose (isUsable y d m) (y .count) n (cond given near hint)) refl
+      where
+        usable-enough : count (isUsable y d m) 2 (y .count) ≤ freeCount y d
+        usable-enough = unfold usableCount in (usable-free y d m)
+
+        by : (c : Choice) → choose (isUsable y d m) (y .count) n (cond given near hint) ≡ c → newStream y d m n (cond given near hint) hint .answer .number ≡ 0
+        by (Run k) t = ap (λ (o : Outcome). o .answer .number) (stream-run y d m n (cond given near hint) hint k t) ∙ (unfold newRun in refl)
+        by Scattered t =
+            let l = in-heap (y .count) (cond given near hint) (start-heap (y .count) given near hint hint-in near-in) .0 in
+            ap (λ (o : Outcome). o .answer .number) (stream-chain y d m n (cond given near hint) hint l t) ∙ (unfold newChain in refl)
+        by TooFew t = let c = few-count (isUsable y d m) (y .count) n (cond given near hint) t in absurd (omega arith)
