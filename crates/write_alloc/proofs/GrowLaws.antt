@@ -72,7 +72,7 @@ module _ (y : Layout) (d m : List ℕ) (ks : List ℕ) (f : Fresh y d m ks) wher
 -- ---- a run
 
 module _ (y : Layout) (d m : List ℕ) (w : Fits y d) (k n : ℕ) (low : 2 ≤ k) (high : k + n ≤ y .count + 2) (whole : Whole (isUsable y d m) k n) where
-  run-fresh : Fresh y d m (consec k n)
+  pub run-fresh : Fresh y d m (consec k n)
   run-fresh = record {
     usable = mem-every (isUsable y d m) (consec k n) (λ j i. let r = in-consec k n j i in whole j (r .0) (r .1));
     heap = mem-every (inHeap (y .count)) (consec k n) (λ j i. let r = in-consec k n j i in heap-in (y .count) j (omega arith) (omega arith));

@@ -7,3 +7,4 @@ pub mod FirstLaws
 pub mod AllocateLaws
 pub mod ExtendLaws
 pub mod GrowLaws
+pub mod LongerLaws
