@@ -1,13 +1,13 @@
 -- What taking clusters does to a volume, as one record, and that allocate does that. Assumes nothing.
 use mathlib.Core.Path.{_≡_, refl, sym, _∙_, ap, subst}
 use mathlib.Core.Logic.{_≢_}
-use mathlib.Core.Bool.{Bool, true, false, cond}
+use mathlib.Core.Bool.{Bool, true, false, cond, false≢true}
 use mathlib.Core.List.{List, [], _∷_, _++_}
-use Prim.Native.Nat.{ℕ, zero, suc, _+_, _-_, _^_, _≤_, _<_}
+use Prim.Native.Nat.{ℕ, _+_, _-_, _≤_, _<_}
 use native.Mathlib.Decide.{ℕ-discrete, decLt}
 use native.Mathlib.Omega.{arith}
 use lib.Dec.{eqb}
-use lib.ListN.{length, take, getD}
+use lib.ListN.{length, take}
 use Rattle.tables.specs.Lists.{Mem, here, there, Distinct, more, every, lastOr, consec}
 use Rattle.tables.specs.Count.{count}
 use Rattle.tables.proofs.Cases.{clash}
@@ -19,13 +19,14 @@ use Rattle.metadata.specs.Fat.{END, fatEntry, setFat}
 use Rattle.metadata.specs.Marks.{marked, freeCount}
 use Rattle.metadata.specs.Usable.{isUsable}
 use Rattle.metadata.specs.Cluster.{clusterByte}
-use Rattle.metadata.proofs.Frame.{Fits, length-fat, fat-fat-same, fat-fat-other, mark-fat, cluster-fat}
+use Rattle.metadata.proofs.Frame.{Fits, fits-kept, length-fat, fat-fat-same, fat-fat-other, mark-fat, cluster-fat}
 use Rattle.metadata.proofs.View.{plain}
-use Rattle.metadata.proofs.Counting.{markedCount, fat-counts, usable-facts, usable-free, usableCount}
+use Rattle.metadata.proofs.Counting.{markedCount, free-is-unmarked, fat-counts, usable-facts, usable-free, usableCount}
 use Rattle.stream.specs.declared.allocation.Allocation.{Allocation}
 use Rattle.stream.specs.Chain.{listed}
 use Rattle.stream.specs.Stream.{streamOf}
-use Rattle.stream.proofs.Distinct.{chain-links, chain-listed, run-listed, record-listed}
+use Rattle.stream.proofs.StreamLaws.{Read, read-facts}
+use Rattle.stream.proofs.Distinct.{chain-links, chain-listed, run-listed, record-listed, stream-frame}
 use Rattle.write_alloc.specs.declared.choice.Choice.{Choice}
 use Rattle.write_alloc.specs.declared.choice.Choice.the-variants.{Run, Scattered, TooFew}
 use Rattle.write_alloc.specs.Choice.{choose, chosen}
@@ -68,6 +69,31 @@ module _ (y : Layout) (d m : List ℕ) (ks : List ℕ) (f : Fresh y d m ks) wher
 
   pub fresh-unmarked : (k : ℕ) → Mem k ks → marked y d k ≡ false
   fresh-unmarked k i = usable-facts y d m k (every-mem (isUsable y d m) ks (f .usable) k i) .0
+
+-- ---- what follows
+
+module _ (y : Layout) (d m d′ : List ℕ) (a : Allocation) (old new : List ℕ) (w : Fits y d) (g : Grown y d m d′ a old new) where
+  pub grown-fits : Fits y d′
+  grown-fits = fits-kept y d d′ (g .long) w
+
+  pub grown-free : freeCount y d′ + length new ≡ freeCount y d
+  grown-free = omega (arith, g .counts, free-is-unmarked y d, free-is-unmarked y d′)
+
+  -- a stream that shares no cluster with the old one is kept: none of its clusters was usable
+  pub grown-other : (b : Allocation) (ks : List ℕ) → streamOf y d b ≡ listed ks → ((k : ℕ) → Mem k ks → Mem k old → ⊥) → streamOf y d′ b ≡ listed ks
+  unfolding streamOf
+  grown-other b ks e o =
+      stream-frame (y .count) (fatEntry y d) (fatEntry y d′) (marked y d) (marked y d′) b ks (small y d w)
+      (λ k i. g .fat-kept k (heap k i) (o k i) (off k i)) (λ k i. g .marks-kept k (heap k i) (off k i)) e
+    where
+      r : Read (y .count) (fatEntry y d) (marked y d) b ks
+      r = read-facts (y .count) (fatEntry y d) (marked y d) b ks e
+
+      heap : (k : ℕ) → Mem k ks → inHeap (y .count) k ≡ true
+      heap k i = every-mem (inHeap (y .count)) ks (r .heap) k i
+
+      off : (k : ℕ) → Mem k ks → Mem k new → ⊥
+      off k i j = false≢true (sym (fresh-unmarked y d m new (g .fresh) k j) ∙ every-mem (marked y d) ks (r .marks) k i)
 
 -- ---- a run
 
@@ -176,11 +202,11 @@ module _ (y : Layout) (d m : List ℕ) (w : Fits y d) where
   new-chain-grown (b ∷ bs) f h = record {
     long = sealed-long y d w 0 b bs before inside (f .distinct);
     reads =
-      record-listed (y .count) (fatEntry y d′) (marked y d′) a b bs refl
-      (chain-listed (y .count) (fatEntry y d′) (small y d w) b b bs
-      (chain-links (y .count) (fatEntry y d′) b bs (sealed-links y d w 0 b bs before inside (f .distinct)) (f .heap)
-      (sealed-end y d w 0 b bs before inside (f .distinct)))) refl refl
-      (mem-every (marked y d′) (b ∷ bs) (sealed-mark y d w 0 b bs before inside (f .distinct)));
+        record-listed (y .count) (fatEntry y d′) (marked y d′) a b bs refl
+        (chain-listed (y .count) (fatEntry y d′) (small y d w) b b bs
+        (chain-links (y .count) (fatEntry y d′) b bs (sealed-links y d w 0 b bs before inside (f .distinct)) (f .heap)
+        (sealed-end y d w 0 b bs before inside (f .distinct)))) refl refl
+        (mem-every (marked y d′) (b ∷ bs) (sealed-mark y d w 0 b bs before inside (f .distinct)));
     fresh = f;
     marks-new = sealed-mark y d w 0 b bs before inside (f .distinct);
     marks-kept = sealed-mark-other y d w 0 b bs before inside (f .distinct);

@@ -1,16 +1,16 @@
 -- That extend takes clusters as GrowLaws says, after those that the record has. Assumes nothing.
 use mathlib.Core.Path.{_≡_, refl, sym, _∙_, ap, ap₂, subst}
-use mathlib.Core.Logic.{_≢_, _⊎_, ⊎-elim}
-use mathlib.Core.Bool.{Bool, true, false, _&&_, cond, false≢true}
+use mathlib.Core.Logic.{⊎-elim}
+use mathlib.Core.Bool.{Bool, true, false, _&&_, false≢true}
 use mathlib.Core.List.{List, [], _∷_, _++_}
-use Prim.Native.Nat.{ℕ, zero, suc, _+_, _-_, _^_, _≤_, _<_}
+use Prim.Native.Nat.{ℕ, zero, suc, _+_, _-_, _≤_, _<_}
 use native.Mathlib.Decide.{ℕ-discrete, decLt}
 use native.Mathlib.Numerals.{sub-one}
 use native.Mathlib.Omega.{arith}
 use lib.Dec.{eqb, leb}
 use lib.ListN.{length, length-append}
 use borrow.Author.Tests.{eqb-true, eqb-false}
-use Rattle.tables.specs.Lists.{Mem, here, there, Distinct, every, lastOr, consec}
+use Rattle.tables.specs.Lists.{Mem, every, lastOr, consec}
 use Rattle.tables.specs.Count.{count}
 use Rattle.tables.proofs.ListLaws.{mem-append, every-mem, mem-every, consec-in, consec-append}
 use Rattle.tables.proofs.CountLaws.{count-cong}
@@ -32,18 +32,18 @@ use Rattle.stream.specs.Listing.{clustersOf}
 use Rattle.stream.proofs.StreamLaws.{Read}
 use Rattle.stream.proofs.ListingLaws.{stream-read}
 use Rattle.stream.proofs.Distinct.{Chain, chain-links, chain-listed, chain-append, run-listed, record-listed, read-length, read-run, read-chain}
-use Rattle.write_alloc.specs.Choice.{allFrom, choose, chosen}
+use Rattle.write_alloc.specs.Choice.{allFrom, chosen}
 use Rattle.write_alloc.specs.Take.{markRun, linkRun, takeAll}
 use Rattle.write_alloc.specs.Outcome.{Outcome, unchanged, empty, wrap}
 use Rattle.write_alloc.specs.Allocate.{allocateIn}
-use Rattle.write_alloc.specs.Extend.{moreCause, Allowed, inPlace, linkOld, longerRun, longerChain, longer, orGiven, extendIn}
+use Rattle.write_alloc.specs.Extend.{moreCause, Allowed, inPlace, linkOld, longerRun, longerChain, longer, extendIn}
 use Rattle.write_alloc.proofs.Links.{last-append, last-in}
 use Rattle.write_alloc.proofs.Runs.{run-hit, choose-after}
 use Rattle.write_alloc.proofs.ChoiceLaws.{Whole, all-whole, chosen-run, length-chosen, few-count}
 use Rattle.write_alloc.proofs.TakeLaws.{Before, Inside, fits-linkRun, run-link, run-link-other, run-link-byte}
 use Rattle.write_alloc.proofs.AllocateLaws.{wrap-low}
 use Rattle.write_alloc.proofs.ExtendLaws.{more-free, more-few, more-none, allowed-of, place-usable, place-facts, link-chain, link-run, Tail, tail-of, old-kept, length-old, start-in, longer-in, longer-out, given-done, given-refused, extend-hint, extend-none, extend-new, extend-longer, extend-refused}
-use Rattle.write_alloc.proofs.GrowLaws.{Fresh, Grown, Grows, small, fresh-inside, fresh-unmarked, run-fresh, run-new, run-other, run-grown, sealed-long, sealed-mark, sealed-mark-other, sealed-fat, sealed-byte, sealed-count, sealed-end, sealed-links, sealed-first, chosen-fresh, allocate-kept}
+use Rattle.write_alloc.proofs.GrowLaws.{Fresh, Grows, small, fresh-inside, fresh-unmarked, run-fresh, run-new, run-other, run-grown, sealed-long, sealed-mark, sealed-mark-other, sealed-fat, sealed-byte, sealed-count, sealed-end, sealed-links, sealed-first, chosen-fresh, allocate-kept}
 
 -- ---- lists
 
@@ -231,9 +231,9 @@ module _ (y : Layout) (d : List ℕ) (w : Fits y d) (a : Allocation) (some : 1 �
     fat-kept = λ k i o p. sealed-fat y d₀ fits₀ (a .last) b bs before inside (f .distinct) k i (λ e. o (subst (λ (x : ℕ). Mem x old) (sym e) last-old)) p ∙ old-fat k i o;
     bytes-kept = λ k j p q. sealed-byte y d₀ fits₀ (a .last) b bs before inside (f .distinct) k j p q ∙ old-byte k j p q;
     counts =
-      sealed-count y d₀ fits₀ (a .last) b bs before inside (f .distinct)
-      (λ k i. old-mark k (in-heap (y .count) k (inside k i) .1) ∙ fresh-unmarked y d m (b ∷ bs) f k i)
-      ∙ ap (λ (x : ℕ). x + length (b ∷ bs)) old-count;
+        sealed-count y d₀ fits₀ (a .last) b bs before inside (f .distinct)
+        (λ k i. old-mark k (in-heap (y .count) k (inside k i) .1) ∙ fresh-unmarked y d m (b ∷ bs) f k i)
+        ∙ ap (λ (x : ℕ). x + length (b ∷ bs)) old-count;
   }
     where
       before : Before y (a .last)
@@ -284,3 +284,151 @@ module _ (y : Layout) (d : List ℕ) (w : Fits y d) (a : Allocation) (some : 1 �
         where
           last-is : lastOr c cs ≡ a .last
           last-is = ap (lastOr c) (sym q) ∙ read .last nonzero c
+
+-- ---- extend
+
+-- a run whose next clusters are usable: they are the choice
+place-chosen : (y : Layout) (d m : List ℕ) (a : Allocation) (n : ℕ) → 1 ≤ n → 1 ≤ a .last → a .«no_fat_chain» ≡ true → a .last + 1 + n ≤ y .count + 2
+    → allFrom (isUsable y d m) (a .last + 1) n ≡ true → chosen (isUsable y d m) (y .count) n (wrap (y .count) (a .last + 1)) ≡ consec (a .last + 1) n
+place-chosen y d m a n one low t h e =
+    let u = isUsable y d m in
+    ap (chosen u (y .count) n) (wrap-low (y .count) (a .last + 1) (omega arith))
+    ∙ chosen-run u (y .count) n (a .last + 1) (omega arith) (a .last + 1)
+    (choose-after u (y .count) n (a .last + 1) (a .last + 1) (run-hit u (y .count + 2) n (a .last + 1) h e))
+
+place-run : (y : Layout) (d m : List ℕ) (a : Allocation) (n : ℕ) → inPlace y d m a n ≡ true → a .«no_fat_chain» ≡ true
+unfolding inPlace
+place-run y d m a n e = and-left (a .«no_fat_chain») (leb (a .last + 1 + n) (y .count + 2) && allFrom (isUsable y d m) (a .last + 1) n) e
+
+module _ (y : Layout) (d m : List ℕ) (w : Fits y d) (a : Allocation) (n : ℕ) (some : 1 ≤ a .count) (one : 1 ≤ n) (ok : Allowed y d m a n) where
+  start-heap : inHeap (y .count) (wrap (y .count) (a .last + 1)) ≡ true
+  start-heap = start-in y d m a n (w .laid) (w .apart) (w .long) some one ok
+
+  pub length-more : length (chosen (isUsable y d m) (y .count) n (wrap (y .count) (a .last + 1))) ≡ n
+  length-more =
+      let s = in-heap (y .count) (wrap (y .count) (a .last + 1)) start-heap in
+      length-chosen (isUsable y d m) (y .count) n (wrap (y .count) (a .last + 1)) (s .0) (omega arith)
+      (λ q. let h = few-count (isUsable y d m) (y .count) n (wrap (y .count) (a .last + 1)) q in let e = ok .enough in omega arith)
+
+  -- n more clusters are those of the choice from last + 1 on
+  pub longer-grown : Grows y d m (longer y d m a n) (clustersOf (streamOf y d a)) (chosen (isUsable y d m) (y .count) n (wrap (y .count) (a .last + 1)))
+  longer-grown = by (inPlace y d m a n) refl
+    where
+      new : List ℕ
+      new = chosen (isUsable y d m) (y .count) n (wrap (y .count) (a .last + 1))
+
+      by : (b : Bool) → inPlace y d m a n ≡ b → Grows y d m (longer y d m a n) (clustersOf (streamOf y d a)) new
+      by true e =
+          let t = place-run y d m a n e in
+          let h = place-facts y d m a n (w .laid) (w .apart) (w .long) some one ok e in
+          let u = sym (place-usable y d m a n t h) ∙ e in
+          let l = in-heap (y .count) (a .last) (tail-of y d a (ok .reads) some .heap) in
+          subst (λ (o : Outcome). Grows y d m o (clustersOf (streamOf y d a)) new) (sym (longer-in y d m a n e))
+          (subst (λ (ks : List ℕ). Grows y d m (longerRun y d a n) (clustersOf (streamOf y d a)) ks) (sym (place-chosen y d m a n one (omega arith) t h u))
+          (longer-run-grown y d w a some (ok .reads) m n t h (all-whole (isUsable y d m) (a .last + 1) n u)))
+      by false e =
+          subst (λ (o : Outcome). Grows y d m o (clustersOf (streamOf y d a)) new) (sym (longer-out y d m a n e))
+          (longer-chain-grown y d w a some (ok .reads) m new (chosen-fresh y d m w n (wrap (y .count) (a .last + 1)) start-heap) (omega (arith, length-more)))
+
+  pub longer-number : longer y d m a n .answer .number ≡ 0
+  longer-number = by (inPlace y d m a n) refl
+    where
+      by : (b : Bool) → inPlace y d m a n ≡ b → longer y d m a n .answer .number ≡ 0
+      by true e = ap (λ (o : Outcome). o .answer .number) (longer-in y d m a n e) ∙ (unfold longerRun in refl)
+      by false e = ap (λ (o : Outcome). o .answer .number) (longer-out y d m a n e) ∙ (unfold longerChain in refl)
+
+module _ (y : Layout) (d m : List ℕ) (w : Fits y d) (a : Allocation) (n hint : ℕ) where
+  -- a record that has clusters: nothing refuses, n are chosen, and they are taken after its own
+  abbrev pub Extended : Type 0
+  Extended =
+      Allowed y d m a n
+      × (length (chosen (isUsable y d m) (y .count) n (wrap (y .count) (a .last + 1))) ≡ n)
+      × Grows y d m (extendIn y d m a n hint) (clustersOf (streamOf y d a)) (chosen (isUsable y d m) (y .count) n (wrap (y .count) (a .last + 1)))
+
+  number : (o : Outcome) → extendIn y d m a n hint ≡ o → extendIn y d m a n hint .answer .number ≡ o .answer .number
+  number o q = ap (λ (o : Outcome). o .answer .number) q
+
+  pub extend-grown : 1 ≤ a .count → 1 ≤ n → extendIn y d m a n hint .answer .number ≡ 0 → Extended
+  extend-grown some one e = by (inHeap (y .count) hint) refl (eqb (moreCause y d m a n) 0) refl
+    where
+      by : (b : Bool) → inHeap (y .count) hint ≡ b → (c : Bool) → eqb (moreCause y d m a n) 0 ≡ c → Extended
+      by false p c q =
+          let z : _≡_ {A = ℕ} 2 0 = sym (number (unchanged 2 a hint d) (extend-hint y d m a n hint p)) ∙ e in absurd (omega arith)
+      by true p false q =
+          let x = eqb-false (moreCause y d m a n) 0 q in
+          absurd (x (sym (number (unchanged (moreCause y d m a n) a hint d) (extend-refused y d m a n hint (moreCause y d m a n) p (λ t. omega arith) (λ t. omega arith) refl x)) ∙ e))
+      by true p true q =
+          let x = eqb-true (moreCause y d m a n) 0 q in
+          let ok = allowed-of y d m a n x in (
+            ok,
+            length-more y d m w a n some one ok,
+            subst (λ (o : Outcome). Grows y d m o (clustersOf (streamOf y d a)) (chosen (isUsable y d m) (y .count) n (wrap (y .count) (a .last + 1))))
+                (sym (extend-longer y d m a n hint p (λ t. omega arith) (λ t. omega arith) x)) (longer-grown y d m w a n some one ok),
+          )
+
+  -- an empty record: what allocate does, without near
+  pub extend-empty : a .count ≡ 0 → 1 ≤ n → extendIn y d m a n hint .answer .number ≡ 0 → extendIn y d m a n hint ≡ allocateIn y d m n false 0 hint
+  extend-empty z one e = by (inHeap (y .count) hint) refl (ℕ-discrete (allocateIn y d m n false 0 hint .answer .number) 0)
+    where
+      by : (b : Bool) → inHeap (y .count) hint ≡ b → Dec (allocateIn y d m n false 0 hint .answer .number ≡ 0)
+          → extendIn y d m a n hint ≡ allocateIn y d m n false 0 hint
+      by false p c =
+          let z : _≡_ {A = ℕ} 2 0 = sym (number (unchanged 2 a hint d) (extend-hint y d m a n hint p)) ∙ e in absurd (omega arith)
+      by true p (yes c) = extend-new y d m a n hint p (λ t. omega arith) z ∙ given-done a (allocateIn y d m n false 0 hint) c
+      by true p (no c) =
+          let o = allocateIn y d m n false 0 hint in
+          absurd (c (sym (number (unchanged (o .answer .number) a (o .answer .hint) (o .volume)) (extend-new y d m a n hint p (λ t. omega arith) z ∙ given-refused a o c)) ∙ e))
+
+  -- refused, or with nothing to take, it leaves the volume and answers with the record as given
+  pub extend-kept : ((extendIn y d m a n hint .answer .number ≡ 0) × (1 ≤ n) → ⊥)
+      → extendIn y d m a n hint ≡ unchanged (extendIn y d m a n hint .answer .number) a hint d
+  extend-kept out = by (inHeap (y .count) hint) refl (ℕ-discrete n 0) (ℕ-discrete (a .count) 0)
+    where
+      again : (x : ℕ) → extendIn y d m a n hint ≡ unchanged x a hint d → extendIn y d m a n hint ≡ unchanged (extendIn y d m a n hint .answer .number) a hint d
+      again x q = q ∙ ap (λ (z : ℕ). unchanged z a hint d) (sym (number (unchanged x a hint d) q))
+
+      new : inHeap (y .count) hint ≡ true → (n ≡ 0 → ⊥) → a .count ≡ 0 → Dec (allocateIn y d m n false 0 hint .answer .number ≡ 0)
+          → extendIn y d m a n hint ≡ unchanged (extendIn y d m a n hint .answer .number) a hint d
+      new p z c (yes e) =
+          let o = allocateIn y d m n false 0 hint in
+          absurd (out (number o (extend-new y d m a n hint p z c ∙ given-done a o e) ∙ e, omega arith))
+      new p z c (no e) =
+          let o = allocateIn y d m n false 0 hint in
+          let k = allocate-kept y d m w n false 0 hint (λ r. e (r .0)) in
+          again (o .answer .number)
+          (extend-new y d m a n hint p z c ∙ given-refused a o e ∙ ap (λ (x : Outcome). unchanged (o .answer .number) a (x .answer .hint) (x .volume)) k)
+
+      by : (b : Bool) → inHeap (y .count) hint ≡ b → Dec (n ≡ 0) → Dec (a .count ≡ 0)
+          → extendIn y d m a n hint ≡ unchanged (extendIn y d m a n hint .answer .number) a hint d
+      by false p z c = again 2 (extend-hint y d m a n hint p)
+      by true p (yes z) c = again 0 (extend-none y d m a n hint p z)
+      by true p (no z) (yes c) = new p z c (ℕ-discrete (allocateIn y d m n false 0 hint .answer .number) 0)
+      by true p (no z) (no c) =
+          elim (ℕ-discrete (moreCause y d m a n) 0) [
+            | yes q ↦ absurd (out (
+              number (longer y d m a n) (extend-longer y d m a n hint p z c q)
+                  ∙ longer-number y d m w a n (omega arith) (omega arith) (allowed-of y d m a n q),
+              omega arith,
+            ))
+            | no q ↦ again (moreCause y d m a n) (extend-refused y d m a n hint (moreCause y d m a n) p z c refl q)
+          ]
+
+  -- where the hint is in the heap, the record reads and C is not passed, the one cause is that fewer are usable than wanted
+  module _ (some : 1 ≤ a .count) (one : 1 ≤ n) (hint-in : inHeap (y .count) hint ≡ true) (reads : numberOf (streamOf y d a) ≡ 0)
+      (room : a .count + n ≤ y .count) where
+    pub extend-few : count (isUsable y d m) 2 (y .count) < n → extendIn y d m a n hint ≡ unchanged 7 a hint d
+    extend-few h =
+        extend-refused y d m a n hint 7 hint-in (λ t. omega arith) (λ t. omega arith)
+        (sym (elim (decLt (freeCount y d) n) [
+          | yes f ↦ more-free y d m a n room f
+          | no f ↦ more-few y d m a n (numberOf (streamOf y d a)) room (omega arith) refl reads h
+        ])) (λ t. omega arith)
+
+    pub extend-enough : n ≤ count (isUsable y d m) 2 (y .count) → extendIn y d m a n hint .answer .number ≡ 0
+    extend-enough h =
+        let c = more-none y d m a n (numberOf (streamOf y d a)) room (omega (arith, enough)) refl reads h in
+        number (longer y d m a n) (extend-longer y d m a n hint hint-in (λ t. omega arith) (λ t. omega arith) c)
+        ∙ longer-number y d m w a n some one (record { room = room; reads = reads; enough = h })
+      where
+        enough : count (isUsable y d m) 2 (y .count) ≤ freeCount y d
+        enough = unfold usableCount in (usable-free y d m)
