@@ -10,14 +10,22 @@ import re
 import sys
 
 # crate, module and name of each public call that is there today
-PUBLIC_CALLS = {"boot::geometry::validate", "metadata::free::free_clusters"}
+PUBLIC_CALLS = {
+    "boot::geometry::validate",
+    "metadata::free::free_clusters",
+    "stream::list::clusters",
+    "write_alloc::allocate::allocate_clusters",
+    "write_alloc::extend::extend_clusters",
+    "write_alloc::shrink::shrink_clusters",
+}
 
 HEAD = re.compile(r"^[ \t]*(?:#\[[^\]]*\]\s*)*((?:pub(?:\([a-z]+\))? )?(?:extern \"C\" )?)fn (\w+)", re.M)
 
 
 def plain(text):
-    """The text with comments blanked, so that words in them count for nothing."""
-    return re.sub(r"//[^\n]*", lambda m: " " * len(m.group()), text)
+    """The text with comments blanked, so that words in them count for nothing, and array types without their semicolon."""
+    text = re.sub(r"//[^\n]*", lambda m: " " * len(m.group()), text)
+    return re.sub(r"\[(\w+); (\w+)\]", r"[\1, \2]", text)
 
 
 def head_of(text, start):

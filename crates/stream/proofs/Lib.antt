@@ -1,3 +1,6 @@
 pub mod ChainLaws
 pub mod StreamLaws
 pub mod ListingLaws
+pub mod Distinct
+pub mod BytesSteps
+pub mod BytesLaws

@@ -167,7 +167,7 @@ module _ (C : ℕ) (mark : ℕ → Bool) where
       by true false p q r i = absurd (omega arith)
       by false b p q r i = absurd (omega arith)
 
-last-consec : (z k n : ℕ) → (n ≡ 0 → ⊥) → lastOr z (consec k n) + 1 ≡ k + n
+pub last-consec : (z k n : ℕ) → (n ≡ 0 → ⊥) → lastOr z (consec k n) + 1 ≡ k + n
 unfolding lastOr consec
 last-consec z k zero h = absurd (h refl)
 last-consec z k (suc zero) h = omega arith

@@ -81,7 +81,7 @@ prev-facts y d prev e = by (eqb prev 0) refl e
 
 -- ---- the last of those that are taken
 
-last-in : (z : ℕ) (ks : List ℕ) → 1 ≤ length ks → Mem (lastOr z ks) ks
+pub last-in : (z : ℕ) (ks : List ℕ) → 1 ≤ length ks → Mem (lastOr z ks) ks
 unfolding lastOr
 last-in z [] h = absurd (omega arith)
 last-in z (k ∷ []) h = here refl

@@ -278,7 +278,7 @@ module _ (u u′ : ℕ → Bool) where
           count-cong u u′ 2 C (λ k a b. same k (heap-in C k a (omega arith))),
         ) refl
 
-    around-cong : (b : ℕ) → 2 ≤ b → b ≤ C + 2 → around u′ C b ≡ around u C b
+    pub around-cong : (b : ℕ) → 2 ≤ b → b ≤ C + 2 → around u′ C b ≡ around u C b
     unfolding around
     around-cong b l h =
         rw (

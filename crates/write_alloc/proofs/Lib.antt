@@ -5,3 +5,4 @@ pub mod TakeLaws
 pub mod Taking
 pub mod FirstLaws
 pub mod AllocateLaws
+pub mod ExtendLaws

@@ -58,7 +58,7 @@ fn scan(vol: &[u8], map: &[u8], y: Layout, start: u32, n: u32) -> Found
 }
 
 // How many clusters are usable.
-fn usable_count(vol: &[u8], map: &[u8], y: Layout) -> u32
+pub fn usable_count(vol: &[u8], map: &[u8], y: Layout) -> u32
     requires { ⌜ Laid y × ((length (now vol) ≡ y .len) × (y .count ≤ 8 * length (now map))) ⌝ }
     ensures { λ r. ⌜ r ≡ count (isUsable y (now (vol .entry)) (now (map .entry))) 2 (y .count) ⌝ }
 {

@@ -2,4 +2,5 @@
 pub mod allocate;
 pub mod answer;
 pub mod choice;
+pub mod extend;
 pub mod take;

@@ -1,0 +1,191 @@
+// The bytes of a stream: a part of them read, stored, or filled with zeros. Each cluster is gone through once.
+ghost use mathlib.Core.Path.{_≡_};
+ghost use mathlib.Core.Bool.{true};
+ghost use Prim.Native.Nat.{_+_, _-_, _*_, _≤_, _<_};
+ghost use lib.ListN.{length, take, drop, replicate};
+ghost use Rattle.primitives.specs.Splice.{splice};
+ghost use Rattle.tables.specs.Lists.{every};
+ghost use Rattle.boot.specs.Layout.{Laid, inHeap, Apart};
+ghost use Rattle.metadata.specs.Fat.{fatEntry};
+ghost use Rattle.metadata.specs.Cluster.{putBytes};
+ghost use Rattle.stream.specs.Along.{after, along};
+ghost use Rattle.stream.specs.Bytes.{clusterBytes, bytesOf, storeAt, reached};
+use crate::allocation::Allocation;
+use boot::layout::Layout;
+
+// The lesser of two numbers.
+fn lesser(a: usize, b: usize) -> usize
+    ensures { λ r. ⌜ r ≡ a - (a - b) ⌝ }
+{
+    if a < b {
+        return a;
+    }
+    b
+}
+
+// The cluster that so many steps along a stream lead to; in a run they are one sum.
+pub fn seek(vol: &[u8], y: Layout, run: bool, first: u32, steps: u32) -> u32
+    requires { ⌜ Laid y × ((length (now vol) ≡ y .len) × (every (inHeap (y .count)) (along (fatEntry y (now vol)) run first steps) ≡ true)) ⌝ }
+    ensures { λ r. ⌜ r ≡ reached (fatEntry y (now (vol .entry))) run first steps ⌝ }
+{
+    if run {
+        return first + steps;
+    }
+    let mut k = first;
+    let mut left = steps;
+    while 0 < left {
+        k = metadata::fat::fat_entry(vol, y, k);
+        left -= 1;
+    }
+    k
+}
+
+// Stores n bytes of src, from `from` on, in cluster k, from its byte `at` on.
+fn put_piece(vol: &mut [u8], y: Layout, k: u32, at: usize, src: &[u8], from: usize, n: usize)
+    requires { ⌜ Laid y × ((length (now vol) ≡ y .len) × ((2 ≤ k) × ((k < y .count + 2) × ((at + n ≤ y .size) × (from + n ≤ length (now src)))))) ⌝ }
+    ensures { λ _. ⌜ now (vol .exit) ≡ putBytes y (now (vol .entry)) k at (take n (drop from (now (src .entry)))) ⌝ }
+{
+    let start = boot::layout::cluster_offset(y, k);
+    primitives::slices::copy_in(vol, start + at, src, from, n);
+}
+
+// Stores n zeros in cluster k, from its byte `at` on.
+fn put_zeros(vol: &mut [u8], y: Layout, k: u32, at: usize, n: usize)
+    requires { ⌜ Laid y × ((length (now vol) ≡ y .len) × ((2 ≤ k) × ((k < y .count + 2) × (at + n ≤ y .size)))) ⌝ }
+    ensures { λ _. ⌜ now (vol .exit) ≡ putBytes y (now (vol .entry)) k at (replicate n 0) ⌝ }
+{
+    let start = boot::layout::cluster_offset(y, k);
+    primitives::slices::fill_zero(vol, start + at, n);
+}
+
+// Stores n bytes of cluster k, from its byte `at` on, in dst.
+fn get_piece(vol: &[u8], y: Layout, k: u32, at: usize, dst: &mut [u8], to: usize, n: usize)
+    requires { ⌜ Laid y × ((length (now vol) ≡ y .len) × ((2 ≤ k) × ((k < y .count + 2) × ((at + n ≤ y .size) × (to + n ≤ length (now dst)))))) ⌝ }
+    ensures { λ _. ⌜ now (dst .exit) ≡ splice (now (dst .entry)) to (take n (drop at (clusterBytes y (now (vol .entry)) k))) ⌝ }
+{
+    let start = boot::layout::cluster_offset(y, k);
+    primitives::slices::copy_in(dst, to, vol, start + at, n);
+}
+
+// Stores src in count clusters, from byte `at` of the first one on.
+fn store_from(vol: &mut [u8], y: Layout, run: bool, first: u32, count: u32, at: usize, src: &[u8])
+    requires { ⌜ Laid y × ((length (now vol) ≡ y .len) × ((every (inHeap (y .count)) (along (fatEntry y (now vol)) run first count) ≡ true) × ((at < y .size) × ((at + length (now src) ≤ count * y .size) × Apart y)))) ⌝ }
+    ensures { λ _. ⌜ now (vol .exit) ≡ storeAt y (now (vol .entry)) (along (fatEntry y (now (vol .entry))) run first count) at (now (src .entry)) ⌝ }
+{
+    let mut k = first;
+    let mut left = count;
+    let mut place = at;
+    let mut from: usize = 0;
+    let mut more = src.len();
+    while 0 < more {
+        let m = lesser(y.size - place, more);
+        let next = crate::list::next_cluster(vol, y, run, k);
+        put_piece(vol, y, k, place, src, from, m);
+        k = next;
+        left -= 1;
+        place = 0;
+        from += m;
+        more -= m;
+    }
+}
+
+// Fills n bytes of count clusters with zeros, from byte `at` of the first one on.
+fn fill_from(vol: &mut [u8], y: Layout, run: bool, first: u32, count: u32, at: usize, n: usize)
+    requires { ⌜ Laid y × ((length (now vol) ≡ y .len) × ((every (inHeap (y .count)) (along (fatEntry y (now vol)) run first count) ≡ true) × ((at < y .size) × ((at + n ≤ count * y .size) × Apart y)))) ⌝ }
+    ensures { λ _. ⌜ now (vol .exit) ≡ storeAt y (now (vol .entry)) (along (fatEntry y (now (vol .entry))) run first count) at (replicate n 0) ⌝ }
+{
+    let mut k = first;
+    let mut left = count;
+    let mut place = at;
+    let mut more = n;
+    while 0 < more {
+        let m = lesser(y.size - place, more);
+        let next = crate::list::next_cluster(vol, y, run, k);
+        put_zeros(vol, y, k, place, m);
+        k = next;
+        left -= 1;
+        place = 0;
+        more -= m;
+    }
+}
+
+// Reads n bytes of count clusters, from byte `at` of the first one on, into dst.
+fn read_from(
+    vol: &[u8],
+    y: Layout,
+    run: bool,
+    first: u32,
+    count: u32,
+    at: usize,
+    dst: &mut [u8],
+    to: usize,
+    n: usize,
+)
+    requires { ⌜ Laid y × ((length (now vol) ≡ y .len) × ((every (inHeap (y .count)) (along (fatEntry y (now vol)) run first count) ≡ true) × ((at < y .size) × ((at + n ≤ count * y .size) × (to + n ≤ length (now dst)))))) ⌝ }
+    ensures { λ _. ⌜ now (dst .exit) ≡ splice (now (dst .entry)) to (take n (drop at (bytesOf y (now (vol .entry)) (along (fatEntry y (now (vol .entry))) run first count)))) ⌝ }
+{
+    let mut k = first;
+    let mut left = count;
+    let mut place = at;
+    let mut put = to;
+    let mut more = n;
+    while 0 < more {
+        let m = lesser(y.size - place, more);
+        get_piece(vol, y, k, place, dst, put, m);
+        k = crate::list::next_cluster(vol, y, run, k);
+        left -= 1;
+        place = 0;
+        put += m;
+        more -= m;
+    }
+}
+
+// Stores src in a stream, from its byte `at` on.
+pub fn store(vol: &mut [u8], y: Layout, a: Allocation, at: usize, src: &[u8])
+    requires { ⌜ Laid y × ((length (now vol) ≡ y .len) × ((every (inHeap (y .count)) (along (fatEntry y (now vol)) (a .«no_fat_chain») (a .first) (a .count)) ≡ true) × ((at + length (now src) ≤ a .count * y .size) × Apart y))) ⌝ }
+    ensures { λ _. ⌜ now (vol .exit) ≡ storeAt y (now (vol .entry)) (along (fatEntry y (now (vol .entry))) (a .«no_fat_chain») (a .first) (a .count)) at (now (src .entry)) ⌝ }
+{
+    let steps = (at / y.size) as u32;
+    let k = seek(vol, y, a.no_fat_chain, a.first, steps);
+    store_from(vol, y, a.no_fat_chain, k, a.count - steps, at % y.size, src);
+}
+
+// Fills n bytes of a stream with zeros, from its byte `at` on.
+pub fn fill(vol: &mut [u8], y: Layout, a: Allocation, at: usize, n: usize)
+    requires { ⌜ Laid y × ((length (now vol) ≡ y .len) × ((every (inHeap (y .count)) (along (fatEntry y (now vol)) (a .«no_fat_chain») (a .first) (a .count)) ≡ true) × ((at + n ≤ a .count * y .size) × Apart y))) ⌝ }
+    ensures { λ _. ⌜ now (vol .exit) ≡ storeAt y (now (vol .entry)) (along (fatEntry y (now (vol .entry))) (a .«no_fat_chain») (a .first) (a .count)) at (replicate n 0) ⌝ }
+{
+    let steps = (at / y.size) as u32;
+    let k = seek(vol, y, a.no_fat_chain, a.first, steps);
+    fill_from(vol, y, a.no_fat_chain, k, a.count - steps, at % y.size, n);
+}
+
+// Reads n bytes of a stream, from its byte `at` on, into dst from `to` on.
+pub fn read(vol: &[u8], y: Layout, a: Allocation, at: usize, dst: &mut [u8], to: usize, n: usize)
+    requires { ⌜ Laid y × ((length (now vol) ≡ y .len) × ((every (inHeap (y .count)) (along (fatEntry y (now vol)) (a .«no_fat_chain») (a .first) (a .count)) ≡ true) × ((at + n ≤ a .count * y .size) × (to + n ≤ length (now dst))))) ⌝ }
+    ensures { λ _. ⌜ now (dst .exit) ≡ splice (now (dst .entry)) to (take n (drop at (bytesOf y (now (vol .entry)) (along (fatEntry y (now (vol .entry))) (a .«no_fat_chain») (a .first) (a .count))))) ⌝ }
+{
+    let steps = (at / y.size) as u32;
+    let k = seek(vol, y, a.no_fat_chain, a.first, steps);
+    read_from(
+        vol,
+        y,
+        a.no_fat_chain,
+        k,
+        a.count - steps,
+        at % y.size,
+        dst,
+        to,
+        n,
+    );
+}
+
+// Reads n bytes of a stream, from its byte `at` on, as an entry set followed by zeros.
+pub fn read_set(vol: &[u8], y: Layout, a: Allocation, at: usize, n: usize) -> [u8; 608]
+    requires { ⌜ Laid y × ((length (now vol) ≡ y .len) × ((every (inHeap (y .count)) (along (fatEntry y (now vol)) (a .«no_fat_chain») (a .first) (a .count)) ≡ true) × ((at + n ≤ a .count * y .size) × (n ≤ 608)))) ⌝ }
+    ensures { λ r. ⌜ r ≡ splice (replicate 608 0) 0 (take n (drop at (bytesOf y (now (vol .entry)) (along (fatEntry y (now (vol .entry))) (a .«no_fat_chain») (a .first) (a .count))))) ⌝ }
+{
+    let mut set = [0u8; 608];
+    read(vol, y, a, at, &mut set, 0, n);
+    set
+}
