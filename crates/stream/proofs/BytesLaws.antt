@@ -7,13 +7,16 @@ use Prim.Native.Nat.{ℕ, zero, suc, _+_, _-_, _*_, _≤_, _<_}
 use native.Mathlib.Decide.{decLe}
 use native.Mathlib.Nat.{suc-mul}
 use native.Mathlib.Omega.{arith}
+use lib.Dec.{ltb}
 use lib.ListN.{length, getD, take, drop, replicate, length-replicate, replicate-append-replicate, length-append, length-take, length-drop, take-append-drop, drop-of-length-le, List·getD-append}
 use lib.Seq.{take-append-seam, drop-append-seam, length-take-le, take-all, take-append-add, take-append-le, drop-append-le, drop-append-add, take-at, drop-at, getD-take, getD-drop, getD-append-add, ext-getD}
+use borrow.Author.Tests.{ltb-true}
 use Rattle.primitives.specs.Splice.{splice}
 use Rattle.primitives.proofs.SpliceLaws.{splice-nil, length-splice}
+use Rattle.tables.specs.Table.{only}
 use Rattle.tables.specs.Lists.{Mem, here, there, Distinct, more, every}
 use Rattle.tables.proofs.ListLaws.{every-head, every-tail, every-mem, mem-every}
-use Rattle.tables.proofs.TableLaws.{only-cong}
+use Rattle.tables.proofs.TableLaws.{only-in, only-cong}
 use Rattle.boot.specs.declared.layout.Layout.{Layout}
 use Rattle.boot.specs.Layout.{clusterAt, inHeap}
 use Rattle.boot.proofs.Apart.{in-heap, cluster-end}
@@ -260,6 +263,26 @@ module _ (y : Layout) (d : List ℕ) (w : Fits y d) (ks : List ℕ) (e : every (
   unfolding view
   view-store-mark =
       only-cong (inHeap (y .count)) false (marked y d) (marked y (storeAt y d ks at bs)) (λ i g. mark-store y d w ks (plain-in-heap y ks e) at bs e i g)
+
+  pub view-store-byte : (k : ℕ) → (Mem k ks → ⊥) → view y (storeAt y d ks at bs) .byte k ≡ view y d .byte k
+  unfolding view
+  view-store-byte k o = by (plain y k) refl
+    where
+      d′ : List ℕ
+      d′ = storeAt y d ks at bs
+
+      same : plain y k ≡ true → (r : ℕ) → r < y .size → clusterByte y d′ k r ≡ clusterByte y d k r
+      same p r b =
+          sym (cluster-at y d′ k r b)
+          ∙ ap (λ (l : List ℕ). getD l r 0) (cluster-store y d w ks (plain-in-heap y ks e) at bs k (plain-heap y k p) o) ∙ cluster-at y d k r b
+
+      by : (b : Bool) → plain y k ≡ b
+          → only (plain y) (λ j. 0) (λ c. only (λ j. ltb j (y .size)) 0 (clusterByte y d′ c)) k
+          ≡ only (plain y) (λ j. 0) (λ c. only (λ j. ltb j (y .size)) 0 (clusterByte y d c)) k
+      by true p =
+          rw (only-in (plain y) (λ j. 0) (λ c. only (λ j. ltb j (y .size)) 0 (clusterByte y d′ c)) k p, only-in (plain y) (λ j. 0) (λ c. only (λ j. ltb j (y .size)) 0 (clusterByte y d c)) k p)
+          (only-cong (λ j. ltb j (y .size)) 0 (clusterByte y d k) (clusterByte y d′ k) (λ r b. same p r (ltb-true r (y .size) b)))
+      by false p = unfold only in (rw p refl)
 
 -- ---- the bytes of the stream itself
 

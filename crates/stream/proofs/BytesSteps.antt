@@ -29,7 +29,7 @@ use Rattle.stream.proofs.StreamLaws.{along-step, along-head, along-rest
 
 -- ---- parts of lists
 
--- at most n, where n is cut to the list's length
+-- a number cut to the length of the list takes and drops the same
 pub take-lesser : (a : ℕ) (s : List ℕ) (m : ℕ) → m ≡ a - (a - length s) → (take a s ≡ take m s) × (drop a s ≡ drop m s)
 take-lesser a s m e =
     elim (decLe a (length s)) [
@@ -164,7 +164,7 @@ some-left zero s p m h b = absurd (omega arith)
 some-left (suc n) s p m h b = omega arith
 
 -- and past the first of those in the others
-pub left-less : (n s p m : ℕ) → p + m ≤ n * s → s - p < m → m - (s - p) ≤ (n - 1) * s
+left-less : (n s p m : ℕ) → p + m ≤ n * s → s - p < m → m - (s - p) ≤ (n - 1) * s
 left-less zero s p m h b = absurd (omega arith)
 left-less (suc n) s p m h b = rw sub-one (omega (arith, suc-mul n s))
 
@@ -243,12 +243,12 @@ module _ (y : Layout) (d : List ℕ) (w : Fits y d) (run : Bool) (k n : ℕ) (so
       along-same (y .count) (fatEntry y d) (fatEntry y (putBytes y d k at bs))
       (λ j b. sym (fat-bytes y d w k at bs j i f (in-heap (y .count) j b .1))) run (after (fatEntry y d) run k) (n - 1) t
 
-  pub heap-turn : (bs : List ℕ) → at + length bs ≤ y .size
+  heap-turn : (bs : List ℕ) → at + length bs ≤ y .size
       → every (inHeap (y .count)) (along (fatEntry y (putBytes y d k at bs)) run (after (fatEntry y d) run k) (n - 1)) ≡ true
   heap-turn bs f =
       ap (every (inHeap (y .count))) (sym (turn-along bs f)) ∙ along-rest (inHeap (y .count)) (fatEntry y d) run k n some h
 
-  pub store-turn : (bs : List ℕ) (m : ℕ) → m ≡ y .size - at - (y .size - at - length bs)
+  store-turn : (bs : List ℕ) (m : ℕ) → m ≡ y .size - at - (y .size - at - length bs)
       → storeAt y d (along (fatEntry y d) run k n) at bs
       ≡ storeAt y (putBytes y d k at (take m bs)) (along (fatEntry y (putBytes y d k at (take m bs))) run (after (fatEntry y d) run k) (n - 1)) 0 (drop m bs)
   store-turn bs m e =
@@ -313,7 +313,7 @@ module _ (y : Layout) (d : List ℕ) (l : Laid y) (long : length d ≡ y .len) w
 
   -- a turn of a loop that reads
   module _ (fat : ℕ → ℕ) (run : Bool) (k n : ℕ) (some : 0 < n) (h : every (inHeap (y .count)) (along fat run k n) ≡ true) (at : ℕ) (low : at < y .size) where
-    pub read-turn : (m r : ℕ) → r ≡ y .size - at - (y .size - at - m)
+    read-turn : (m r : ℕ) → r ≡ y .size - at - (y .size - at - m)
         → take m (drop at (bytesOf y d (along fat run k n)))
         ≡ take r (drop at (clusterBytes y d k)) ++ take (m - r) (drop 0 (bytesOf y d (along fat run (after fat run k) (n - 1))))
     read-turn m r e =

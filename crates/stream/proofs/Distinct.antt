@@ -2,7 +2,7 @@
 -- their clusters. Assumes nothing.
 use mathlib.Core.Path.{_≡_, refl, sym, _∙_, ap, subst}
 use mathlib.Core.Logic.{_≢_}
-use mathlib.Core.Bool.{Bool, true, false, _&&_, cond}
+use mathlib.Core.Bool.{Bool, true, false, cond}
 use mathlib.Core.List.{List, [], _∷_, _++_, append-nil}
 use Prim.Native.Nat.{ℕ, zero, suc, _+_, _-_, _≤_, _<_}
 use native.Mathlib.Numerals.{sub-one}
@@ -18,7 +18,7 @@ use Rattle.boot.specs.Layout.{inHeap}
 use Rattle.boot.proofs.Apart.{in-heap}
 use Rattle.metadata.specs.Fat.{END}
 use Rattle.stream.specs.declared.allocation.Allocation.{Allocation}
-use Rattle.stream.specs.Chain.{Clusters, listed, nextOf, chainFrom, readChain}
+use Rattle.stream.specs.Chain.{listed, chainFrom, readChain}
 use Rattle.stream.specs.Stream.{runCause, readRun, checkChain, readStream}
 use Rattle.stream.specs.Along.{after, along}
 use Rattle.stream.proofs.ChainLaws.{next-end, next-more, run-none, run-step, stream-empty, stream-run, stream-chain}

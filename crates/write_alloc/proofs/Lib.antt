@@ -6,3 +6,5 @@ pub mod Taking
 pub mod FirstLaws
 pub mod AllocateLaws
 pub mod ExtendLaws
+pub mod Cutting
+pub mod ShrinkLaws

@@ -142,13 +142,13 @@ module _ (y : Layout) where
 -- ---- cluster by cluster
 
 module _ (y : Layout) (d : List ℕ) (t : Tables) (e : view y d ≡ t) where
-  mark-is : (j : ℕ) → inHeap (y .count) j ≡ true → marked y d j ≡ t .mark j
+  pub mark-is : (j : ℕ) → inHeap (y .count) j ≡ true → marked y d j ≡ t .mark j
   mark-is j h = sym (view-mark-at y d j h) ∙ ap (λ (a : Tables). a .mark j) e
 
-  fat-is : (j : ℕ) → inHeap (y .count) j ≡ true → fatEntry y d j ≡ t .fat j
+  pub fat-is : (j : ℕ) → inHeap (y .count) j ≡ true → fatEntry y d j ≡ t .fat j
   fat-is j h = sym (view-fat-at y d j h) ∙ ap (λ (a : Tables). a .fat j) e
 
-  byte-is : (j r : ℕ) → plain y j ≡ true → r < y .size → clusterByte y d j r ≡ t .byte j r
+  pub byte-is : (j r : ℕ) → plain y j ≡ true → r < y .size → clusterByte y d j r ≡ t .byte j r
   byte-is j r h b = sym (view-byte-at y d j r h b) ∙ ap (λ (a : Tables). a .byte j r) e
 
 module _ (y : Layout) (d : List ℕ) (w : Fits y d) where

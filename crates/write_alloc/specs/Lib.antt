@@ -4,3 +4,4 @@ pub mod Outcome
 pub mod Allocate
 pub mod Extend
 pub mod Shrink
+pub mod Kept

@@ -3,4 +3,5 @@ pub mod allocate;
 pub mod answer;
 pub mod choice;
 pub mod extend;
+pub mod shrink;
 pub mod take;

@@ -1,0 +1,17 @@
+use mathlib.Core.Path.{refl}
+use native.Mathlib.Omega.{arith}
+use borrow.Author.Tests.{eq-eqb, ne-eqb}
+use Rattle.write_alloc.specs.Kept.{partRecord}
+use Rattle.write_alloc.proofs.shrink.kept_record.Statement.{statement}
+use Rattle.write_alloc.proofs.shrink.kept_record.Tie as tie
+
+returns : tie.Need-returns
+unfolding partRecord
+returns c = rw (eq-eqb (c .before .args .keep) 0 (omega arith)) refl
+
+returns-2 : tie.Need-returns-2
+unfolding partRecord
+returns-2 c = rw (ne-eqb (c .before .args .keep) 0 (λ z. omega arith)) refl
+
+pub kept-record-spec : {M : Type 1} → statement M
+kept-record-spec = tie.close (tie.spec returns returns-2)

@@ -1,0 +1,213 @@
+// Shrink: a stream cut to its first clusters, the others freed.
+ghost use mathlib.Core.Path.{_≡_};
+ghost use mathlib.Core.Bool.{_&&_, true};
+ghost use Prim.Native.Nat.{_+_, _-_, _*_, _≤_, _<_};
+ghost use lib.Dec.{eqb};
+ghost use lib.ListN.{length};
+ghost use Rattle.tables.specs.Lists.{every, lastOr, Distinct};
+ghost use Rattle.boot.specs.Layout.{Laid, Apart, inHeap};
+ghost use Rattle.metadata.specs.Fat.{fatEntry};
+ghost use Rattle.stream.specs.Stream.{numberOf, streamOf};
+ghost use Rattle.stream.specs.Along.{along};
+ghost use Rattle.write_alloc.specs.Kept.{keptPart, partRecord};
+ghost use Rattle.write_alloc.specs.Shrink.{systemCause, freeAll, endKept, shrinkIn, shrinkClusters};
+use crate::answer::Answer;
+use boot::geometry::Geometry;
+use boot::layout::Layout;
+use stream::allocation::Allocation;
+
+// The kept clusters of a stream: the last one (0: none), whether their numbers rise by one, and the cluster after them.
+pub struct Kept {
+    pub last: u32,
+    pub rising: bool,
+    pub next: u32,
+}
+
+// Whether the numbers rise by one with the one after k, as those before did.
+fn still_rising(k: u32, next: u32, so_far: bool) -> bool
+    requires { ⌜ k < 4294967295 ⌝ }
+    ensures { λ r. ⌜ r ≡ «so_far» && eqb next (k + 1) ⌝ }
+{
+    if so_far {
+        return next == k + 1;
+    }
+    false
+}
+
+// The first n clusters of a stream.
+fn kept_part(vol: &[u8], y: Layout, run: bool, first: u32, n: u32) -> Kept
+    requires { ⌜ Laid y × ((length (now vol) ≡ y .len) × (every (inHeap (y .count)) (along (fatEntry y (now vol)) run first n) ≡ true)) ⌝ }
+    ensures { λ r. ⌜ r ≡ keptPart (fatEntry y (now (vol .entry))) run first n ⌝ }
+{
+    if n == 0 {
+        return Kept {
+            last: 0,
+            rising: true,
+            next: first,
+        };
+    }
+    let mut k = first;
+    let mut next = stream::list::next_cluster(vol, y, run, k);
+    let mut rising = true;
+    let mut left = n - 1;
+    while 0 < left {
+        rising = still_rising(k, next, rising);
+        k = next;
+        next = stream::list::next_cluster(vol, y, run, k);
+        left -= 1;
+    }
+    Kept {
+        last: k,
+        rising: rising,
+        next: next,
+    }
+}
+
+// What refuses to free n clusters of a stream: a system cluster among them.
+fn system_cause(vol: &[u8], map: &[u8], y: Layout, run: bool, first: u32, n: u32) -> u32
+    requires { ⌜ Laid y × ((length (now vol) ≡ y .len) × ((y .count ≤ 8 * length (now map)) × (every (inHeap (y .count)) (along (fatEntry y (now vol)) run first n) ≡ true))) ⌝ }
+    ensures { λ r. ⌜ r ≡ systemCause (now (map .entry)) (along (fatEntry y (now (vol .entry))) run first n) ⌝ }
+{
+    let mut k = first;
+    let mut left = n;
+    while 0 < left {
+        if boot::geometry::in_map(map, k) {
+            return 9;
+        }
+        k = stream::list::next_cluster(vol, y, run, k);
+        left -= 1;
+    }
+    0
+}
+
+// Makes the last kept cluster of a chain the end.
+fn end_kept(vol: &mut [u8], y: Layout, a: Allocation, keep: u32, last: u32)
+    requires { ⌜ Laid y × ((length (now vol) ≡ y .len) × ((last ≡ lastOr 0 (along (fatEntry y (now vol)) (a .«no_fat_chain») (a .first) keep)) × (every (inHeap (y .count)) (along (fatEntry y (now vol)) (a .«no_fat_chain») (a .first) keep) ≡ true))) ⌝ }
+    ensures { λ _. ⌜ now (vol .exit) ≡ endKept y (now (vol .entry)) a (along (fatEntry y (now (vol .entry))) (a .«no_fat_chain») (a .first) keep) ⌝ }
+{
+    if keep == 0 {
+        return;
+    }
+    if a.no_fat_chain {
+        return;
+    }
+    metadata::fat::set_fat(vol, y, last, 0xFFFF_FFFF);
+}
+
+// Frees n clusters of a stream: the next one is read before a cluster's FAT entry becomes 0.
+fn free_clusters(vol: &mut [u8], y: Layout, run: bool, first: u32, n: u32)
+    requires { ⌜ Laid y × ((length (now vol) ≡ y .len) × (Apart y × ((every (inHeap (y .count)) (along (fatEntry y (now vol)) run first n) ≡ true) × Distinct (along (fatEntry y (now vol)) run first n)))) ⌝ }
+    ensures { λ _. ⌜ now (vol .exit) ≡ freeAll y (now (vol .entry)) (along (fatEntry y (now (vol .entry))) run first n) ⌝ }
+{
+    let mut k = first;
+    let mut left = n;
+    while 0 < left {
+        let next = stream::list::next_cluster(vol, y, run, k);
+        metadata::fat::set_fat(vol, y, k, 0);
+        metadata::bitmap::mark(vol, y, k, false);
+        k = next;
+        left -= 1;
+    }
+}
+
+// The record of the kept clusters: empty, or a run where their numbers rise by one.
+fn kept_record(first: u32, keep: u32, part: Kept) -> Allocation
+    ensures { λ r. ⌜ r ≡ partRecord first keep part ⌝ }
+{
+    if keep == 0 {
+        return Allocation {
+            first: 0,
+            last: 0,
+            count: 0,
+            no_fat_chain: false,
+        };
+    }
+    Allocation {
+        first: first,
+        last: part.last,
+        count: keep,
+        no_fat_chain: part.rising,
+    }
+}
+
+// Shrinks a record that is not refused: 9, or the cut.
+fn shrink_read(vol: &mut [u8], map: &[u8], y: Layout, a: Allocation, keep: u32, hint: u32) -> Answer
+    requires { ⌜ Laid y × ((length (now vol) ≡ y .len) × ((y .count ≤ 8 * length (now map)) × (Apart y × ((keep < a .count) × ((inHeap (y .count) hint ≡ true) × (numberOf (streamOf y (now vol) a) ≡ 0)))))) ⌝ }
+    ensures { λ r. ⌜ (r ≡ shrinkIn y (now (vol .entry)) (now (map .entry)) a keep hint .answer) × (now (vol .exit) ≡ shrinkIn y (now (vol .entry)) (now (map .entry)) a keep hint .volume) ⌝ }
+{
+    let part = kept_part(vol, y, a.no_fat_chain, a.first, keep);
+    let number = system_cause(vol, map, y, a.no_fat_chain, part.next, a.count - keep);
+    if number != 0 {
+        return Answer {
+            number: number,
+            allocation: a,
+            hint: hint,
+        };
+    }
+    end_kept(vol, y, a, keep, part.last);
+    free_clusters(vol, y, a.no_fat_chain, part.next, a.count - keep);
+    Answer {
+        number: 0,
+        allocation: kept_record(a.first, keep, part),
+        hint: hint,
+    }
+}
+
+// The same once the limits are known to hold.
+pub fn shrink_in(
+    vol: &mut [u8],
+    map: &[u8],
+    y: Layout,
+    a: Allocation,
+    keep: u32,
+    hint: u32,
+) -> Answer
+    requires { ⌜ Laid y × ((length (now vol) ≡ y .len) × ((y .count ≤ 8 * length (now map)) × Apart y)) ⌝ }
+    ensures { λ r. ⌜ (r ≡ shrinkIn y (now (vol .entry)) (now (map .entry)) a keep hint .answer) × (now (vol .exit) ≡ shrinkIn y (now (vol .entry)) (now (map .entry)) a keep hint .volume) ⌝ }
+{
+    if boot::layout::in_heap(y.count, hint) {
+        if a.count <= keep {
+            return Answer {
+                number: 0,
+                allocation: a,
+                hint: hint,
+            };
+        }
+        let number = stream::walk::stream_cause(vol, y, a);
+        if number != 0 {
+            return Answer {
+                number: number,
+                allocation: a,
+                hint: hint,
+            };
+        }
+        return shrink_read(vol, map, y, a, keep, hint);
+    }
+    Answer {
+        number: 2,
+        allocation: a,
+        hint: hint,
+    }
+}
+
+// Shrinks a record to its first `keep` clusters (Rust: `shrink_clusters`).
+pub fn shrink_clusters(
+    vol: &mut [u8],
+    map: &[u8],
+    g: Geometry,
+    a: Allocation,
+    keep: u32,
+    hint: u32,
+) -> Answer
+    ensures { λ r. ⌜ (r ≡ shrinkClusters g (now (vol .entry)) (now (map .entry)) a keep hint .answer) × (now (vol .exit) ≡ shrinkClusters g (now (vol .entry)) (now (map .entry)) a keep hint .volume) ⌝ }
+{
+    if boot::geometry::validate(g, vol.len(), map) {
+        let y = boot::layout::layout_of(g, vol.len());
+        return shrink_in(vol, map, y, a, keep, hint);
+    }
+    Answer {
+        number: 1,
+        allocation: a,
+        hint: hint,
+    }
+}
