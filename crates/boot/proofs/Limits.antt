@@ -9,7 +9,7 @@ use Rattle.boot.specs.declared.geometry.Geometry.{Geometry}
 use Rattle.boot.specs.Geometry.{sectorShift, clusterShift, fatOffset, fatLength, numberOfFats, activeFat, clusterHeapOffset, clusterCount, bitmap0, bitmap1, sectorSize, clusterSize, bitmapBytes, bitmapClusters}
 use Rattle.boot.specs.Limits.{all, shapeTests, roomTests, mapTests, inMap, allInMap, runInMap, apart, secondBitmap, limits}
 use Rattle.boot.specs.Facts.{Shape, Room}
-use Rattle.tables.proofs.Cases.{not-so}
+use Rattle.tables.proofs.Cases.{not-so, and-true}
 use native.Mathlib.Numerals.{sub-one}
 use lib.ListN.{length}
 use Rattle.boot.proofs.Tests.{each-of, of-each}
@@ -121,10 +121,6 @@ pub second-is : (g : Geometry) (m : List ℕ) (n : ℕ) (t : Bool) → n ≡ bit
     → runInMap m (clusterCount g) (bitmap1 g) n ≡ t → secondBitmap g m ≡ t && apart (bitmap0 g) (bitmap1 g) n
 unfolding secondBitmap
 second-is g m n t p h e = rw (ne-eqb (numberOfFats g) 1 h, ← p, e) refl
-
-and-true : (b : Bool) → b && true ≡ b
-and-true true = refl
-and-true false = refl
 
 pub maps-length : (g : Geometry) (m : List ℕ) → (length m ≡ bitmapBytes (clusterCount g) → ⊥) → all (mapTests g m) ≡ false
 unfolding mapTests

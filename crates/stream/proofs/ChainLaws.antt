@@ -9,6 +9,7 @@ use lib.Dec.{eqb}
 use lib.ListN.{length}
 use borrow.Author.Tests.{eq-eqb, ne-eqb, eqb-true, eqb-false}
 use Rattle.tables.specs.Lists.{every, lastOr, consec}
+use Rattle.tables.proofs.Cases.{clash, and-true, and-assoc}
 use Rattle.boot.specs.Layout.{inHeap}
 use Rattle.metadata.specs.Fat.{END}
 use Rattle.stream.specs.declared.walk.Next.{Next}
@@ -35,14 +36,6 @@ next-wrong C v n h = rw (ne-eqb v END n, h) refl
 abbrev pub walkAt : (ℕ → Bool) → ℕ → ℕ → Bool → Clusters → Walked
 walkAt mark z b f (listed ks) = record { number = 0; last = lastOr z ks; count = b + length ks; marked = f && every mark ks }
 walkAt mark z b f (refused n) = record { number = n; last = 0; count = 0; marked = false }
-
-and-assoc : (a b c : Bool) → a && (b && c) ≡ (a && b) && c
-and-assoc true b c = refl
-and-assoc false b c = refl
-
-and-true : (b : Bool) → b && true ≡ b
-and-true true = refl
-and-true false = refl
 
 walk-onto : (mark : ℕ → Bool) (z b : ℕ) (f : Bool) (k : ℕ) (c : Clusters) → walkAt mark z b f (onto k c) ≡ walkAt mark k (b + 1) (f && mark k) c
 unfolding lastOr every

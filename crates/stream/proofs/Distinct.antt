@@ -12,7 +12,7 @@ use lib.ListN.{length}
 use borrow.Author.Tests.{eq-eqb, eqb-true, eqb-false}
 use Rattle.tables.specs.Table.{updAll}
 use Rattle.tables.specs.Lists.{Mem, here, there, Distinct, none, more, every, lastOr, consec}
-use Rattle.tables.proofs.ListLaws.{every-cons, every-head, every-tail, every-mem, mem-every, consec-distinct}
+use Rattle.tables.proofs.ListLaws.{last-in, every-cons, every-head, every-tail, every-mem, mem-every, consec-distinct}
 use Rattle.tables.proofs.CountLaws.{count-le, count-all}
 use Rattle.boot.specs.Layout.{inHeap}
 use Rattle.boot.proofs.Apart.{in-heap}
@@ -25,12 +25,6 @@ use Rattle.stream.proofs.ChainLaws.{next-end, next-more, run-none, run-
 use Rattle.stream.proofs.StreamLaws.{length-along, consec-along, read-chain-facts, last-consec, Read, read-facts}
 
 -- ---- lists
-
--- the last of a list stands in it
-pub last-in : (k : ℕ) (ks : List ℕ) → Mem (lastOr k ks) (k ∷ ks)
-unfolding lastOr
-last-in k [] = here refl
-last-in k (j ∷ ks) = there (last-in j ks)
 
 -- distinct clusters of a heap of C are at most C
 pub few : (C : ℕ) (ks : List ℕ) → Distinct ks → every (inHeap C) ks ≡ true → length ks ≤ C

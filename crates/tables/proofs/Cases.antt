@@ -1,6 +1,6 @@
--- Cases on a test, and from a contradiction between constructors. Assumes nothing.
+-- Cases on a test, from a contradiction between constructors, and laws of truth values. Assumes nothing.
 use mathlib.Core.Path.{_≡_, refl}
-use mathlib.Core.Bool.{Bool, true, false, cond, false≢true}
+use mathlib.Core.Bool.{Bool, true, false, _&&_, _||_, cond, false≢true}
 use Prim.Native.Nat.{ℕ}
 use native.Mathlib.Omega.{arith}
 
@@ -24,3 +24,15 @@ bool-ext false false f g = refl
 pub not-so : (b : Bool) → (b ≡ true → ⊥) → b ≡ false
 not-so true h = absurd (h refl)
 not-so false h = refl
+
+pub and-true : (b : Bool) → b && true ≡ b
+and-true true = refl
+and-true false = refl
+
+pub and-assoc : (a b c : Bool) → a && (b && c) ≡ (a && b) && c
+and-assoc true b c = refl
+and-assoc false b c = refl
+
+pub or-true : (b : Bool) → b || true ≡ true
+or-true true = refl
+or-true false = refl

@@ -7,7 +7,7 @@ use Prim.Native.Nat.{ℕ, zero, suc, _+_, _-_, _≤_, _<_}
 use native.Mathlib.Decide.{ℕ-discrete}
 use native.Mathlib.Omega.{arith}
 use lib.ListN.{length, take, drop}
-use Rattle.tables.specs.Lists.{Mem, here, there, Distinct, none, more, every, consec}
+use Rattle.tables.specs.Lists.{Mem, here, there, Distinct, none, more, every, lastOr, consec}
 
 pub mem-append : {k : ℕ} (xs : List ℕ) {ys : List ℕ} → Mem k (xs ++ ys) → Mem k xs ⊎ Mem k ys
 mem-append [] m = inr m
@@ -105,3 +105,16 @@ consec-append k (suc a) b =
     let e : suc a + b ≡ suc (a + b) = omega arith in
     let f : k + suc a ≡ k + 1 + a = omega arith in
     rw (e, f) (ap (λ (ks : List ℕ). k ∷ ks) (consec-append (k + 1) a b))
+
+-- ---- the last number
+
+pub last-in : (k : ℕ) (ks : List ℕ) → Mem (lastOr k ks) (k ∷ ks)
+unfolding lastOr
+last-in k [] = here refl
+last-in k (j ∷ ks) = there (last-in j ks)
+
+-- of a list that has one
+pub last-of : (z : ℕ) (ks : List ℕ) → 1 ≤ length ks → Mem (lastOr z ks) ks
+unfolding lastOr
+last-of z [] h = absurd (omega arith)
+last-of z (k ∷ ks) h = last-in k ks

@@ -12,7 +12,8 @@ use lib.Seq.{length-take-le, getD-take}
 use borrow.Author.Tests.{eq-eqb, ne-eqb, eqb-true, lt-ltb, le-ltb}
 use Rattle.tables.specs.Lists.{Mem, here, there, lastOr}
 use Rattle.tables.specs.Count.{count}
-use Rattle.tables.proofs.ListLaws.{mem-take}
+use Rattle.tables.proofs.Cases.{or-true}
+use Rattle.tables.proofs.ListLaws.{mem-take, last-of}
 use Rattle.boot.specs.declared.layout.Layout.{Layout}
 use Rattle.boot.specs.Layout.{Laid, Apart, inHeap, layoutOf}
 use Rattle.boot.proofs.Tests.{and-left, and-right}
@@ -58,10 +59,6 @@ prev-none y d = refl
 pub prev-heap : (y : Layout) (d : List ℕ) (k : ℕ) → inHeap (y .count) k ≡ true → marked y d k ≡ true → prevOk y d k ≡ true
 unfolding prevOk
 prev-heap y d k h e = rw (h, e) (or-true (eqb k 0))
-  where
-    or-true : (b : Bool) → b || true ≡ true
-    or-true true = refl
-    or-true false = refl
 
 pub prev-facts : (y : Layout) (d : List ℕ) (prev : ℕ) → prevOk y d prev ≡ true → Prev y d prev
 unfolding prevOk
@@ -81,12 +78,6 @@ prev-facts y d prev e = by (eqb prev 0) refl e
 
 -- ---- the last of those that are taken
 
-pub last-in : (z : ℕ) (ks : List ℕ) → 1 ≤ length ks → Mem (lastOr z ks) ks
-unfolding lastOr
-last-in z [] h = absurd (omega arith)
-last-in z (k ∷ []) h = here refl
-last-in z (k ∷ j ∷ ks) h = there (last-in k (j ∷ ks) (omega arith))
-
 last-before : (y : Layout) (prev : ℕ) (ks : List ℕ) → prev < y .count + 2 → Inside y ks → lastOr prev ks < y .count + 2
 unfolding lastOr
 last-before y prev [] h i = h
@@ -98,7 +89,7 @@ module _ (u : ℕ → Bool) (C start n : ℕ) (low : 2 ≤ start) (high : start 
 
   pub last-small : (z : ℕ) → 1 ≤ n → n ≤ count u 2 C → lastOr z (take n (around u C start)) < C + 2
   last-small z l h =
-      let m = last-in z (take n (around u C start)) (omega (arith, length-taken h)) in
+      let m = last-of z (take n (around u C start)) (omega (arith, length-taken h)) in
       in-heap C _ (in-around u C start low (omega arith) _ (mem-take n (around u C start) m) .0) .1
 
 -- ---- usable clusters taken from a start to the end of the heap, and then from 2

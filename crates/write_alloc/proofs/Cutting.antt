@@ -12,7 +12,7 @@ use lib.Seq.{take-append-seam, drop-append-seam}
 use borrow.Author.Tests.{eq-eqb, ne-eqb, le-leb, lt-leb}
 use Rattle.tables.specs.Lists.{Mem, here, there, Distinct, more, every, lastOr}
 use Rattle.tables.proofs.Cases.{cond-case}
-use Rattle.tables.proofs.ListLaws.{mem-left, mem-right, every-mem, mem-every}
+use Rattle.tables.proofs.ListLaws.{mem-left, mem-right, every-mem, mem-every, last-in}
 use Rattle.boot.specs.declared.geometry.Geometry.{Geometry}
 use Rattle.boot.specs.declared.layout.Layout.{Layout}
 use Rattle.boot.specs.Limits.{inMap, limits}
@@ -29,7 +29,7 @@ use Rattle.stream.specs.Along.{after, along}
 use Rattle.stream.specs.Listing.{clustersOf}
 use Rattle.stream.proofs.StreamLaws.{along-step, length-along, along-head, along-rest}
 use Rattle.stream.proofs.ListingLaws.{stream-read}
-use Rattle.stream.proofs.Distinct.{last-in, along-cong, read-distinct}
+use Rattle.stream.proofs.Distinct.{along-cong, read-distinct}
 use Rattle.write_alloc.specs.declared.answer.Answer.{Answer}
 use Rattle.write_alloc.specs.declared.shrink.Kept.{Kept}
 use Rattle.write_alloc.specs.Outcome.{Outcome, unchanged}

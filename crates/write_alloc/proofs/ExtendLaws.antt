@@ -11,7 +11,7 @@ use lib.ListN.{length, take}
 use borrow.Author.Tests.{eq-eqb, ne-eqb, eqb-true, eqb-false, le-leb, lt-leb, leb-true}
 use Rattle.tables.specs.Count.{count}
 use Rattle.tables.specs.Lists.{Mem, lastOr, consec}
-use Rattle.tables.proofs.ListLaws.{every-mem, consec-in}
+use Rattle.tables.proofs.ListLaws.{every-mem, consec-in, last-of}
 use Rattle.boot.specs.declared.geometry.Geometry.{Geometry}
 use Rattle.boot.specs.declared.layout.Layout.{Layout}
 use Rattle.boot.specs.Limits.{limits}
@@ -39,7 +39,7 @@ use Rattle.write_alloc.specs.Take.{linkRun, takeAll, prevOk}
 use Rattle.write_alloc.specs.Outcome.{Outcome, unchanged, wrap, spaceCause}
 use Rattle.write_alloc.specs.Allocate.{allocateIn}
 use Rattle.write_alloc.specs.Extend.{moreCause, inPlace, linkOld, longerRun, longerChain, longer, orGiven, extendIn, extendClusters, Allowed}
-use Rattle.write_alloc.proofs.AllocateLaws.{space-met, space-kept, last-in, wrap-low, wrap-high, prev-heap, Shown}
+use Rattle.write_alloc.proofs.AllocateLaws.{space-met, space-kept, wrap-low, wrap-high, prev-heap, Shown}
 use Rattle.write_alloc.proofs.ChoiceLaws.{few-count, choose-inside, around-cong, length-chosen}
 use Rattle.write_alloc.proofs.TakeLaws.{length-linkRun}
 
@@ -142,7 +142,7 @@ tail-of y d a e h =
     let ks = clustersOf (streamOf y d a) in
     let n : length ks ≡ a .count = ap length (r .goes) ∙ length-along (fatEntry y d) (a .«no_fat_chain») (a .first) (a .count) in
     let z : a .count ≡ 0 → ⊥ = λ q. omega arith in
-    let i : Mem (lastOr 0 ks) ks = last-in 0 ks (omega arith) in
+    let i : Mem (lastOr 0 ks) ks = last-of 0 ks (omega arith) in
     let w : a .«no_fat_chain» ≡ true → ks ≡ consec (a .first) (a .count) =
     λ t. r .goes ∙ ap (λ (b : Bool). along (fatEntry y d) b (a .first) (a .count)) t ∙ sym (consec-along (fatEntry y d) (a .first) (a .count)) in
     record {

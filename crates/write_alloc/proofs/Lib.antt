@@ -1,10 +1,12 @@
+pub mod AllocateLaws
 pub mod ChoiceLaws
+pub mod Cutting
+pub mod ExtendLaws
+pub mod FirstLaws
+pub mod GrowLaws
 pub mod Links
+pub mod LongerLaws
 pub mod Runs
+pub mod ShrinkLaws
 pub mod TakeLaws
 pub mod Taking
-pub mod FirstLaws
-pub mod AllocateLaws
-pub mod ExtendLaws
-pub mod Cutting
-pub mod ShrinkLaws

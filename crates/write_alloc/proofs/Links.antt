@@ -11,7 +11,7 @@ use borrow.Author.Tests.{ne-eqb}
 use Rattle.tables.specs.Table.{upd}
 use Rattle.tables.specs.Lists.{Mem, here, there, Distinct, more, lastOr, consec}
 use Rattle.tables.proofs.TableLaws.{upd-same, upd-other}
-use Rattle.tables.proofs.ListLaws.{in-consec}
+use Rattle.tables.proofs.ListLaws.{in-consec, last-in}
 
 -- ---- the last of a list
 
@@ -19,11 +19,6 @@ pub last-append : (prev : ℕ) (xs zs : List ℕ) → lastOr prev (xs ++ zs) ≡
 unfolding lastOr
 last-append prev [] zs = refl
 last-append prev (k ∷ xs) zs = last-append k xs zs
-
-pub last-in : (k : ℕ) (ks : List ℕ) → Mem (lastOr k ks) (k ∷ ks)
-unfolding lastOr
-last-in k [] = here refl
-last-in k (j ∷ ks) = there (last-in j ks)
 
 pub last-consec : (prev k n : ℕ) → lastOr prev (consec k (suc n)) ≡ k + n
 unfolding lastOr consec

@@ -13,7 +13,7 @@ use Rattle.tables.specs.Table.{upd, updAll}
 use Rattle.tables.specs.Lists.{Mem, here, there, Distinct, every, lastOr, consec}
 use Rattle.tables.proofs.Cases.{clash}
 use Rattle.tables.proofs.TableLaws.{all-same, all-other, all-upd}
-use Rattle.tables.proofs.ListLaws.{mem-take, mem-left, mem-right, every-mem, mem-every, distinct-take}
+use Rattle.tables.proofs.ListLaws.{mem-take, mem-left, mem-right, every-mem, mem-every, distinct-take, last-in}
 use Rattle.tables.proofs.CountLaws.{count-cong, count-all}
 use Rattle.boot.specs.declared.layout.Layout.{Layout}
 use Rattle.boot.specs.Limits.{inMap}
@@ -34,7 +34,7 @@ use Rattle.stream.specs.Listing.{clustersOf}
 use Rattle.stream.proofs.StreamLaws.{last-consec, Read, read-facts}
 use Rattle.stream.proofs.ChainLaws.{stream-empty}
 use Rattle.stream.proofs.ListingLaws.{stream-read}
-use Rattle.stream.proofs.Distinct.{last-in, chain-cut, run-listed, record-listed, read-run, read-chain, read-distinct, stream-frame}
+use Rattle.stream.proofs.Distinct.{chain-cut, run-listed, record-listed, read-run, read-chain, read-distinct, stream-frame}
 use Rattle.write_alloc.specs.Outcome.{Outcome, unchanged}
 use Rattle.write_alloc.specs.Shrink.{systemCause, freeAll, risingFrom, rising, keptRecord, endKept, shrinkCause, cut, shrinkIn}
 use Rattle.write_alloc.proofs.TakeLaws.{mark-is, fat-is, byte-is}
