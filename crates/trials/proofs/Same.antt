@@ -1,0 +1,76 @@
+-- What passes the tests of sameness is the same.
+use mathlib.Core.Path.{_≡_, refl, sym}
+use mathlib.Core.Bool.{Bool, true, false, _&&_}
+use mathlib.Core.List.{List, [], _∷_, map}
+use Prim.Native.Nat.{ℕ}
+use lib.Dec.{eqb}
+use borrow.Author.Tests.{eqb-true}
+use Rattle.stream.specs.declared.allocation.Allocation.{Allocation}
+use Rattle.write_alloc.specs.declared.answer.Answer.{Answer}
+use Rattle.trials.specs.Trial.{Result, answered, listed, Trial, sameFlag, sameList, sameRecord, sameAnswer, sameResult, said, wanted, agrees, allAgree}
+
+-- both of two tests are passed
+both : (a b : Bool) → (a && b) ≡ true → (a ≡ true) × (b ≡ true)
+both true b e = (refl, e)
+both false true e = (e, refl)
+both false false e = (e, e)
+
+same-flag : (a b : Bool) → sameFlag a b ≡ true → a ≡ b
+unfolding sameFlag
+same-flag true true e = refl
+same-flag true false e = sym e
+same-flag false true e = e
+same-flag false false e = refl
+
+same-list : (l m : List ℕ) → sameList l m ≡ true → l ≡ m
+unfolding sameList
+same-list [] [] e = refl
+same-list [] (y ∷ ys) e = cc
+same-list (x ∷ xs) [] e = cc
+same-list (x ∷ xs) (y ∷ ys) e =
+    let b = both (eqb x y) (sameList xs ys) e in
+    cc (eqb-true x y (b .0), same-list xs ys (b .1))
+
+same-record : (a b : Allocation) → sameRecord a b ≡ true → a ≡ b
+unfolding sameRecord
+same-record a b e =
+    let tail = sameFlag (a .«no_fat_chain») (b .«no_fat_chain») in
+    let f = both (eqb (a .first) (b .first)) (eqb (a .last) (b .last) && (eqb (a .count) (b .count) && tail)) e in
+    let l = both (eqb (a .last) (b .last)) (eqb (a .count) (b .count) && tail) (f .1) in
+    let c = both (eqb (a .count) (b .count)) tail (l .1) in
+    λ i. record {
+      first = eqb-true (a .first) (b .first) (f .0) i;
+      last = eqb-true (a .last) (b .last) (l .0) i;
+      count = eqb-true (a .count) (b .count) (c .0) i;
+      «no_fat_chain» = same-flag (a .«no_fat_chain») (b .«no_fat_chain») (c .1) i;
+    }
+
+same-answer : (a b : Answer) → sameAnswer a b ≡ true → a ≡ b
+unfolding sameAnswer
+same-answer a b e =
+    let n = both (eqb (a .number) (b .number)) (sameRecord (a .allocation) (b .allocation) && eqb (a .hint) (b .hint)) e in
+    let r = both (sameRecord (a .allocation) (b .allocation)) (eqb (a .hint) (b .hint)) (n .1) in
+    λ i. record {
+      number = eqb-true (a .number) (b .number) (n .0) i;
+      allocation = same-record (a .allocation) (b .allocation) (r .0) i;
+      hint = eqb-true (a .hint) (b .hint) (r .1) i;
+    }
+
+same-result : (r s : Result) → sameResult r s ≡ true → r ≡ s
+unfolding sameResult
+same-result (answered a d) (answered b e) t =
+    let p = both (sameAnswer a b) (sameList d e) t in
+    cc (same-answer a b (p .0), same-list d e (p .1))
+same-result (answered a d) (listed n l) t = cc
+same-result (listed n l) (answered b e) t = cc
+same-result (listed m k) (listed n l) t =
+    let p = both (eqb m n) (sameList k l) t in
+    cc (eqb-true m n (p .0), same-list k l (p .1))
+
+-- where all trials of a table agree, what the definitions say is what is expected, row by row
+pub all-same : (ts : List Trial) → allAgree ts ≡ true → map said ts ≡ map wanted ts
+unfolding allAgree agrees
+all-same [] e = refl
+all-same (t ∷ ts) e =
+    let p = both (sameResult (said t) (wanted t)) (allAgree ts) e in
+    cc (same-result (said t) (wanted t) (p .0), all-same ts (p .1))

@@ -1,0 +1,89 @@
+#!/usr/bin/env python3
+"""What 01 says of its marked trials, as the program of crates/trials_run prints it.
+
+Without arguments: print the lines. With --check FILE: compare them with FILE.
+Every number here is 01's or follows from a sentence of it; nothing is computed by the writer's rules.
+"""
+
+import sys
+
+END, BAD = 0xFFFFFFFF, 0xFFFFFFF7
+NEW = (0x03, 0x00)
+BAD6 = {6: BAD}
+OLD = {4: 9, 5: END, 6: 0x12345678}
+EMPTY = (0, 0, 0, "chain")
+
+
+def chain(*clusters):
+    """The FAT entries of a chain."""
+    return dict(zip(clusters, clusters[1:] + (END,)))
+
+
+LIST6 = [10, 11, 12, 13, 14, 15, 16, 17, 4, 5, 7, 8, 9]
+
+# name; answer (number, record, hint), or None where a record is only listed; its listing (number, clusters); the volume after it:
+# bitmap bytes, FAT entries that are not 0 besides the root's
+TRIALS = [
+    ("T1", (0, EMPTY, 4), (0, []), NEW, {}),
+    ("T2", (0, (4, 6, 3, "run"), 7), (0, [4, 5, 6]), (0x1F, 0x00), {}),
+    ("T3", (0, (4, 17, 14, "run"), 2), (0, list(range(4, 18))), (0xFF, 0xFF), {}),
+    ("T4", (7, EMPTY, 4), (0, []), NEW, {}),
+    ("T5", (0, (7, 9, 3, "run"), 10), (0, [7, 8, 9]), (0xE3, 0x00), BAD6),
+    ("T6", (0, (10, 9, 13, "chain"), 10), (0, LIST6), (0xEF, 0xFF), {**BAD6, **chain(*LIST6)}),
+    ("T7", (7, EMPTY, 10), (0, []), NEW, BAD6),
+    ("T8", (0, (4, 8, 4, "chain"), 9), (0, [4, 5, 6, 8]), (0x7F, 0x00), chain(4, 5, 6, 8)),
+    ("T9", (0, (4, 6, 3, "run"), 9), (0, [4, 5, 6]), (0x3F, 0x00), chain(4, 5, 6)),
+    ("T10", None, (4, []), (0x0F, 0x00), {4: 5, 5: 4}),
+    ("T10 extend", (4, (4, 5, 2, "chain"), 4), (4, []), (0x0F, 0x00), {4: 5, 5: 4}),
+    ("T10 shrink", (4, (4, 5, 2, "chain"), 4), (4, []), (0x0F, 0x00), {4: 5, 5: 4}),
+    ("old entries stay", (0, (4, 6, 3, "run"), 7), (0, [4, 5, 6]), (0x1F, 0x00), OLD),
+    ("FFFFFFF8 is no end", None, (3, []), (0x0F, 0x00), {4: 5, 5: 0xFFFFFFF8}),
+    ("FFFFFFF8 extend", (3, (4, 5, 2, "chain"), 4), (3, []), (0x0F, 0x00), {4: 5, 5: 0xFFFFFFF8}),
+    ("FFFFFFF8 shrink", (3, (4, 5, 2, "chain"), 4), (3, []), (0x0F, 0x00), {4: 5, 5: 0xFFFFFFF8}),
+]
+
+
+def volume(marks, links):
+    """The 48 sectors."""
+    bytes_ = bytearray(24576)
+    for k, v in {3: END, **links}.items():
+        bytes_[12288 + 4 * k : 12292 + 4 * k] = v.to_bytes(4, "little")
+    bytes_[16384:16386] = bytes(marks)
+    return bytes_
+
+
+def checksum(bytes_):
+    """01's checksum, over all bytes."""
+    sum_ = 0
+    for k, b in enumerate(bytes_):
+        if k not in (2, 3):
+            sum_ = ((sum_ >> 1 | (sum_ & 1) << 15) + b) & 0xFFFF
+    return sum_
+
+
+def lines():
+    for name, answer, (number, clusters), marks, links in TRIALS:
+        vol = volume(marks, links)
+        yield name
+        if answer:
+            n, (first, last, count, kind), hint = answer
+            yield f"  answer {n} {first} {last} {count} {kind} {hint}"
+        yield "  list " + " ".join(str(k) for k in [number] + clusters + [99] * (16 - len(clusters)))
+        yield f"  free 0 {16 - sum(bin(b).count('1') for b in marks)}"
+        yield "  marks " + " ".join(f"{b:02x}" for b in marks)
+        yield "  fat " + " ".join(f"{({3: END} | links).get(k, 0):08x}" for k in range(18))
+        yield f"  sum {checksum(vol):04x}"
+
+
+def main():
+    text = "".join(line + "\n" for line in lines())
+    if sys.argv[1:2] == ["--check"]:
+        with open(sys.argv[2], encoding="utf-8") as f:
+            if f.read() != text:
+                sys.exit(f"trials: {sys.argv[2]} does not hold the lines of tests/trials.py")
+        print(f"trials: {len(TRIALS)} trials, as stored")
+    else:
+        sys.stdout.write(text)
+
+
+main()
