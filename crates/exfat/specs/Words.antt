@@ -1,0 +1,56 @@
+-- The words in which arguments and answers cross the C boundary.
+use mathlib.Core.Bool.{Bool, true, false, not, cond}
+use mathlib.Core.List.{List, [], _∷_}
+use Prim.Native.Nat.{ℕ}
+use lib.Dec.{eqb}
+use lib.ListN.{getD}
+use Rattle.boot.specs.declared.geometry.Geometry.{Geometry}
+use Rattle.stream.specs.declared.allocation.Allocation.{Allocation}
+use Rattle.write_alloc.specs.declared.answer.Answer.{Answer}
+
+-- a flag in a word: 0 is clear, any other value set
+unfoldable pub flagOf : ℕ → Bool
+flagOf w = not (eqb w 0)
+
+-- and back: 0 or 1
+unfoldable pub flagWord : Bool → ℕ
+flagWord b = cond b 1 0
+
+-- the 11 words of a geometry, in the order of the struct
+unfoldable pub geometryOf : List ℕ → Geometry
+geometryOf ws =
+    record {
+      «sector_shift» = getD ws 0 0;
+      «cluster_shift» = getD ws 1 0;
+      «fat_offset» = getD ws 2 0;
+      «fat_length» = getD ws 3 0;
+      «number_of_fats» = getD ws 4 0;
+      «active_fat» = getD ws 5 0;
+      «cluster_heap_offset» = getD ws 6 0;
+      «cluster_count» = getD ws 7 0;
+      «root_cluster» = getD ws 8 0;
+      «bitmap_0» = getD ws 9 0;
+      «bitmap_1» = getD ws 10 0;
+    }
+
+-- the 4 words of a record: first, last, count, no_fat_chain
+unfoldable pub allocationOf : List ℕ → Allocation
+allocationOf ws =
+    record { first = getD ws 0 0; last = getD ws 1 0; count = getD ws 2 0; «no_fat_chain» = flagOf (getD ws 3 0) }
+
+-- the 8 words that a free count leaves in `out`
+unfoldable pub countWords : ℕ → List ℕ
+countWords n = n ∷ 0 ∷ 0 ∷ 0 ∷ 0 ∷ 0 ∷ 0 ∷ 0 ∷ []
+
+-- and those that allocate, extend and shrink leave there: the record, then the hint
+unfoldable pub answerWords : Answer → List ℕ
+answerWords r =
+    r .allocation .first
+    ∷ r .allocation .last
+    ∷ r .allocation .count
+    ∷ flagWord (r .allocation .«no_fat_chain»)
+    ∷ r .hint
+    ∷ 0
+    ∷ 0
+    ∷ 0
+    ∷ []

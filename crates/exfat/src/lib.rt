@@ -1,0 +1,101 @@
+// The C boundary: the library's calls over numbers and slices alone (include/exfat.h). Each function takes its arguments apart,
+// makes the call and stores what it gives; every function answers the number.
+mod words;
+
+ghost use mathlib.Core.Path.{_≡_};
+ghost use lib.ListN.{length};
+ghost use Rattle.metadata.specs.Free.{freeClusters};
+ghost use Rattle.stream.specs.Listing.{listingNumber, listingList};
+ghost use Rattle.write_alloc.specs.Allocate.{allocateClusters};
+ghost use Rattle.write_alloc.specs.Extend.{extendClusters};
+ghost use Rattle.write_alloc.specs.Shrink.{shrinkClusters};
+ghost use Rattle.exfat.specs.Words.{flagOf, geometryOf, allocationOf, countWords, answerWords};
+
+// How many clusters are free.
+#[no_mangle]
+pub extern "C" fn exfat_free_count(
+    vol: &[u8],
+    map: &[u8],
+    geometry: &[u32; 11],
+    out: &mut [u32; 8],
+) -> u32
+    ensures { λ r. ⌜ (let f = freeClusters (geometryOf (now (geometry .entry))) (now (vol .entry)) (now (map .entry)) in (r ≡ f .number) × (now (out .exit) ≡ countWords (f .count))) ⌝ }
+{
+    let g = words::geometry_of(geometry);
+    let r = metadata::free::free_clusters(vol, map, g);
+    words::put_count(out, r)
+}
+
+// The clusters of a record, written to a list.
+#[no_mangle]
+pub extern "C" fn exfat_clusters(
+    vol: &[u8],
+    map: &[u8],
+    geometry: &[u32; 11],
+    allocation: &[u32; 4],
+    list: &mut [u32],
+) -> u32
+    ensures { λ r. ⌜ (r ≡ listingNumber (geometryOf (now (geometry .entry))) (now (vol .entry)) (now (map .entry)) (allocationOf (now (allocation .entry))) (length (now (list .entry)))) × (now (list .exit) ≡ listingList (geometryOf (now (geometry .entry))) (now (vol .entry)) (now (map .entry)) (allocationOf (now (allocation .entry))) (now (list .entry))) ⌝ }
+{
+    let g = words::geometry_of(geometry);
+    let a = words::allocation_of(allocation);
+    stream::list::clusters(vol, map, g, a, list)
+}
+
+// A new stream of `count` clusters, near a cluster where has_near is not 0.
+#[no_mangle]
+pub extern "C" fn exfat_allocate(
+    vol: &mut [u8],
+    map: &[u8],
+    geometry: &[u32; 11],
+    count: u32,
+    has_near: u32,
+    near: u32,
+    hint: u32,
+    out: &mut [u32; 8],
+) -> u32
+    ensures { λ r. ⌜ (let o = allocateClusters (geometryOf (now (geometry .entry))) (now (vol .entry)) (now (map .entry)) count (flagOf «has_near») near hint in (r ≡ o .answer .number) × ((now (vol .exit) ≡ o .volume) × (now (out .exit) ≡ answerWords (o .answer)))) ⌝ }
+{
+    let g = words::geometry_of(geometry);
+    let given = words::flag_of(has_near);
+    let r = write_alloc::allocate::allocate_clusters(vol, map, g, count, given, near, hint);
+    words::put_answer(out, r)
+}
+
+// A record with `more` clusters added.
+#[no_mangle]
+pub extern "C" fn exfat_extend(
+    vol: &mut [u8],
+    map: &[u8],
+    geometry: &[u32; 11],
+    allocation: &[u32; 4],
+    more: u32,
+    hint: u32,
+    out: &mut [u32; 8],
+) -> u32
+    ensures { λ r. ⌜ (let o = extendClusters (geometryOf (now (geometry .entry))) (now (vol .entry)) (now (map .entry)) (allocationOf (now (allocation .entry))) more hint in (r ≡ o .answer .number) × ((now (vol .exit) ≡ o .volume) × (now (out .exit) ≡ answerWords (o .answer)))) ⌝ }
+{
+    let g = words::geometry_of(geometry);
+    let a = words::allocation_of(allocation);
+    let r = write_alloc::extend::extend_clusters(vol, map, g, a, more, hint);
+    words::put_answer(out, r)
+}
+
+// A record cut to its first `keep` clusters.
+#[no_mangle]
+pub extern "C" fn exfat_shrink(
+    vol: &mut [u8],
+    map: &[u8],
+    geometry: &[u32; 11],
+    allocation: &[u32; 4],
+    keep: u32,
+    hint: u32,
+    out: &mut [u32; 8],
+) -> u32
+    ensures { λ r. ⌜ (let o = shrinkClusters (geometryOf (now (geometry .entry))) (now (vol .entry)) (now (map .entry)) (allocationOf (now (allocation .entry))) keep hint in (r ≡ o .answer .number) × ((now (vol .exit) ≡ o .volume) × (now (out .exit) ≡ answerWords (o .answer)))) ⌝ }
+{
+    let g = words::geometry_of(geometry);
+    let a = words::allocation_of(allocation);
+    let r = write_alloc::shrink::shrink_clusters(vol, map, g, a, keep, hint);
+    words::put_answer(out, r)
+}

@@ -1,0 +1,74 @@
+// Arguments and answers as words: what crosses the C boundary.
+ghost use mathlib.Core.Path.{_≡_};
+ghost use Rattle.exfat.specs.Words.{flagOf, flagWord, geometryOf, allocationOf, countWords, answerWords};
+use boot::geometry::Geometry;
+use metadata::free::FreeCount;
+use stream::allocation::Allocation;
+use write_alloc::answer::Answer;
+
+// A flag in a word: 0 is clear, any other value set.
+pub fn flag_of(w: u32) -> bool
+    ensures { λ r. ⌜ r ≡ flagOf w ⌝ }
+{
+    w != 0
+}
+
+// And back: 0 or 1.
+fn flag_word(flag: bool) -> u32
+    ensures { λ r. ⌜ r ≡ flagWord flag ⌝ }
+{
+    if flag {
+        return 1;
+    }
+    0
+}
+
+// The geometry, its fields in the struct's order.
+pub fn geometry_of(w: &[u32; 11]) -> Geometry
+    ensures { λ r. ⌜ r ≡ geometryOf (now (w .entry)) ⌝ }
+{
+    Geometry {
+        sector_shift: w[0],
+        cluster_shift: w[1],
+        fat_offset: w[2],
+        fat_length: w[3],
+        number_of_fats: w[4],
+        active_fat: w[5],
+        cluster_heap_offset: w[6],
+        cluster_count: w[7],
+        root_cluster: w[8],
+        bitmap_0: w[9],
+        bitmap_1: w[10],
+    }
+}
+
+// A stream's record: first, last, count, no_fat_chain.
+pub fn allocation_of(w: &[u32; 4]) -> Allocation
+    ensures { λ r. ⌜ r ≡ allocationOf (now (w .entry)) ⌝ }
+{
+    let flag = flag_of(w[3]);
+    Allocation {
+        first: w[0],
+        last: w[1],
+        count: w[2],
+        no_fat_chain: flag,
+    }
+}
+
+// Stores what a free count gives, and answers its number.
+pub fn put_count(out: &mut [u32; 8], r: FreeCount) -> u32
+    ensures { λ n. ⌜ (n ≡ r .number) × (now (out .exit) ≡ countWords (r .count)) ⌝ }
+{
+    *out = [r.count, 0, 0, 0, 0, 0, 0, 0];
+    r.number
+}
+
+// Stores the record and the hint of an answer, and answers its number.
+pub fn put_answer(out: &mut [u32; 8], r: Answer) -> u32
+    ensures { λ n. ⌜ (n ≡ r .number) × (now (out .exit) ≡ answerWords r) ⌝ }
+{
+    let a = r.allocation;
+    let flag = flag_word(a.no_fat_chain);
+    *out = [a.first, a.last, a.count, flag, r.hint, 0, 0, 0];
+    r.number
+}

@@ -1,0 +1,113 @@
+/*
+ * exfat.h: a proved exFAT volume writer, as a static library.
+ *
+ * The volume is one byte slice that the caller lends; no call keeps anything between calls, allocates memory or calls the
+ * system. Every call takes any bytes and any numbers: it tests everything itself, answers a number, and returns.
+ *
+ * A slice is a pointer and then a length: in bytes for a volume and a map, in words for a list. An array is a pointer.
+ * What the caller has to keep: each pointer leads to as many elements as its length or its array says, is aligned for them and
+ * is not null, at length 0 too; nothing else changes a slice or an array during the call; and what a call writes (the volume of
+ * allocate, extend and shrink, `list`, `out`) overlaps no other argument.
+ *
+ * Arguments that the calls share
+ *
+ *   vol         The volume: boot region, FATs and cluster heap, at most 16,777,216 bytes.
+ *   map         The system map, only read: one bit for each cluster, laid out like the allocation bitmap, so exactly
+ *               ceil(C / 8) bytes for C clusters. The clusters in it are never taken and never freed. It has to hold every
+ *               bitmap; a caller will put the up-case table and the root directory in it as well.
+ *   geometry    11 words: BytesPerSectorShift, SectorsPerClusterShift, FatOffset, FatLength, NumberOfFats, ActiveFat (0 or
+ *               1), ClusterHeapOffset, ClusterCount, FirstClusterOfRootDirectory, first cluster of the first FAT's bitmap,
+ *               first cluster of the second FAT's bitmap (not looked at with one FAT). Offsets and FatLength are in sectors.
+ *   allocation  A stream's record, 4 words: first cluster, last cluster, count of clusters, NoFatChain (0 is clear, any other
+ *               value set). Set, the clusters first..last follow each other and the FAT is not looked at; clear, the FAT links
+ *               them. With count 0 the stream is empty, whatever the other words say.
+ *   hint        The cluster at which a search starts where nothing else says so: the one that the call before gave back, or 2.
+ *   out         8 words that the call stores, all of them: what it gives, then zeros.
+ *
+ * Numbers
+ *
+ *   0   done
+ *   1   the geometry, the volume's length or the map breaks the limits
+ *   2   the hint, the near cluster or a cluster of the record is outside 2..C+1
+ *   3   a chain meets a FAT value that is neither a cluster nor the end
+ *   4   a chain goes on after C clusters
+ *   5   the record's count or last cluster is not that of its stream
+ *   6   a cluster of the record is not marked in the bitmap
+ *   7   too few clusters
+ *   9   a system cluster among those to be freed
+ *   14  the list is shorter than the record's count
+ *
+ * Every call tests 1 first, then the hint where it has one. A refused call (a number that is not 0) leaves the volume and the
+ * list as they were.
+ */
+#ifndef EXFAT_H
+#define EXFAT_H
+
+#include <stddef.h>
+#include <stdint.h>
+
+#ifdef __cplusplus
+extern "C" {
+#endif
+
+#define EXFAT_GEOMETRY_WORDS 11
+#define EXFAT_ALLOCATION_WORDS 4
+#define EXFAT_OUT_WORDS 8
+
+/*
+ * How many clusters the active FAT's bitmap leaves unmarked.
+ *
+ * Numbers: 1.
+ * out[0] is the count; refused, 0.
+ */
+uint32_t exfat_free_count(const uint8_t *vol, size_t vol_len, const uint8_t *map, size_t map_len, const uint32_t geometry[11],
+                          uint32_t out[8]);
+
+/*
+ * Writes the clusters of a record, in stream order, to the front of a list; the list's further words stay.
+ *
+ * Numbers: 1, 14, then the record's: for a run 5, then 2 or 6 of its earliest cluster that is wrong; for a chain 2, 3 or 4, 5, 6.
+ * Refused, the whole list stays.
+ */
+uint32_t exfat_clusters(const uint8_t *vol, size_t vol_len, const uint8_t *map, size_t map_len, const uint32_t geometry[11],
+                        const uint32_t allocation[4], uint32_t *list, size_t list_len);
+
+/*
+ * Takes `count` clusters as a new stream: the lowest run of usable clusters from the start on, else the lowest of all, else
+ * usable clusters one by one, from the start to the end of the heap and then from 2, linked in the FAT. The start is `near`
+ * where has_near is not 0, else the hint. Count 0 gives the empty record.
+ *
+ * Numbers: 1; 2 for the hint; 7 above the free count; 2 for near; 7 for too few usable clusters.
+ * out[0..3] is the record (first, last, count, NoFatChain as 0 or 1), out[4] the new hint; refused, the empty record (four
+ * zeros) and the hint as given.
+ */
+uint32_t exfat_allocate(uint8_t *vol, size_t vol_len, const uint8_t *map, size_t map_len, const uint32_t geometry[11],
+                        uint32_t count, uint32_t has_near, uint32_t near, uint32_t hint, uint32_t out[8]);
+
+/*
+ * Adds `more` clusters to a record. A run stays one where the clusters behind it are usable; else it is linked in the FAT, and
+ * the new clusters are sought from last + 1 on as for allocate. `more` 0 changes nothing; an empty record is an allocation
+ * without near.
+ *
+ * Numbers: 1; 2 for the hint; 7 where count and more are above C or more is above the free count; the record's, as for
+ * exfat_clusters; 7 for too few usable clusters.
+ * out as for exfat_allocate; refused, the record and the hint as given (NoFatChain as 0 or 1).
+ */
+uint32_t exfat_extend(uint8_t *vol, size_t vol_len, const uint8_t *map, size_t map_len, const uint32_t geometry[11],
+                      const uint32_t allocation[4], uint32_t more, uint32_t hint, uint32_t out[8]);
+
+/*
+ * Cuts a record to its first `keep` clusters and frees the others: each gets FAT entry 0 and is unmarked. A chain whose kept
+ * numbers rise by one becomes a run. `keep` at or above the count changes nothing, and the record is not looked at.
+ *
+ * Numbers: 1; 2 for the hint; the record's, as for exfat_clusters; 9 for a system cluster among those to be freed.
+ * out[0..3] is the record that is left (empty: four zeros), out[4] the hint as given; refused, the record and the hint as given.
+ */
+uint32_t exfat_shrink(uint8_t *vol, size_t vol_len, const uint8_t *map, size_t map_len, const uint32_t geometry[11],
+                      const uint32_t allocation[4], uint32_t keep, uint32_t hint, uint32_t out[8]);
+
+#ifdef __cplusplus
+}
+#endif
+
+#endif

@@ -1,0 +1,1 @@
+//! Shim of write_rename.rs: renaming is not compared.
