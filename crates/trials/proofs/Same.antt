@@ -5,15 +5,14 @@ use mathlib.Core.List.{List, [], _∷_, map}
 use Prim.Native.Nat.{ℕ}
 use lib.Dec.{eqb}
 use borrow.Author.Tests.{eqb-true}
+use Rattle.boot.proofs.Tests.{and-left, and-right}
 use Rattle.stream.specs.declared.allocation.Allocation.{Allocation}
 use Rattle.write_alloc.specs.declared.answer.Answer.{Answer}
 use Rattle.trials.specs.Trial.{Result, answered, listed, Trial, sameFlag, sameList, sameRecord, sameAnswer, sameResult, said, wanted, agrees, allAgree}
 
 -- both of two tests are passed
 both : (a b : Bool) → (a && b) ≡ true → (a ≡ true) × (b ≡ true)
-both true b e = (refl, e)
-both false true e = (e, refl)
-both false false e = (e, e)
+both a b e = (and-left a b e, and-right a b e)
 
 same-flag : (a b : Bool) → sameFlag a b ≡ true → a ≡ b
 unfolding sameFlag
