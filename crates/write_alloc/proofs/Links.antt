@@ -20,11 +20,6 @@ unfolding lastOr
 last-append prev [] zs = refl
 last-append prev (k ∷ xs) zs = last-append k xs zs
 
-pub last-consec : (prev k n : ℕ) → lastOr prev (consec k (suc n)) ≡ k + n
-unfolding lastOr consec
-last-consec prev k zero = omega arith
-last-consec prev k (suc n) = last-consec k (k + 1) n ∙ omega arith
-
 -- ---- links: the one before a cluster leads to it (0: none)
 
 abbrev pub linkOne : (ℕ → ℕ) → ℕ → ℕ → ℕ → ℕ
