@@ -2,11 +2,11 @@
 use mathlib.Core.Path.{_≡_, refl, sym, _∙_, ap}
 use mathlib.Core.Logic.{_⊎_, inl, inr, ⊎-elim}
 use mathlib.Core.Bool.{Bool, true, false}
-use Prim.Native.Nat.{ℕ, zero, suc, _+_, _-_, _*_, _/_, _%_, _≤_, _<_}
+use Prim.Native.Nat.{ℕ, zero, suc, _+_, _-_, _*_, _/_, _%_, _^_, _≤_, _<_}
 use native.Mathlib.Omega.{arith}
 use native.Mathlib.Nat.{mul-le-mul-right, add-mul, one-mul, div-add-mod', mod-lt}
 use lib.Dec.{eqb}
-use lib.Pow.{pow-pos, pow-mono}
+use lib.Pow.{pow-pos, pow-mono, pow-add}
 use borrow.Author.Tests.{eqb-true, eq-eqb, ne-eqb}
 use Rattle.boot.specs.declared.geometry.Geometry.{Geometry}
 use Rattle.boot.specs.declared.layout.Layout.{Layout}
@@ -14,9 +14,22 @@ use Rattle.boot.specs.Geometry.{sectorShift, clusterShift, fatOffset, fa
 use Rattle.boot.specs.Facts.{Shape, Room, Bitmaps, Accepted}
 use Rattle.boot.specs.Layout.{fatStart, clusterStart, bitmapFirst, layoutOf, clusterAt, Laid}
 
-size-low : (g : Geometry) → 1 ≤ clusterSize g
+size-pos : (g : Geometry) → 1 ≤ clusterSize g
 unfolding clusterSize
-size-low g = pow-pos (sectorShift g + clusterShift g)
+size-pos g = pow-pos (sectorShift g + clusterShift g)
+
+size-low : (g : Geometry) → 9 ≤ sectorShift g → 512 ≤ clusterSize g
+unfolding clusterSize
+size-low g h = pow-mono {i = 9} (omega arith)
+
+-- a whole number of entries of 32 bytes
+size-whole : (g : Geometry) → 9 ≤ sectorShift g → 32 * (clusterSize g / 32) ≡ clusterSize g
+unfolding clusterSize
+size-whole g h =
+    let k = sectorShift g + clusterShift g in
+    let e : 5 + (k - 5) ≡ k = omega arith in
+    let p : 2 ^ k ≡ 32 * 2 ^ (k - 5) = ap (λ (x : ℕ). 2 ^ x) (sym e) ∙ pow-add 2 5 (k - 5) in
+    omega arith
 
 size-high : (g : Geometry) → sectorShift g + clusterShift g ≤ 15 → clusterSize g ≤ 32768
 unfolding clusterSize
@@ -27,7 +40,7 @@ pub bytes-le : (g : Geometry) → bitmapBytes (clusterCount g) ≤ bitmapCluster
 unfolding bitmapClusters
 bytes-le g =
     let b = bitmapBytes (clusterCount g) in
-    let pos : 0 < clusterSize g = size-low g in
+    let pos : 0 < clusterSize g = size-pos g in
     omega (arith, div-add-mod' (b + (clusterSize g - 1)) (clusterSize g), mod-lt (b + (clusterSize g - 1)) pos)
 
 pub first-zero : (g : Geometry) → bitmapFirst g zero ≡ bitmap0 g
@@ -99,8 +112,9 @@ module _ (g : Geometry) (len : ℕ) (p : Accepted g len) where
         heap-in = heap-len;
         run0-in = p .bitmaps .high0;
         run1-in = first-high (numberOfFats g - 1) (omega arith);
-        size-low = size-low g;
+        size-low = size-low g (s .sector-low);
         size-high = size-high g (omega arith);
+        whole = size-whole g (s .sector-low);
         count-low = s .count-low;
         count-high = s .count-high;
         len-high = r .len-high;

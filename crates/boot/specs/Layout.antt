@@ -68,8 +68,10 @@ pub record Laid (y : Layout) : Type 0 where
   pub heap-in : y .heap + y .count * y .size ≤ y .len
   pub run0-in : y .first0 + y .span ≤ y .count + 2
   pub run1-in : y .first1 + y .span ≤ y .count + 2
-  pub size-low : 1 ≤ y .size
+  pub size-low : 512 ≤ y .size
   pub size-high : y .size ≤ 32768
+  -- a cluster holds a whole number of entries (32 bytes each)
+  pub whole : 32 * (y .size / 32) ≡ y .size
   pub count-low : 1 ≤ y .count
   pub count-high : y .count ≤ 32768
   pub len-high : y .len ≤ 16777216

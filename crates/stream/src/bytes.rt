@@ -41,7 +41,7 @@ pub fn seek(vol: &[u8], y: Layout, run: bool, first: u32, steps: u32) -> u32
 }
 
 // Stores n bytes of src, from `from` on, in cluster k, from its byte `at` on.
-fn put_piece(vol: &mut [u8], y: Layout, k: u32, at: usize, src: &[u8], from: usize, n: usize)
+pub fn put_piece(vol: &mut [u8], y: Layout, k: u32, at: usize, src: &[u8], from: usize, n: usize)
     requires { ⌜ Laid y × ((length (now vol) ≡ y .len) × ((2 ≤ k) × ((k < y .count + 2) × ((at + n ≤ y .size) × (from + n ≤ length (now src)))))) ⌝ }
     ensures { λ _. ⌜ now (vol .exit) ≡ putBytes y (now (vol .entry)) k at (take n (drop from (now (src .entry)))) ⌝ }
 {
@@ -50,7 +50,7 @@ fn put_piece(vol: &mut [u8], y: Layout, k: u32, at: usize, src: &[u8], from: usi
 }
 
 // Stores n zeros in cluster k, from its byte `at` on.
-fn put_zeros(vol: &mut [u8], y: Layout, k: u32, at: usize, n: usize)
+pub fn put_zeros(vol: &mut [u8], y: Layout, k: u32, at: usize, n: usize)
     requires { ⌜ Laid y × ((length (now vol) ≡ y .len) × ((2 ≤ k) × ((k < y .count + 2) × (at + n ≤ y .size)))) ⌝ }
     ensures { λ _. ⌜ now (vol .exit) ≡ putBytes y (now (vol .entry)) k at (replicate n 0) ⌝ }
 {

@@ -50,7 +50,7 @@ fn still_marked(vol: &[u8], y: Layout, k: u32, so_far: bool) -> bool
 }
 
 // The chain from first, a cluster of the heap (Rust: `fat_chain`).
-fn fat_chain(vol: &[u8], y: Layout, first: u32) -> Walked
+pub fn fat_chain(vol: &[u8], y: Layout, first: u32) -> Walked
     requires { ⌜ Laid y × ((length (now vol) ≡ y .len) × ((2 ≤ first) × (first < y .count + 2))) ⌝ }
     ensures { λ r. ⌜ r ≡ walked (marked y (now (vol .entry))) (readChain (y .count) (fatEntry y (now (vol .entry))) first) ⌝ }
 {

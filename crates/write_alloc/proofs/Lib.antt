@@ -1,12 +1,11 @@
 pub mod AllocateLaws
 pub mod ChoiceLaws
-pub mod Cutting
+pub mod EnoughLaws
 pub mod ExtendLaws
 pub mod FirstLaws
 pub mod GrowLaws
 pub mod Links
 pub mod LongerLaws
 pub mod Runs
-pub mod ShrinkLaws
 pub mod TakeLaws
 pub mod Taking

@@ -114,7 +114,7 @@ fn no_stream(number: u32, hint: u32) -> Answer
 }
 
 // A new stream of n clusters for a search that starts at start.
-fn new_stream(vol: &mut [u8], map: &[u8], y: Layout, n: u32, start: u32, hint: u32) -> Answer
+pub fn new_stream(vol: &mut [u8], map: &[u8], y: Layout, n: u32, start: u32, hint: u32) -> Answer
     requires { ⌜ Laid y × ((length (now vol) ≡ y .len) × ((y .count ≤ 8 * length (now map)) × ((2 ≤ start) × ((start < y .count + 2) × (Apart y × (1 ≤ n)))))) ⌝ }
     ensures { λ r. ⌜ (r ≡ newStream y (now (vol .entry)) (now (map .entry)) n start hint .answer) × (now (vol .exit) ≡ newStream y (now (vol .entry)) (now (map .entry)) n start hint .volume) ⌝ }
 {

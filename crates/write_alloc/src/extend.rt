@@ -4,7 +4,7 @@ ghost use mathlib.Core.Bool.{true, false};
 ghost use Prim.Native.Nat.{_+_, _-_, _*_, _≤_, _<_};
 ghost use lib.ListN.{length};
 ghost use Rattle.tables.specs.Count.{count};
-ghost use Rattle.boot.specs.Layout.{Laid, Apart};
+ghost use Rattle.boot.specs.Layout.{Laid, Apart, inHeap};
 ghost use Rattle.metadata.specs.Usable.{isUsable};
 ghost use Rattle.stream.specs.Stream.{numberOf, streamOf};
 ghost use Rattle.write_alloc.specs.Choice.{chosen, beginOf};
@@ -178,6 +178,20 @@ pub fn extend_in(vol: &mut [u8], map: &[u8], y: Layout, a: Allocation, n: u32, h
         return as_given(number, a, hint);
     }
     as_given(2, a, hint)
+}
+
+// n more clusters for a stream whose record is known to read, n of them known to be usable: what extend does where nothing refuses.
+pub fn grow_in(vol: &mut [u8], map: &[u8], y: Layout, a: Allocation, n: u32, hint: u32) -> Answer
+    requires { ⌜ Laid y × ((length (now vol) ≡ y .len) × ((y .count ≤ 8 * length (now map)) × (Apart y × ((inHeap (y .count) hint ≡ true) × ((numberOf (streamOf y (now vol) a) ≡ 0) × (n ≤ count (isUsable y (now vol) (now map)) 2 (y .count))))))) ⌝ }
+    ensures { λ r. ⌜ (r ≡ extendIn y (now (vol .entry)) (now (map .entry)) a n hint .answer) × (now (vol .exit) ≡ extendIn y (now (vol .entry)) (now (map .entry)) a n hint .volume) ⌝ }
+{
+    if n == 0 {
+        return as_given(0, a, hint);
+    }
+    if a.count == 0 {
+        return crate::allocate::new_stream(vol, map, y, n, hint, hint);
+    }
+    longer_stream(vol, map, y, a, n)
 }
 
 // Adds n clusters to the end of a stream.

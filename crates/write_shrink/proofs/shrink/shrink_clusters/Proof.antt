@@ -4,10 +4,10 @@ use Rattle.boot.specs.Layout.{layoutOf}
 use Rattle.boot.proofs.Accepted.{accepted-of, map-length}
 use Rattle.boot.proofs.Places.{laid-of}
 use Rattle.boot.proofs.Apart.{apart-of}
-use Rattle.write_alloc.proofs.Cutting.{shrink-limits, shrink-is}
+use Rattle.write_shrink.proofs.Cutting.{shrink-limits, shrink-is}
 use borrow.Author.Needs.{needs}
-use Rattle.write_alloc.proofs.shrink.shrink_clusters.Statement.{statement}
-use Rattle.write_alloc.proofs.shrink.shrink_clusters.Tie as tie
+use Rattle.write_shrink.proofs.shrink.shrink_clusters.Statement.{statement}
+use Rattle.write_shrink.proofs.shrink.shrink_clusters.Tie as tie
 
 validate-requires : tie.Need-validate-requires
 validate-requires c κs = search needs

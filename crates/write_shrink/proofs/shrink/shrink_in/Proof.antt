@@ -1,9 +1,9 @@
 use mathlib.Core.Path.{_≡_, sym, _∙_}
 use native.Mathlib.Omega.{arith}
-use Rattle.write_alloc.proofs.Cutting.{shrink-hint, shrink-idle, shrink-refused}
+use Rattle.write_shrink.proofs.Cutting.{shrink-hint, shrink-idle, shrink-refused}
 use borrow.Author.Needs.{needs}
-use Rattle.write_alloc.proofs.shrink.shrink_in.Statement.{statement}
-use Rattle.write_alloc.proofs.shrink.shrink_in.Tie as tie
+use Rattle.write_shrink.proofs.shrink.shrink_in.Statement.{statement}
+use Rattle.write_shrink.proofs.shrink.shrink_in.Tie as tie
 
 in-heap-requires : tie.Need-in-heap-requires
 in-heap-requires c κs = search needs

@@ -8,10 +8,10 @@ use Rattle.boot.proofs.Apart.{in-heap}
 use Rattle.metadata.specs.Fat.{fatEntry}
 use Rattle.stream.specs.Along.{along}
 use Rattle.stream.proofs.StreamLaws.{along-head, along-rest}
-use Rattle.write_alloc.specs.Shrink.{systemCause}
-use Rattle.write_alloc.proofs.Cutting.{system-none, system-hit, system-step}
-use Rattle.write_alloc.proofs.shrink.system_cause.Statement.{statement}
-use Rattle.write_alloc.proofs.shrink.system_cause.Tie as tie
+use Rattle.write_shrink.specs.Shrink.{systemCause}
+use Rattle.write_shrink.proofs.Cutting.{system-none, system-hit, system-step}
+use Rattle.write_shrink.proofs.shrink.system_cause.Statement.{statement}
+use Rattle.write_shrink.proofs.shrink.system_cause.Tie as tie
 
 abbrev Inv-loop : tie.InvT-loop
 Inv-loop vol map y run first n k₀ left₀ k left = (every (inHeap (y .count)) (along (fatEntry y vol) run k left) ≡ true) × (systemCause map (along (fatEntry y vol) run k left) ≡ systemCause map (along (fatEntry y vol) run first n))

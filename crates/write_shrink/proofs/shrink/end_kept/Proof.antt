@@ -1,9 +1,9 @@
 use mathlib.Core.Path.{sym, _∙_}
 use native.Mathlib.Omega.{arith}
-use Rattle.write_alloc.proofs.Cutting.{end-none, end-run, end-some, last-heap}
+use Rattle.write_shrink.proofs.Cutting.{end-none, end-run, end-some, last-heap}
 use borrow.Author.Needs.{needs}
-use Rattle.write_alloc.proofs.shrink.end_kept.Statement.{statement}
-use Rattle.write_alloc.proofs.shrink.end_kept.Tie as tie
+use Rattle.write_shrink.proofs.shrink.end_kept.Statement.{statement}
+use Rattle.write_shrink.proofs.shrink.end_kept.Tie as tie
 
 returns : tie.Need-returns
 returns c = sym (end-none _ _ _ _ _ _ _ (omega arith))

@@ -1,9 +1,9 @@
 use mathlib.Core.Path.{refl}
 use native.Mathlib.Omega.{arith}
 use borrow.Author.Tests.{eq-eqb, ne-eqb}
-use Rattle.write_alloc.specs.Kept.{partRecord}
-use Rattle.write_alloc.proofs.shrink.kept_record.Statement.{statement}
-use Rattle.write_alloc.proofs.shrink.kept_record.Tie as tie
+use Rattle.write_shrink.specs.Kept.{partRecord}
+use Rattle.write_shrink.proofs.shrink.kept_record.Statement.{statement}
+use Rattle.write_shrink.proofs.shrink.kept_record.Tie as tie
 
 returns : tie.Need-returns
 unfolding partRecord

@@ -35,10 +35,10 @@ use Rattle.stream.proofs.StreamLaws.{last-consec, Read, read-facts}
 use Rattle.stream.proofs.ChainLaws.{stream-empty}
 use Rattle.stream.proofs.ListingLaws.{stream-read}
 use Rattle.stream.proofs.Distinct.{chain-cut, run-listed, record-listed, read-run, read-chain, read-distinct, stream-frame}
 use Rattle.write_alloc.specs.Outcome.{Outcome, unchanged}
-use Rattle.write_alloc.specs.Shrink.{systemCause, freeAll, risingFrom, rising, keptRecord, endKept, shrinkCause, cut, shrinkIn}
+use Rattle.write_shrink.specs.Shrink.{systemCause, freeAll, risingFrom, rising, keptRecord, endKept, shrinkCause, cut, shrinkIn}
 use Rattle.write_alloc.proofs.TakeLaws.{mark-is, fat-is, byte-is}
-use Rattle.write_alloc.proofs.Cutting.{distinct-right, distinct-apart, freeOne, length-one, fits-one, end-case, shrink-by}
+use Rattle.write_shrink.proofs.Cutting.{distinct-right, distinct-apart, freeOne, length-one, fits-one, end-case, shrink-by}
 
 -- ---- freeing, in tables
 

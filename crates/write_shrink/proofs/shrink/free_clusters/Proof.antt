@@ -9,10 +9,10 @@ use Rattle.boot.proofs.Apart.{in-heap}
 use Rattle.metadata.specs.Fat.{fatEntry}
 use Rattle.stream.specs.Along.{along}
 use Rattle.stream.proofs.StreamLaws.{along-head}
-use Rattle.write_alloc.specs.Shrink.{freeAll}
-use Rattle.write_alloc.proofs.Cutting.{freeOne, free-none, free-step, free-heap, free-distinct}
-use Rattle.write_alloc.proofs.shrink.free_clusters.Statement.{statement}
-use Rattle.write_alloc.proofs.shrink.free_clusters.Tie as tie
+use Rattle.write_shrink.specs.Shrink.{freeAll}
+use Rattle.write_shrink.proofs.Cutting.{freeOne, free-none, free-step, free-heap, free-distinct}
+use Rattle.write_shrink.proofs.shrink.free_clusters.Statement.{statement}
+use Rattle.write_shrink.proofs.shrink.free_clusters.Tie as tie
 
 abbrev Inv-loop : tie.InvT-loop
 Inv-loop vol₀ y run first n k₀ left₀ vol k left = (length vol ≡ length vol₀) × ((every (inHeap (y .count)) (along (fatEntry y vol) run k left) ≡ true) × (Distinct (along (fatEntry y vol) run k left) × (freeAll y vol (along (fatEntry y vol) run k left) ≡ freeAll y vol₀ (along (fatEntry y vol₀) run first n))))

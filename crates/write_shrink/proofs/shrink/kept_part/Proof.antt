@@ -9,10 +9,10 @@ use Rattle.boot.proofs.Apart.{in-heap}
 use Rattle.metadata.specs.Fat.{fatEntry}
 use Rattle.stream.specs.Along.{after, along}
 use Rattle.stream.proofs.StreamLaws.{along-head, along-rest}
-use Rattle.write_alloc.specs.Kept.{keptPart}
-use Rattle.write_alloc.proofs.Cutting.{walkKept, walk-none, walk-step, kept-none, kept-some}
-use Rattle.write_alloc.proofs.shrink.kept_part.Statement.{statement}
-use Rattle.write_alloc.proofs.shrink.kept_part.Tie as tie
+use Rattle.write_shrink.specs.Kept.{keptPart}
+use Rattle.write_shrink.proofs.Cutting.{walkKept, walk-none, walk-step, kept-none, kept-some}
+use Rattle.write_shrink.proofs.shrink.kept_part.Statement.{statement}
+use Rattle.write_shrink.proofs.shrink.kept_part.Tie as tie
 
 abbrev Inv-loop : tie.InvT-loop
 Inv-loop vol y run first n k₀ next₀ rising₀ left₀ k next rising left = (k < y .count + 2) × ((next ≡ after (fatEntry y vol) run k) × ((every (inHeap (y .count)) (along (fatEntry y vol) run next left) ≡ true) × (walkKept (fatEntry y vol) run rising k left ≡ keptPart (fatEntry y vol) run first n)))

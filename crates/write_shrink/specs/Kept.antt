@@ -5,9 +5,9 @@ use lib.Dec.{eqb}
 use Rattle.tables.specs.Lists.{lastOr}
 use Rattle.stream.specs.declared.allocation.Allocation.{Allocation}
 use Rattle.stream.specs.Along.{after, along}
-use Rattle.write_alloc.specs.declared.shrink.Kept.{Kept}
+use Rattle.write_shrink.specs.declared.shrink.Kept.{Kept}
 use Rattle.write_alloc.specs.Outcome.{empty}
-use Rattle.write_alloc.specs.Shrink.{rising}
+use Rattle.write_shrink.specs.Shrink.{rising}
 
 -- the cluster n steps after k
 unfoldable pub ahead : (ℕ → ℕ) → Bool → ℕ → ℕ → ℕ

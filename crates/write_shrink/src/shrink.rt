@@ -9,12 +9,12 @@ ghost use Rattle.boot.specs.Layout.{Laid, Apart, inHeap};
 ghost use Rattle.metadata.specs.Fat.{fatEntry};
 ghost use Rattle.stream.specs.Stream.{numberOf, streamOf};
 ghost use Rattle.stream.specs.Along.{along};
-ghost use Rattle.write_alloc.specs.Kept.{keptPart, partRecord};
-ghost use Rattle.write_alloc.specs.Shrink.{systemCause, freeAll, endKept, shrinkIn, shrinkClusters};
-use crate::answer::Answer;
+ghost use Rattle.write_shrink.specs.Kept.{keptPart, partRecord};
+ghost use Rattle.write_shrink.specs.Shrink.{systemCause, freeAll, endKept, shrinkIn, shrinkClusters};
 use boot::geometry::Geometry;
 use boot::layout::Layout;
 use stream::allocation::Allocation;
+use write_alloc::answer::Answer;
 
 // The kept clusters of a stream: the last one (0: none), whether their numbers rise by one, and the cluster after them.
 pub struct Kept {
@@ -35,7 +35,7 @@ fn still_rising(k: u32, next: u32, so_far: bool) -> bool
 }
 
 // The first n clusters of a stream.
-fn kept_part(vol: &[u8], y: Layout, run: bool, first: u32, n: u32) -> Kept
+pub fn kept_part(vol: &[u8], y: Layout, run: bool, first: u32, n: u32) -> Kept
     requires { ⌜ Laid y × ((length (now vol) ≡ y .len) × (every (inHeap (y .count)) (along (fatEntry y (now vol)) run first n) ≡ true)) ⌝ }
     ensures { λ r. ⌜ r ≡ keptPart (fatEntry y (now (vol .entry))) run first n ⌝ }
 {
@@ -64,7 +64,7 @@ fn kept_part(vol: &[u8], y: Layout, run: bool, first: u32, n: u32) -> Kept
 }
 
 // What refuses to free n clusters of a stream: a system cluster among them.
-fn system_cause(vol: &[u8], map: &[u8], y: Layout, run: bool, first: u32, n: u32) -> u32
+pub fn system_cause(vol: &[u8], map: &[u8], y: Layout, run: bool, first: u32, n: u32) -> u32
     requires { ⌜ Laid y × ((length (now vol) ≡ y .len) × ((y .count ≤ 8 * length (now map)) × (every (inHeap (y .count)) (along (fatEntry y (now vol)) run first n) ≡ true))) ⌝ }
     ensures { λ r. ⌜ r ≡ systemCause (now (map .entry)) (along (fatEntry y (now (vol .entry))) run first n) ⌝ }
 {
@@ -111,7 +111,7 @@ fn free_clusters(vol: &mut [u8], y: Layout, run: bool, first: u32, n: u32)
 }
 
 // The record of the kept clusters: empty, or a run where their numbers rise by one.
-fn kept_record(first: u32, keep: u32, part: Kept) -> Allocation
+pub fn kept_record(first: u32, keep: u32, part: Kept) -> Allocation
     ensures { λ r. ⌜ r ≡ partRecord first keep part ⌝ }
 {
     if keep == 0 {

@@ -1,7 +1,7 @@
 use mathlib.Core.Path.{refl}
 use borrow.Author.Needs.{needs}
-use Rattle.write_alloc.proofs.shrink.still_rising.Statement.{statement}
-use Rattle.write_alloc.proofs.shrink.still_rising.Tie as tie
+use Rattle.write_shrink.proofs.shrink.still_rising.Statement.{statement}
+use Rattle.write_shrink.proofs.shrink.still_rising.Tie as tie
 
 add-result : tie.Need-add-result
 add-result c = search needs

@@ -30,11 +30,12 @@ use Rattle.stream.specs.Listing.{clustersOf}
 use Rattle.stream.proofs.StreamLaws.{along-step, length-along, along-head, along-rest}
 use Rattle.stream.proofs.ListingLaws.{stream-read}
 use Rattle.stream.proofs.Distinct.{along-cong, read-distinct}
 use Rattle.write_alloc.specs.declared.answer.Answer.{Answer}
-use Rattle.write_alloc.specs.declared.shrink.Kept.{Kept}
+use Rattle.write_shrink.specs.declared.shrink.Kept.{Kept}
 use Rattle.write_alloc.specs.Outcome.{Outcome, unchanged}
-use Rattle.write_alloc.specs.Kept.{ahead, keptPart, partRecord}
-use Rattle.write_alloc.specs.Shrink.{systemCause, freeAll, risingFrom, rising, keptRecord, endKept, shrinkCause, cut, shrinkIn, shrinkClusters}
+use Rattle.write_alloc.proofs.AllocateLaws.{Shown}
+use Rattle.write_shrink.specs.Kept.{ahead, keptPart, partRecord}
+use Rattle.write_shrink.specs.Shrink.{systemCause, freeAll, risingFrom, rising, keptRecord, endKept, shrinkCause, cut, shrinkIn, shrinkClusters}
 
 -- ---- lists put together
 
@@ -324,9 +325,6 @@ module _ (y : Layout) (d : List ℕ) (a : Allocation) (keep : ℕ) (l : Laid y) 
       left-distinct = subst Distinct (sym left-same) freed-distinct
 
 -- ---- what the call answers and leaves
-
-abbrev pub Shown : Outcome → Answer → List ℕ → Type 0
-Shown o r d = (r ≡ o .answer) × (d ≡ o .volume)
 
 module _ (y : Layout) (d m : List ℕ) (a : Allocation) (keep hint : ℕ) where
   pub shrink-by : (idle : Bool) (n : ℕ) → leb (a .count) keep ≡ idle

@@ -1,0 +1,2 @@
+pub mod Shrink
+pub mod Kept
