@@ -1,0 +1,5 @@
+pub mod NameLaws
+pub mod SoundLaws
+pub mod PutLaws
+pub mod NewLaws
+pub mod SetLaws

@@ -1,0 +1,5 @@
+pub mod Fields
+pub mod Name
+pub mod Put
+pub mod New
+pub mod Sound
