@@ -1,0 +1,225 @@
+-- The entries of a directory one after the other: where each lies, and its type byte. Assumes nothing.
+use mathlib.Core.Path.{_≡_, refl, sym, _∙_, ap}
+use mathlib.Core.Logic.{_≢_}
+use mathlib.Core.Bool.{Bool, true, false, not}
+use mathlib.Core.List.{List}
+use Prim.Native.Nat.{ℕ, zero, suc, _+_, _-_, _*_, _/_, _%_, _≤_, _<_}
+use native.Mathlib.Decide.{decLe}
+use native.Mathlib.Nat.{sub-zero, suc-mul, mul-assoc, mul-comm, mul-le-mul-right, div-add-mod', mod-lt}
+use native.Mathlib.Numerals.{add-one}
+use native.Mathlib.Omega.{arith}
+use lib.Dec.{eqb}
+use lib.ListN.{length, getD}
+use borrow.Author.Tests.{lt-ltb, le-ltb, eq-eqb, ne-eqb}
+use Rattle.primitives.specs.Bits.{bitOf}
+use Rattle.tables.specs.Lists.{every}
+use Rattle.boot.specs.declared.layout.Layout.{Layout}
+use Rattle.boot.specs.Layout.{inHeap}
+use Rattle.boot.proofs.Apart.{in-heap}
+use Rattle.metadata.specs.Fat.{fatEntry}
+use Rattle.metadata.specs.Marks.{marked}
+use Rattle.metadata.specs.Cluster.{clusterByte}
+use Rattle.metadata.proofs.Frame.{Fits}
+use Rattle.stream.specs.declared.allocation.Allocation.{Allocation}
+use Rattle.stream.specs.Along.{after, along}
+use Rattle.stream.specs.Bytes.{bytesOf, reached}
+use Rattle.stream.specs.Stream.{numberOf, streamOf}
+use Rattle.stream.specs.Listing.{clustersOf}
+use Rattle.stream.proofs.StreamLaws.{length-along, along-head}
+use Rattle.stream.proofs.BytesSteps.{every-from}
+use Rattle.stream.proofs.BytesLaws.{length-of, byte-of}
+use Rattle.stream.proofs.ListingLaws.{stream-read, along-heap}
+use Rattle.stream.proofs.Distinct.{few, read-length, read-distinct}
+use Rattle.write_alloc.specs.Choice.{allFrom}
+use Rattle.write_alloc.proofs.Runs.{all-none, all-next, all-not}
+use Rattle.write_alloc.proofs.GrowLaws.{small}
+use Rattle.write_dir.specs.declared.entries.Cursor.{Cursor}
+use Rattle.write_dir.specs.Directory.{bytesIn}
+use Rattle.write_dir.specs.Entries.{entryCount, typeAt, inUse, beforeEnd}
+use Rattle.write_dir.specs.Cursor.{nextEntry, entryAt}
+use Rattle.write_dir.proofs.PlaceLaws.{clusters-along}
+
+-- ---- going along
+
+module _ (fat : ℕ → ℕ) (run : Bool) where
+  reach-last : (k n : ℕ) → reached fat run k (suc n) ≡ after fat run (reached fat run k n)
+  unfolding reached
+  reach-last k zero = refl
+  reach-last k (suc n) = reach-last (after fat run k) n
+
+  pub along-at : (k n m : ℕ) → m < n → getD (along fat run k n) m 0 ≡ reached fat run k m
+  unfolding along reached
+  along-at k zero m h = absurd (omega arith)
+  along-at k (suc n) zero h = refl
+  along-at k (suc n) (suc m) h = along-at (after fat run k) n m (omega arith)
+
+  pub reached-heap : (C k n m : ℕ) → every (inHeap C) (along fat run k n) ≡ true → m < n → inHeap C (reached fat run k m) ≡ true
+  reached-heap C k n m e h =
+      along-head (inHeap C) fat run (reached fat run k m) (n - m) (omega arith) (every-from fat run (inHeap C) m k n (omega arith) e)
+
+-- ---- from entry to entry
+
+module _ (y : Layout) (fat : ℕ → ℕ) (run : Bool) where
+  pub next-here : (e : Cursor) → e .at + 32 < y .size → nextEntry y fat run e ≡ record { cluster = e .cluster; at = e .at + 32 }
+  unfolding nextEntry
+  next-here e h = rw (lt-ltb (e .at + 32) (y .size) h) refl
+
+  pub next-over : (e : Cursor) → y .size ≤ e .at + 32 → nextEntry y fat run e ≡ record { cluster = after fat run (e .cluster); at = 0 }
+  unfolding nextEntry
+  next-over e h = rw (le-ltb (e .at + 32) (y .size) h) refl
+
+  pub entry-first : (first : ℕ) → record { cluster = first; at = 0 } ≡ entryAt y fat run first 0
+  unfolding entryAt
+  entry-first first = refl
+
+  pub entry-next : (first i : ℕ) → nextEntry y fat run (entryAt y fat run first i) ≡ entryAt y fat run first (i + 1)
+  unfolding entryAt
+  entry-next first i = rw add-one refl
+
+  -- p entries to a cluster: entry j of cluster m
+  module _ (p : ℕ) (whole : 32 * p ≡ y .size) (first : ℕ) where
+    abbrev place : ℕ → ℕ → Cursor
+    place m at = record { cluster = reached fat run first m; at = at }
+
+    row : (m s j : ℕ) → entryAt y fat run first s ≡ place m 0 → j < p → entryAt y fat run first (s + j) ≡ place m (32 * j)
+    row m s zero e h = ap (entryAt y fat run first) (omega arith) ∙ e
+    row m s (suc j) e h =
+        let z : s + suc j ≡ s + j + 1 = omega arith in
+        let q : 32 * j + 32 ≡ 32 * suc j = omega arith in
+        ap (entryAt y fat run first) z ∙ sym (entry-next first (s + j)) ∙ ap (nextEntry y fat run) (row m s j e (omega arith))
+        ∙ next-here (place m (32 * j)) (omega arith) ∙ ap (place m) q
+
+    rows : (m : ℕ) → 1 ≤ p → entryAt y fat run first (m * p) ≡ place m 0
+    rows zero l = ap (entryAt y fat run first) (omega arith) ∙ sym (entry-first first) ∙ (unfold reached in refl)
+    rows (suc m) l =
+        let z : suc m * p ≡ m * p + (p - 1) + 1 = omega (arith, suc-mul m p) in
+        ap (entryAt y fat run first) z ∙ sym (entry-next first (m * p + (p - 1)))
+        ∙ ap (nextEntry y fat run) (row m (m * p) (p - 1) (rows m l) (omega arith))
+        ∙ next-over (place m (32 * (p - 1))) (omega arith) ∙ ap (λ (k : ℕ). record { cluster = k; at = 0 }) (sym (reach-last fat run first m))
+
+    pub entry-place : (m j : ℕ) → j < p → entryAt y fat run first (m * p + j) ≡ record { cluster = reached fat run first m; at = 32 * j }
+    entry-place m j h = row m (m * p) j (rows m (omega arith)) h
+
+-- ---- a directory that reads
+
+module _ (y : Layout) (d : List ℕ) (w : Fits y d) (dir : Allocation) (reads : numberOf (streamOf y d dir) ≡ 0) where
+  abbrev fat : ℕ → ℕ
+  fat = fatEntry y d
+
+  abbrev run : Bool
+  run = dir .«no_fat_chain»
+
+  abbrev per : ℕ
+  per = y .size / 32
+
+  abbrev bs : List ℕ
+  bs = bytesIn y d dir
+
+  pub bytes-along : bytesIn y d dir ≡ bytesOf y d (along fat run (dir .first) (dir .count))
+  unfolding bytesIn
+  bytes-along = ap (bytesOf y d) (clusters-along y d dir reads)
+
+  pub dir-heap : every (inHeap (y .count)) (along fat run (dir .first) (dir .count)) ≡ true
+  dir-heap = along-heap y d dir reads
+
+  pub count-few : dir .count ≤ y .count
+  count-few =
+      let r = stream-read y d dir reads in
+      let ks = clustersOf (streamOf y d dir) in
+      omega (
+        arith,
+        read-length (y .count) fat (marked y d) dir ks r,
+        few (y .count) ks (read-distinct (y .count) fat (marked y d) dir (small y d w) ks r) (r .heap),
+      )
+
+  pub length-in : length (bytesIn y d dir) ≡ dir .count * y .size
+  length-in =
+      ap length bytes-along ∙ length-of y d w (along fat run (dir .first) (dir .count)) dir-heap
+      ∙ ap (λ (n : ℕ). n * y .size) (length-along fat run (dir .first) (dir .count))
+
+  per-low : 16 ≤ per
+  per-low = let l = w .laid in omega (arith, l .size-low, l .whole)
+
+  in-bytes : (n : ℕ) → 32 * (n * per) ≡ n * y .size
+  in-bytes n = sym (mul-assoc 32 n per) ∙ ap (λ (x : ℕ). x * per) (mul-comm 32 n) ∙ mul-assoc n 32 per ∙ ap (λ (x : ℕ). n * x) (w .laid .whole)
+
+  pub length-entries : length (bytesIn y d dir) ≡ 32 * (dir .count * per)
+  length-entries = length-in ∙ sym (in-bytes (dir .count))
+
+  pub entries-is : dir .count * per ≡ entryCount (bytesIn y d dir)
+  unfolding entryCount
+  entries-is = omega (arith, length-entries)
+
+  -- a slot of the directory, in bytes
+  pub slot-bytes : (i n : ℕ) → i + n ≤ entryCount (bytesIn y d dir) → 32 * i + 32 * n ≤ dir .count * y .size
+  slot-bytes i n h = omega (arith, length-in, length-entries, entries-is)
+
+  pub entries-small : dir .count * per ≤ 524288
+  entries-small =
+      let l = w .laid in
+      omega (arith, in-bytes (y .count), l .heap-in, l .len-high, mul-le-mul-right {m = dir .count} {n = y .count} per count-few)
+
+  -- entry i lies in the cluster at place i / per
+  module _ (i : ℕ) (h : i < entryCount (bytesIn y d dir)) where
+    split : i / per * per + i % per ≡ i
+    split = div-add-mod' i per
+
+    rest : i % per < per
+    rest = mod-lt i (omega (arith, per-low))
+
+    inside : i / per < dir .count
+    inside =
+        elim (decLe (dir .count) (i / per)) [
+          | yes b ↦ absurd (omega (arith, split, entries-is, mul-le-mul-right {m = dir .count} {n = i / per} per b))
+          | no b ↦ omega arith
+        ]
+
+    abbrev there : Cursor
+    there = record { cluster = reached fat run (dir .first) (i / per); at = 32 * (i % per) }
+
+    there-is : entryAt y fat run (dir .first) i ≡ there
+    there-is = ap (entryAt y fat run (dir .first)) (sym split) ∙ entry-place y fat run per (w .laid .whole) (dir .first) (i / per) (i % per) rest
+
+    here-in : (2 ≤ there .cluster) × ((there .cluster < y .count + 2) × (there .at + 32 ≤ y .size))
+    here-in =
+        let q = in-heap (y .count) (there .cluster) (reached-heap fat run (y .count) (dir .first) (dir .count) (i / per) dir-heap inside) in
+        (q .0, (q .1, omega (arith, rest, w .laid .whole)))
+
+    -- where a cursor that stands at entry i lies
+    pub cursor-in : (e : Cursor) → e ≡ entryAt y fat run (dir .first) i → (2 ≤ e .cluster) × ((e .cluster < y .count + 2) × (e .at + 32 ≤ y .size))
+    cursor-in e q = rw (q ∙ there-is) here-in
+
+    -- and the type byte there
+    pub cursor-type : (e : Cursor) → e ≡ entryAt y fat run (dir .first) i → clusterByte y d (e .cluster) (e .at) ≡ typeAt (bytesIn y d dir) i
+    unfolding typeAt
+    cursor-type e q =
+        let ks = along fat run (dir .first) (dir .count) in
+        let z : i / per * y .size + 32 * (i % per) ≡ 32 * i = omega (arith, split, in-bytes (i / per)) in
+        ap (λ (x : Cursor). clusterByte y d (x .cluster) (x .at)) (q ∙ there-is)
+        ∙ sym
+        (ap (λ (l : List ℕ). getD l (32 * i) 0) bytes-along ∙ ap (λ (x : ℕ). getD (bytesOf y d ks) x 0) (sym z)
+        ∙ byte-of y d w ks (i / per) (32 * (i % per)) dir-heap (omega (arith, inside, length-along fat run (dir .first) (dir .count))) (omega (arith, here-in .1 .1))
+        ∙ ap (λ (k : ℕ). clusterByte y d k (32 * (i % per))) (along-at fat run (dir .first) (dir .count) (i / per) inside))
+
+    -- and whether it is in use
+    pub cursor-use : (e : Cursor) → e ≡ entryAt y fat run (dir .first) i → eqb (bitOf (clusterByte y d (e .cluster) (e .at)) 7) 1 ≡ inUse (bytesIn y d dir) i
+    unfolding inUse
+    cursor-use e q = ap (λ (x : ℕ). eqb (bitOf x 7) 1) (cursor-type e q)
+
+-- ---- before the first type 0
+
+module _ (bs : List ℕ) where
+  abbrev on : ℕ → Bool
+  on j = not (eqb (typeAt bs j) 0)
+
+  pub before-none : beforeEnd bs 0 ≡ true
+  unfolding beforeEnd
+  before-none = all-none on 0 0 refl
+
+  pub before-next : (i : ℕ) → beforeEnd bs i ≡ true → typeAt bs i ≢ 0 → beforeEnd bs (i + 1) ≡ true
+  unfolding beforeEnd
+  before-next i e h = all-next on 0 i (i + 1) (omega arith) (omega arith) (ap (allFrom on 0) (sub-zero i) ∙ e) (ap not (ne-eqb (typeAt bs i) 0 h))
+
+  pub before-not : (i n : ℕ) → i < n → typeAt bs i ≡ 0 → beforeEnd bs n ≡ false
+  unfolding beforeEnd
+  before-not i n h e = all-not on 0 n i (omega arith) (omega arith) (ap not (eq-eqb (typeAt bs i) 0 e))

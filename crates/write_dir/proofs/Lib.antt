@@ -1,0 +1,13 @@
+pub mod EntryLaws
+pub mod FitLaws
+pub mod OrderedLaws
+pub mod StoreLaws
+pub mod GrowthLaws
+pub mod InsertLaws
+pub mod DirectoryLaws
+pub mod PlaceLaws
+pub mod CursorLaws
+pub mod RoomLaws
+pub mod AddedLaws
+pub mod GrownLaws
+pub mod OpenLaws

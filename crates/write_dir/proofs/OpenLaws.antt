@@ -1,0 +1,374 @@
+-- A file opened by its slot, as the code meets its causes. Assumes nothing.
+use mathlib.Core.Path.{_≡_, refl, sym, _∙_, ap, ap₂}
+use mathlib.Core.Logic.{_≢_}
+use mathlib.Core.Bool.{Bool, true, false, _&&_, cond, false≢true}
+use mathlib.Core.List.{List, [], _∷_}
+use Prim.Native.Nat.{ℕ, zero, suc, _+_, _-_, _*_, _/_, _%_, _≤_, _<_}
+use native.Mathlib.Nat.{mul-left-comm, div-add-mod', mod-lt, div-eq-of-lt}
+use native.Mathlib.Omega.{arith}
+use lib.Dec.{leb}
+use lib.ListN.{getD, take, drop, replicate}
+use borrow.Author.Tests.{eq-eqb, ne-eqb, leb-true, le-leb}
+use Rattle.primitives.specs.Splice.{splice}
+use Rattle.tables.specs.Lists.{lastOr}
+use Rattle.tables.proofs.Cases.{not-so}
+use Rattle.boot.specs.declared.layout.Layout.{Layout}
+use Rattle.boot.specs.Layout.{inHeap}
+use Rattle.boot.specs.Causes.{firstCause}
+use Rattle.boot.proofs.Tests.{and-left, and-right, and-both}
+use Rattle.boot.proofs.Apart.{in-heap}
+use Rattle.boot.proofs.CauseLaws.{cause-skip, cause-met, cause-last}
+use Rattle.metadata.specs.Fat.{fatEntry}
+use Rattle.metadata.specs.Marks.{marked}
+use Rattle.metadata.specs.Cluster.{clusterByte}
+use Rattle.metadata.proofs.Frame.{Fits}
+use Rattle.stream.specs.declared.allocation.Allocation.{Allocation}
+use Rattle.stream.specs.declared.walk.Walked.{Walked}
+use Rattle.stream.specs.Along.{along}
+use Rattle.stream.specs.Bytes.{bytesOf, reached}
+use Rattle.stream.specs.Chain.{Clusters, listed, refused, readChain}
+use Rattle.stream.specs.Stream.{numberOf, streamOf, walked, walkCause}
+use Rattle.stream.specs.Listing.{clustersOf}
+use Rattle.stream.proofs.StreamLaws.{length-along, along-head}
+use Rattle.stream.proofs.ChainLaws.{chain-number, stream-empty, stream-chain}
+use Rattle.stream.proofs.ListingLaws.{stream-read}
+use Rattle.stream.proofs.BytesSteps.{some-left, drop-along, Sought, sought}
+use Rattle.stream.proofs.BytesLaws.{byte-of}
+use Rattle.entry_set.specs.Fields.{noFatChain, firstCluster, dataLength, clustersFor, isDirectory}
+use Rattle.entry_set.specs.Sound.{wellFormed}
+use Rattle.write_alloc.specs.Outcome.{empty}
+use Rattle.write_shrink.specs.Shrink.{systemCause}
+use Rattle.write_dir.specs.declared.place.Spot.{Spot}
+use Rattle.write_dir.specs.Directory.{clustersIn, bytesIn}
+use Rattle.write_dir.specs.Entries.{entryCount, typeAt, isFile, entriesAt, wholeSet, setAt, isSound}
+use Rattle.write_dir.specs.Place.{spotOf}
+use Rattle.write_dir.specs.Open.{fileRecord, entryCause, attributeCause, streamCause, setIn, fileCause, opened, openFile}
+use Rattle.write_dir.proofs.EntryLaws.{sound-file, sound-few, sound-room, sound-formed, sound-of}
+use Rattle.write_dir.proofs.CursorLaws.{bytes-along, dir-heap, slot-bytes, along-at}
+use Rattle.write_dir.proofs.PlaceLaws.{clusters-along}
+
+-- ---- choices
+
+cond-yes : (b : Bool) (x z : ℕ) → b ≡ true → cond b x z ≡ x
+cond-yes b x z e = rw e refl
+
+cond-no : (b : Bool) (x z : ℕ) → b ≡ false → cond b x z ≡ z
+cond-no b x z e = rw e refl
+
+-- ---- a set that fits
+
+module _ (bs : List ℕ) (i : ℕ) where
+  abbrev tests : Bool
+  tests = isFile bs i && (leb (entriesAt bs i) 19 && leb (i + entriesAt bs i) (entryCount bs))
+
+  pub whole-no : (isFile bs i ≡ true → entriesAt bs i ≤ 19 → i + entriesAt bs i ≤ entryCount bs → ⊥) → 0 ≡ wholeSet bs i
+  unfolding wholeSet
+  whole-no h =
+      sym
+      (cond-no tests (entriesAt bs i) 0
+      (not-so tests
+      (λ e. let r = and-right (isFile bs i) (leb (entriesAt bs i) 19 && leb (i + entriesAt bs i) (entryCount bs)) e in
+      h (and-left (isFile bs i) (leb (entriesAt bs i) 19 && leb (i + entriesAt bs i) (entryCount bs)) e)
+      (leb-true (entriesAt bs i) 19 (and-left (leb (entriesAt bs i) 19) (leb (i + entriesAt bs i) (entryCount bs)) r))
+      (leb-true (i + entriesAt bs i) (entryCount bs) (and-right (leb (entriesAt bs i) 19) (leb (i + entriesAt bs i) (entryCount bs)) r)))))
+
+  pub whole-yes : isFile bs i ≡ true → entriesAt bs i ≤ 19 → i + entriesAt bs i ≤ entryCount bs → entriesAt bs i ≡ wholeSet bs i
+  unfolding wholeSet
+  whole-yes f a b =
+      sym
+      (cond-yes tests (entriesAt bs i) 0
+      (and-both (isFile bs i) (leb (entriesAt bs i) 19 && leb (i + entriesAt bs i) (entryCount bs)) f
+      (and-both (leb (entriesAt bs i) 19) (leb (i + entriesAt bs i) (entryCount bs)) (le-leb (entriesAt bs i) 19 a) (le-leb (i + entriesAt bs i) (entryCount bs) b))))
+
+  -- what a number of entries says
+  pub whole-some : wholeSet bs i ≢ 0 → (isFile bs i ≡ true) × ((entriesAt bs i ≤ 19) × ((i + entriesAt bs i ≤ entryCount bs) × (wholeSet bs i ≡ entriesAt bs i)))
+  unfolding wholeSet
+  whole-some h = by tests refl
+    where
+      by : (b : Bool) → tests ≡ b → (isFile bs i ≡ true) × ((entriesAt bs i ≤ 19) × ((i + entriesAt bs i ≤ entryCount bs) × (cond tests (entriesAt bs i) 0 ≡ entriesAt bs i)))
+      by true e =
+          let r = and-right (isFile bs i) (leb (entriesAt bs i) 19 && leb (i + entriesAt bs i) (entryCount bs)) e in (
+            and-left (isFile bs i) (leb (entriesAt bs i) 19 && leb (i + entriesAt bs i) (entryCount bs)) e,
+            (
+              leb-true (entriesAt bs i) 19 (and-left (leb (entriesAt bs i) 19) (leb (i + entriesAt bs i) (entryCount bs)) r),
+              (
+                leb-true (i + entriesAt bs i) (entryCount bs) (and-right (leb (entriesAt bs i) 19) (leb (i + entriesAt bs i) (entryCount bs)) r),
+                cond-yes tests (entriesAt bs i) 0 e,
+              ),
+            ),
+          )
+      by false e = absurd (h (cond-no tests (entriesAt bs i) 0 e))
+
+  pub entries-low : 1 ≤ entriesAt bs i
+  unfolding entriesAt
+  entries-low = omega arith
+
+  module _ (C size : ℕ) where
+    pub sound-none : wholeSet bs i ≡ 0 → isSound C size bs i ≡ false
+    sound-none e =
+        not-so (isSound C size bs i)
+        (λ s. omega (arith, e, entries-low, whole-yes (sound-file C size bs i s) (sound-few C size bs i s) (sound-room C size bs i s)))
+
+    sound-whole : wholeSet bs i ≢ 0 → isSound C size bs i ≡ wellFormed C size (setAt bs i)
+    sound-whole h = by (wellFormed C size (setAt bs i)) refl
+      where
+        by : (b : Bool) → wellFormed C size (setAt bs i) ≡ b → isSound C size bs i ≡ b
+        by true e = let w = whole-some h in sound-of C size bs i (w .0) (w .1 .0) (w .1 .1 .0) e
+        by false e = not-so (isSound C size bs i) (λ s. false≢true (sym e ∙ sound-formed C size bs i s))
+
+-- the same of a directory's set
+pub sound-set : (y : Layout) (d : List ℕ) (dir : Allocation) (i : ℕ) → wholeSet (bytesIn y d dir) i ≢ 0
+    → wellFormed (y .count) (y .size) (setIn y d dir i) ≡ isSound (y .count) (y .size) (bytesIn y d dir) i
+unfolding setIn
+sound-set y d dir i h = sym (sound-whole (bytesIn y d dir) i (y .count) (y .size) h)
+
+-- ---- the bytes at a spot
+
+module _ (y : Layout) (d : List ℕ) (w : Fits y d) (dir : Allocation) (reads : numberOf (streamOf y d dir) ≡ 0) (i : ℕ)
+    (h : i < entryCount (bytesIn y d dir)) where
+  abbrev fat : ℕ → ℕ
+  fat = fatEntry y d
+
+  abbrev run : Bool
+  run = dir .«no_fat_chain»
+
+  abbrev m : ℕ
+  m = 32 * i / y .size
+
+  abbrev r : ℕ
+  r = 32 * i % y .size
+
+  abbrev ks : List ℕ
+  ks = along fat run (dir .first) (dir .count)
+
+  there : Sought y d run (dir .first) (dir .count) (32 * i) 32
+  there =
+      sought y d run (dir .first) (dir .count) (32 * i) 32 (w .laid) (w .long) (dir-heap y d w dir reads)
+      (omega (arith, slot-bytes y d w dir reads i 1 (omega arith)))
+
+  split : m * y .size + r ≡ 32 * i
+  split = div-add-mod' (32 * i) (y .size)
+
+  per-is : m * y .size ≡ 32 * (m * (y .size / 32))
+  per-is = ap (λ (x : ℕ). m * x) (sym (w .laid .whole)) ∙ mul-left-comm m 32 (y .size / 32)
+
+  aligned : r + 32 ≤ y .size
+  aligned = omega (arith, split, per-is, there .place, w .laid .whole)
+
+  inside : m < dir .count
+  inside = omega (arith, some-left (dir .count - m) (y .size) r 32 (there .room) (omega arith))
+
+  spot-at : record { first = reached fat run (dir .first) m; second = spotOf y d dir i .second; third = spotOf y d dir i .third; at = r } ≡ spotOf y d dir i
+  unfolding spotOf
+  spot-at =
+      let js : drop m (clustersIn y d dir) ≡ along fat run (reached fat run (dir .first) m) (dir .count - m) =
+      ap (drop m) (clusters-along y d dir reads) ∙ drop-along fat run m (dir .first) (dir .count) in
+      let q : getD (drop m (clustersIn y d dir)) 0 0 ≡ reached fat run (dir .first) m =
+      ap (λ (l : List ℕ). getD l 0 0) js ∙ along-at fat run (reached fat run (dir .first) m) (dir .count - m) 0 (omega (arith, inside)) ∙ (unfold reached in refl) in
+      rw q refl
+
+  module _ (p : Spot) (e : p ≡ spotOf y d dir i) where
+    first-is : p .first ≡ reached fat run (dir .first) m
+    first-is = ap (λ (x : Spot). x .first) (e ∙ sym spot-at)
+
+    at-is : p .at ≡ r
+    at-is = ap (λ (x : Spot). x .at) (e ∙ sym spot-at)
+
+    pub spot-in : (2 ≤ p .first) × ((p .first < y .count + 2) × (p .at + 32 ≤ y .size))
+    spot-in =
+        let q = in-heap (y .count) (reached fat run (dir .first) m) (along-head (inHeap (y .count)) fat run (reached fat run (dir .first) m) (dir .count - m) (omega (arith, inside)) (there .heap)) in
+        (omega (arith, first-is, q .0), (omega (arith, first-is, q .1), omega (arith, at-is, aligned)))
+
+    spot-byte : (j : ℕ) → j < 32 → clusterByte y d (p .first) (p .at + j) ≡ getD (bytesIn y d dir) (32 * i + j) 0
+    spot-byte j l =
+        let z : m * y .size + (r + j) ≡ 32 * i + j = omega (arith, split) in
+        ap₂ (λ (k x : ℕ). clusterByte y d k (x + j)) first-is at-is
+        ∙ sym
+        (ap (λ (l : List ℕ). getD l (32 * i + j) 0) (bytes-along y d w dir reads) ∙ ap (λ (x : ℕ). getD (bytesOf y d ks) x 0) (sym z)
+        ∙ byte-of y d w ks m (r + j) (dir-heap y d w dir reads) (omega (arith, inside, length-along fat run (dir .first) (dir .count))) (omega (arith, aligned))
+        ∙ ap (λ (k : ℕ). clusterByte y d k (r + j)) (along-at fat run (dir .first) (dir .count) m inside))
+
+    pub spot-type : clusterByte y d (p .first) (p .at) ≡ typeAt (bytesIn y d dir) i
+    unfolding typeAt
+    spot-type =
+        let a : p .at ≡ p .at + 0 = omega arith in
+        let b : 32 * i + 0 ≡ 32 * i = omega arith in
+        ap (clusterByte y d (p .first)) a ∙ spot-byte 0 (omega arith) ∙ ap (λ (x : ℕ). getD (bytesIn y d dir) x 0) b
+
+    pub spot-count : (n : ℕ) → n ≡ 1 + clusterByte y d (p .first) (p .at + 1) → n ≡ entriesAt (bytesIn y d dir) i
+    unfolding entriesAt
+    spot-count n q = q ∙ ap (λ (x : ℕ). 1 + x) (spot-byte 1 (omega arith))
+
+-- ---- the copy
+
+module _ (y : Layout) (d : List ℕ) (w : Fits y d) (dir : Allocation) (reads : numberOf (streamOf y d dir) ≡ 0) (i n : ℕ) where
+  pub copy-is : n ≡ entriesAt (bytesIn y d dir) i
+      → splice (replicate 608 0) 0 (take (32 * n) (drop (32 * i) (bytesOf y d (along (fatEntry y d) (dir .«no_fat_chain») (dir .first) (dir .count))))) ≡ setIn y d dir i
+  unfolding setIn setAt
+  copy-is e =
+      ap₂ (λ (x : ℕ) (l : List ℕ). splice (replicate 608 0) 0 (take (32 * x) (drop (32 * i) l))) e (sym (bytes-along y d w dir reads))
+
+-- ---- the record of a stream
+
+-- the last cluster of a walk
+walked-last : (mark : ℕ → Bool) (c : Clusters) → walked mark c .last ≡ lastOr 0 (clustersOf c)
+unfolding walked lastOr
+walked-last mark (listed ks) = refl
+walked-last mark (refused n) = refl
+
+module _ (y : Layout) (d : List ℕ) (first n : ℕ) (v : Walked) (e : v ≡ walked (marked y d) (readChain (y .count) (fatEntry y d) first)) where
+  pub chain-last : v .last ≡ lastOr 0 (clustersOf (readChain (y .count) (fatEntry y d) first))
+  chain-last = ap (λ (x : Walked). x .last) e ∙ walked-last (marked y d) (readChain (y .count) (fatEntry y d) first)
+
+  pub chain-read : inHeap (y .count) first ≡ true → 1 ≤ n
+      → walkCause v (v .last) n ≡ numberOf (streamOf y d (record { first = first; last = v .last; count = n; «no_fat_chain» = false }))
+  unfolding streamOf
+  chain-read h l =
+      chain-number (y .count) (fatEntry y d) (marked y d) first (v .last) n v h e
+      ∙ ap numberOf (sym (stream-chain (y .count) (fatEntry y d) (marked y d) (record { first = first; last = v .last; count = n; «no_fat_chain» = false }) (λ z. omega arith) refl))
+
+-- a length takes clusters
+pub takes-none : (size len : ℕ) → 1 ≤ size → len ≡ 0 → clustersFor size len ≡ 0
+unfolding clustersFor
+takes-none size len l e = div-eq-of-lt {n = len + (size - 1)} {m = size} (omega arith)
+
+pub takes-some : (size len : ℕ) → 1 ≤ size → len ≢ 0 → 1 ≤ clustersFor size len
+unfolding clustersFor
+takes-some size len l e = low ((len + (size - 1)) / size) (div-add-mod' (len + (size - 1)) size) (mod-lt (len + (size - 1)) {m = size} (omega arith))
+  where
+    low : (q : ℕ) → q * size + (len + (size - 1)) % size ≡ len + (size - 1) → (len + (size - 1)) % size < size → 1 ≤ q
+    low zero p b = absurd (e (omega arith))
+    low (suc q) p b = omega arith
+
+module _ (y : Layout) (d s : List ℕ) where
+  pub record-none : clustersFor (y .size) (dataLength s) ≡ 0 → empty ≡ fileRecord y d s
+  unfolding fileRecord
+  record-none e = rw (eq-eqb (clustersFor (y .size) (dataLength s)) 0 e) refl
+
+  pub record-zero : clustersFor (y .size) (dataLength s) ≡ 0 → 0 ≡ numberOf (streamOf y d (fileRecord y d s))
+  unfolding streamOf numberOf
+  record-zero e = sym (ap (λ (a : Allocation). numberOf (streamOf y d a)) (sym (record-none e)) ∙ ap numberOf (stream-empty (y .count) (fatEntry y d) (marked y d) empty refl))
+
+  module _ (first n : ℕ) (f : first ≡ firstCluster s) (e : n ≡ clustersFor (y .size) (dataLength s)) (some : 1 ≤ n) where
+    pub record-run : noFatChain s ≡ true → record { first = first; last = first + n - 1; count = n; «no_fat_chain» = true } ≡ fileRecord y d s
+    unfolding fileRecord
+    record-run b = rw (sym e, sym f, ne-eqb n 0 (λ z. omega arith), b) refl
+
+    pub record-chain : noFatChain s ≡ false
+        → record { first = first; last = lastOr 0 (clustersOf (readChain (y .count) (fatEntry y d) first)); count = n; «no_fat_chain» = false } ≡ fileRecord y d s
+    unfolding fileRecord
+    record-chain b = rw (sym e, sym f, ne-eqb n 0 (λ z. omega arith), b) refl
+
+-- ---- what opens
+
+module _ (n : ℕ) (a : Allocation) where
+  pub opened-not : n ≢ 0 → record { number = n; allocation = empty } ≡ opened n a
+  unfolding opened
+  opened-not z = rw (ne-eqb n 0 z) refl
+
+  pub opened-yes : n ≡ 0 → record { number = 0; allocation = a } ≡ opened n a
+  unfolding opened
+  opened-yes z = rw (eq-eqb n 0 z) refl
+
+module _ (y : Layout) (d m : List ℕ) (a : Allocation) where
+  stream-cause-is : streamCause y d m a ≡ firstCause (numberOf (streamOf y d a) ∷ systemCause m (clustersIn y d a) ∷ [])
+  unfolding streamCause
+  stream-cause-is = refl
+
+  pub stream-not : (n : ℕ) → n ≡ numberOf (streamOf y d a) → n ≢ 0 → record { number = n; allocation = empty } ≡ opened (streamCause y d m a) a
+  stream-not n e z =
+      let q : n ≡ streamCause y d m a = e ∙ sym (stream-cause-is ∙ cause-met (numberOf (streamOf y d a)) (systemCause m (clustersIn y d a) ∷ []) (λ t. z (e ∙ t))) in
+      opened-not n a z ∙ ap (λ (x : ℕ). opened x a) q
+
+  module _ (reads : numberOf (streamOf y d a) ≡ 0) (c : ℕ) (e : c ≡ systemCause m (along (fatEntry y d) (a .«no_fat_chain») (a .first) (a .count))) where
+    system-is : c ≡ streamCause y d m a
+    unfolding clustersIn
+    system-is =
+        e ∙ ap (systemCause m) (sym (stream-read y d a reads .goes))
+        ∙ sym (stream-cause-is ∙ cause-skip (numberOf (streamOf y d a)) (systemCause m (clustersIn y d a) ∷ []) reads ∙ cause-last (systemCause m (clustersIn y d a)))
+
+    pub stream-system : c ≢ 0 → record { number = c; allocation = empty } ≡ opened (streamCause y d m a) a
+    stream-system z = opened-not c a z ∙ ap (λ (x : ℕ). opened x a) system-is
+
+    pub stream-done : c ≡ 0 → record { number = 0; allocation = a } ≡ opened (streamCause y d m a) a
+    stream-done z = opened-yes c a z ∙ ap (λ (x : ℕ). opened x a) system-is
+
+-- ---- the bytes of a set
+
+module _ (C size : ℕ) (s : List ℕ) where
+  pub cause-ill : wellFormed C size s ≡ false → 10 ≡ cond (wellFormed C size s) (attributeCause s) 10
+  cause-ill e = rw e refl
+
+  pub cause-directory : wellFormed C size s ≡ true → isDirectory s ≡ true → 11 ≡ cond (wellFormed C size s) (attributeCause s) 10
+  unfolding attributeCause
+  cause-directory e f = rw (e, f) refl
+
+  pub cause-none : wellFormed C size s ≡ true → isDirectory s ≡ false → 0 ≡ cond (wellFormed C size s) (attributeCause s) 10
+  unfolding attributeCause
+  cause-none e f = rw (e, f) refl
+
+  pub cause-formed : cond (wellFormed C size s) (attributeCause s) 10 ≡ 0 → wellFormed C size s ≡ true
+  cause-formed e = by (wellFormed C size s) refl
+    where
+      by : (b : Bool) → wellFormed C size s ≡ b → wellFormed C size s ≡ true
+      by true q = q
+      by false q = absurd (omega (arith, e, cond-no (wellFormed C size s) (attributeCause s) 10 q))
+
+-- ---- the file at a slot
+
+module _ (y : Layout) (d m : List ℕ) (dir : Allocation) (i : ℕ) where
+  abbrev bs : List ℕ
+  bs = bytesIn y d dir
+
+  abbrev s : List ℕ
+  s = setIn y d dir i
+
+  abbrev a : Allocation
+  a = fileRecord y d s
+
+  cause-is : fileCause y d m dir i ≡ firstCause (entryCause y bs i ∷ attributeCause s ∷ streamCause y d m a ∷ [])
+  unfolding fileCause
+  cause-is = refl
+
+  open-is : (n : ℕ) → fileCause y d m dir i ≡ n → opened n a ≡ openFile y d m dir i
+  unfolding openFile
+  open-is n e = ap (λ (x : ℕ). opened x a) (sym e)
+
+  unsound : isSound (y .count) (y .size) bs i ≡ false → record { number = 10; allocation = empty } ≡ openFile y d m dir i
+  unsound e =
+      let q : entryCause y bs i ≡ 10 = unfold entryCause in (rw e refl) in
+      opened-not 10 a (λ z. omega arith)
+      ∙ open-is 10 (cause-is ∙ cause-met (entryCause y bs i) (attributeCause s ∷ streamCause y d m a ∷ []) (λ z. omega arith) ∙ q)
+
+  pub file-none : wholeSet (bytesIn y d dir) i ≡ 0 → record { number = 10; allocation = empty } ≡ openFile y d m dir i
+  file-none e = unsound (sound-none bs i (y .count) (y .size) e)
+
+  module _ (some : wholeSet (bytesIn y d dir) i ≢ 0) (c : ℕ) (e : c ≡ cond (wellFormed (y .count) (y .size) (setIn y d dir i)) (attributeCause (setIn y d dir i)) 10) where
+    sound-is : isSound (y .count) (y .size) bs i ≡ wellFormed (y .count) (y .size) s
+    sound-is = sym (sound-set y d dir i some)
+
+    skip : wellFormed (y .count) (y .size) s ≡ true → fileCause y d m dir i ≡ firstCause (attributeCause s ∷ streamCause y d m a ∷ [])
+    skip f = cause-is ∙ cause-skip (entryCause y bs i) (attributeCause s ∷ streamCause y d m a ∷ []) (unfold entryCause in (rw (sound-is ∙ f) refl))
+
+    attribute-is : wellFormed (y .count) (y .size) s ≡ true → c ≡ attributeCause s
+    attribute-is f = e ∙ cond-yes (wellFormed (y .count) (y .size) s) (attributeCause s) 10 f
+
+    pub file-not : c ≢ 0 → record { number = c; allocation = empty } ≡ openFile y d m dir i
+    file-not z = by (wellFormed (y .count) (y .size) s) refl
+      where
+        by : (b : Bool) → wellFormed (y .count) (y .size) s ≡ b → record { number = c; allocation = empty } ≡ openFile y d m dir i
+        by true f =
+            let t = attribute-is f in
+            opened-not c a z ∙ open-is c (skip f ∙ cause-met (attributeCause s) (streamCause y d m a ∷ []) (λ q. z (t ∙ q)) ∙ sym t)
+        by false f =
+            let t : c ≡ 10 = e ∙ cond-no (wellFormed (y .count) (y .size) s) (attributeCause s) 10 f in
+            ap (λ (x : ℕ). record { number = x; allocation = empty }) t ∙ unsound (sound-is ∙ f)
+
+    pub file-formed : c ≡ 0 → wellFormed (y .count) (y .size) (setIn y d dir i) ≡ true
+    file-formed z = cause-formed (y .count) (y .size) s (sym e ∙ z)
+
+    pub file-stream : c ≡ 0 → opened (streamCause y d m (fileRecord y d (setIn y d dir i))) (fileRecord y d (setIn y d dir i)) ≡ openFile y d m dir i
+    file-stream z =
+        let f = file-formed z in
+        open-is (streamCause y d m a)
+        (skip f ∙ cause-skip (attributeCause s) (streamCause y d m a ∷ []) (sym (attribute-is f) ∙ z) ∙ cause-last (streamCause y d m a))

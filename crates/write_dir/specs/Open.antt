@@ -1,0 +1,62 @@
+-- A file opened by its slot: its record, and what refuses it (Rust: `stream_allocation`, `open_for_write`).
+use mathlib.Core.Bool.{cond}
+use mathlib.Core.List.{List, [], _∷_}
+use Prim.Native.Nat.{ℕ, _+_, _-_}
+use lib.Dec.{eqb}
+use Rattle.tables.specs.Lists.{lastOr}
+use Rattle.boot.specs.declared.layout.Layout.{Layout}
+use Rattle.boot.specs.Causes.{firstCause}
+use Rattle.metadata.specs.Fat.{fatEntry}
+use Rattle.stream.specs.declared.allocation.Allocation.{Allocation}
+use Rattle.stream.specs.Chain.{readChain}
+use Rattle.stream.specs.Stream.{numberOf, streamOf}
+use Rattle.stream.specs.Listing.{clustersOf}
+use Rattle.entry_set.specs.Fields.{isDirectory, noFatChain, firstCluster, dataLength, clustersFor}
+use Rattle.write_alloc.specs.Outcome.{empty}
+use Rattle.write_shrink.specs.Shrink.{systemCause}
+use Rattle.write_dir.specs.declared.open_file.Opened.{Opened}
+use Rattle.write_dir.specs.Directory.{clustersIn, bytesIn}
+use Rattle.write_dir.specs.Entries.{setAt, isSound}
+
+-- the record of the stream of set s: the clusters that its length takes, from its first cluster; a chain's last is the walk's
+unfoldable pub fileRecord : Layout → List ℕ → List ℕ → Allocation
+fileRecord y d s =
+    let first = firstCluster s in
+    let n = clustersFor (y .size) (dataLength s) in
+    cond (eqb n 0) empty
+    (record {
+      first = first;
+      last = cond (noFatChain s) (first + n - 1) (lastOr 0 (clustersOf (readChain (y .count) (fatEntry y d) first)));
+      count = n;
+      «no_fat_chain» = noFatChain s;
+    })
+
+-- 10: no sound file entry at the slot
+unfoldable pub entryCause : Layout → List ℕ → ℕ → ℕ
+entryCause y bs slot = cond (isSound (y .count) (y .size) bs slot) 0 10
+
+-- 11: the entry has attribute 0x10
+unfoldable pub attributeCause : List ℕ → ℕ
+attributeCause s = cond (isDirectory s) 11 0
+
+-- what refuses a stream: 3 or 4 from a chain's walk, 5 for another count, 6; then 9 for a system cluster among its clusters
+unfoldable pub streamCause : Layout → List ℕ → List ℕ → Allocation → ℕ
+streamCause y d m a = firstCause (numberOf (streamOf y d a) ∷ systemCause m (clustersIn y d a) ∷ [])
+
+-- the set at a slot of directory a
+unfoldable pub setIn : Layout → List ℕ → Allocation → ℕ → List ℕ
+setIn y d a slot = setAt (bytesIn y d a) slot
+
+-- what refuses the file at a slot of directory a: 10, 11, the stream's
+unfoldable pub fileCause : Layout → List ℕ → List ℕ → Allocation → ℕ → ℕ
+fileCause y d m a slot =
+    let s = setIn y d a slot in
+    firstCause (entryCause y (bytesIn y d a) slot ∷ attributeCause s ∷ streamCause y d m (fileRecord y d s) ∷ [])
+
+-- a number with a record, which is empty beside a refusal
+unfoldable pub opened : ℕ → Allocation → Opened
+opened n a = cond (eqb n 0) (record { number = 0; allocation = a }) (record { number = n; allocation = empty })
+
+-- the file at a slot of directory a opened: its record, or the number
+unfoldable pub openFile : Layout → List ℕ → List ℕ → Allocation → ℕ → Opened
+openFile y d m a slot = opened (fileCause y d m a slot) (fileRecord y d (setIn y d a slot))
