@@ -1,0 +1,291 @@
+-- A new file: its set where the directory has room after growth, and what refuses it. Assumes nothing.
+use mathlib.Core.Path.{_≡_, refl, sym, _∙_, ap, ap₂, subst}
+use mathlib.Core.Logic.{_≢_}
+use mathlib.Core.Bool.{true, false, not}
+use mathlib.Core.List.{List, [], _∷_}
+use Prim.Native.Nat.{ℕ, _+_, _*_, _/_, _≤_}
+use native.Mathlib.Decide.{decLt}
+use native.Mathlib.Omega.{arith}
+use lib.Dec.{leb}
+use lib.ListN.{length, take}
+use borrow.Author.Tests.{ne-eqb, leb-true}
+use Rattle.tables.specs.Count.{count}
+use Rattle.boot.specs.declared.geometry.Geometry.{Geometry}
+use Rattle.boot.specs.declared.layout.Layout.{Layout}
+use Rattle.boot.specs.Geometry.{rootCluster}
+use Rattle.boot.specs.Limits.{limits}
+use Rattle.boot.specs.Layout.{inHeap, layoutOf}
+use Rattle.boot.specs.Causes.{firstCause, heapCause}
+use Rattle.boot.proofs.Tests.{and-left, and-right}
+use Rattle.boot.proofs.Accepted.{accepted-of, map-length}
+use Rattle.boot.proofs.Places.{laid-of}
+use Rattle.boot.proofs.Apart.{apart-of}
+use Rattle.boot.proofs.CauseLaws.{cause-skip, cause-met, cause-last, heap-met, heap-kept}
+use Rattle.metadata.specs.declared.usable.Found.the-variants.{At}
+use Rattle.metadata.specs.Usable.{isUsable}
+use Rattle.metadata.proofs.Frame.{Fits, fits-kept}
+use Rattle.stream.specs.declared.allocation.Allocation.{Allocation}
+use Rattle.stream.specs.Chain.{listed}
+use Rattle.stream.specs.Stream.{numberOf, streamOf}
+use Rattle.stream.specs.Bytes.{storeAt}
+use Rattle.entry_set.specs.declared.stamp.Stamps.{Stamps}
+use Rattle.entry_set.specs.Name.{nameOk, nameCause, attributesOk, attributeCause}
+use Rattle.entry_set.specs.Fields.{nameEntries}
+use Rattle.entry_set.specs.New.{newEntries, newSet}
+use Rattle.write_alloc.specs.Outcome.{spaceCause}
+use Rattle.write_alloc.proofs.AllocateLaws.{space-met, space-kept}
+use Rattle.write_alloc.proofs.ChoiceLaws.{run-at}
+use Rattle.write_dir.specs.declared.directory.Directory.{Directory}
+use Rattle.write_dir.specs.declared.entries.Room.{Room}
+use Rattle.write_dir.specs.declared.place.Spot.{Spot}
+use Rattle.write_dir.specs.declared.place.Added.{Added}
+use Rattle.write_dir.specs.Outcome.{refuse, carried}
+use Rattle.write_dir.specs.Directory.{rootRecord, directoryCause, openRoot, clustersIn, bytesIn}
+use Rattle.write_dir.specs.Entries.{entryCount, inUse}
+use Rattle.write_dir.specs.Place.{Grown, Growable, standing, addedOf, freeRun, slotOf, withZeros, growth, roomFor, growBy, spotOf, spotClusters}
+use Rattle.write_dir.proofs.CursorLaws.{length-entries, entries-is, slot-bytes}
+use Rattle.write_dir.proofs.GrowthLaws.{place-at, grown-at}
+use Rattle.write_dir.proofs.AddedLaws.{Zeroed, grow-many}
+use Rattle.write_dir.proofs.GrownLaws.{zeroed-in}
+use Rattle.write_dir.proofs.PlaceLaws.{spot-store, clusters-length}
+use Rattle.write_file.specs.Opens.{Stands}
+use Rattle.write_file.specs.NewFile.{Ready, newGrowth, newCause, placed, newFileIn, newFile}
+use Rattle.write_file.proofs.RefreshLaws.{stream-is}
+use Rattle.write_file.proofs.OpenLaws.{take-few}
+use Rattle.write_file.proofs.CallLaws.{mapped, directory-reads, directory-plain, root-number, root-allocation}
+
+-- ---- a directory that is ready
+
+module _ (y : Layout) (d m : List ℕ) (a : Allocation) (hint : ℕ) (r : Ready y d m a hint) where
+  pub ready-fits : Fits y d
+  ready-fits = record { laid = r .laid; apart = r .apart; long = r .long }
+
+  pub ready-reads : numberOf (streamOf y d a) ≡ 0
+  ready-reads = directory-reads y d a (r .directory)
+
+  ready-listed : streamOf y d a ≡ listed (clustersIn y d a)
+  unfolding clustersIn
+  ready-listed = stream-is y d a ready-reads
+
+  pub ready-grows : (n : ℕ) → n ≤ count (isUsable y d m) 2 (y .count) → Growable y d m a n hint
+  ready-grows n h = record { reads = ready-reads; mapped = r .mapped; enough = h; hint-in = r .hint-in }
+
+  -- ---- a set of n entries in the directory that grew
+
+  module _ (n : ℕ) (few : n ≤ 19) (room : Room) (at : room ≡ roomFor (y .size) (bytesIn y d a) n)
+      (enough : room .clusters ≤ count (isUsable y d m) 2 (y .count)) where
+    abbrev bs : List ℕ
+    bs = bytesIn y d a
+
+    abbrev w : Grown
+    w = growBy y m (room .clusters) (standing d a hint)
+
+    grown : (new : List ℕ) × (length new ≡ room .clusters) × Zeroed y d m w (clustersIn y d a) new
+    grown = grow-many y m (r .mapped) (room .clusters) (standing d a hint) ready-fits (clustersIn y d a) ready-listed (r .hint-in) enough
+
+    clusters-are : room .clusters ≡ growth (y .size) bs n
+    unfolding roomFor
+    clusters-are = ap (λ (x : Room). x .clusters) at
+
+    slot-is : room .slot ≡ slotOf (freeRun (withZeros bs (growth (y .size) bs n * y .size)) n)
+    unfolding roomFor
+    slot-is = ap (λ (x : Room). x .slot) at
+
+    bytes-are : bytesIn y (w .volume) (w .directory) ≡ withZeros bs (growth (y .size) bs n * y .size)
+    bytes-are =
+        let g = grown in
+        zeroed-in y d m w (clustersIn y d a) (g .0) ready-fits (g .2) a ready-listed (directory-plain y d a (r .directory))
+        ∙ ap (λ (x : ℕ). withZeros bs (x * y .size)) (g .1 ∙ clusters-are)
+
+    whole : length bs ≡ 32 * entryCount bs
+    whole = length-entries y d ready-fits a ready-reads ∙ ap (λ (x : ℕ). 32 * x) (entries-is y d ready-fits a ready-reads)
+
+    wide-found : freeRun (withZeros bs (growth (y .size) bs n * y .size)) n ≡ At (slotOf (freeRun (withZeros bs (growth (y .size) bs n * y .size)) n))
+    unfolding slotOf
+    wide-found =
+        let l = r .laid in
+        let q = grown-at bs n whole _ (place-at bs n whole) (y .size) (y .size / 32) (sym (l .whole)) (let b = l .size-low in omega arith) in
+        q ∙ ap At (ap slotOf (sym q))
+
+    found : freeRun (bytesIn y (w .volume) (w .directory)) n ≡ At (room .slot)
+    found = ap (λ (x : List ℕ). freeRun x n) bytes-are ∙ wide-found ∙ ap At (sym slot-is)
+
+    slot-there : slotOf (freeRun (bytesIn y (w .volume) (w .directory)) n) ≡ room .slot
+    unfolding slotOf
+    slot-there = ap slotOf found
+
+    grown-fits : Fits y (w .volume)
+    grown-fits = fits-kept y d (w .volume) (grown .2 .long) ready-fits
+
+    grown-reads : numberOf (streamOf y (w .volume) (w .directory)) ≡ 0
+    grown-reads = ap numberOf (grown .2 .reads) ∙ (unfold numberOf in refl)
+
+    grown-room : room .slot + n ≤ entryCount (bytesIn y (w .volume) (w .directory))
+    grown-room =
+        let bs = bytesIn y (w .volume) (w .directory) in
+        run-at (λ i. not (inUse bs i)) (entryCount bs) n 0 (room .slot) (unfold freeRun in found) .inside
+
+    grown-stands : Stands y (w .volume) (w .directory) (room .slot) n
+    grown-stands = record {
+      reads = grown-reads;
+      few = few;
+      room = omega (arith, slot-bytes y (w .volume) grown-fits (w .directory) grown-reads (room .slot) n grown-room);
+    }
+
+    module _ (v : Added) (e : List ℕ) (p : v ≡ addedOf (growBy y m (room .clusters) (standing d a hint)))
+        (q : e ≡ growBy y m (room .clusters) (standing d a hint) .volume) where
+      same : standing e (v .allocation) (v .hint) ≡ w
+      same = λ z. record { volume = q z; directory = p z .allocation; hint = p z .hint }
+
+      pub insert-stands : Stands y e (v .allocation) (room .slot) n
+      insert-stands = subst (λ (x : Grown). Stands y (x .volume) (x .directory) (room .slot) n) (sym same) grown-stands
+
+      pub insert-shown : (o : Spot) (s e′ : List ℕ) → o ≡ spotOf y e (v .allocation) (room .slot)
+          → e′ ≡ storeAt y e (spotClusters o) (o .at) (take (32 * n) s)
+          → (record { number = 0; slot = room .slot; hint = v .hint } ≡ placed y (growBy y m (room .clusters) (standing d a hint)) n s .answer)
+          × (e′ ≡ placed y (growBy y m (room .clusters) (standing d a hint)) n s .volume)
+      unfolding placed carried
+      insert-shown o s e′ f h =
+          let h₁ = insert-stands in
+          let bs = take (32 * n) s in
+          let k : length bs ≤ 32 * n = take-few (32 * n) s in
+          let c = clusters-length y e (v .allocation) (h₁ .reads) in
+          let b : storeAt y e (spotClusters o) (o .at) bs ≡ storeAt y e (clustersIn y e (v .allocation)) (32 * room .slot) bs =
+          ap (λ (x : Spot). storeAt y e (spotClusters x) (x .at) bs) f
+          ∙ spot-store y e (v .allocation) (room .slot) (r .laid) e bs (omega arith) (omega (arith, h₁ .room, ap (λ (x : ℕ). x * y .size) c)) in
+          let t : storeAt y e (clustersIn y e (v .allocation)) (32 * room .slot) bs ≡ storeAt y (w .volume) (clustersIn y (w .volume) (w .directory)) (32 * room .slot) bs =
+          ap (λ (x : Grown). storeAt y (x .volume) (clustersIn y (x .volume) (x .directory)) (32 * room .slot) bs) same in (
+            ap₂ (λ (i k : ℕ). record { number = 0; slot = i; hint = k }) (sym slot-there) (ap (λ (x : Grown). x .hint) same),
+            h ∙ b ∙ t ∙ ap (λ (i : ℕ). storeAt y (w .volume) (clustersIn y (w .volume) (w .directory)) (32 * i) bs) (sym slot-there),
+          )
+
+-- ---- names
+
+pub name-few : (name : List ℕ) → nameOk name ≡ true → length name ≤ 255
+unfolding nameOk
+name-few name e = leb-true (length name) 255 (and-left (leb (length name) 255) _ (and-right (leb 1 (length name)) _ e))
+
+pub entries-are : (n k : ℕ) → k ≡ nameEntries n → 2 + k ≡ newEntries n
+unfolding newEntries
+entries-are n k e = ap (λ (x : ℕ). 2 + x) e
+
+-- ---- space
+
+pub space-enough : (n k : ℕ) → spaceCause n k ≡ 0 → n ≤ k
+space-enough n k e = elim (decLt k n) [ yes h ↦ absurd (let q = space-met n k h in omega arith) | no h ↦ omega arith ]
+
+space-seven : (n k : ℕ) → spaceCause n k ≢ 0 → spaceCause n k ≡ 7
+space-seven n k e = elim (decLt k n) [ yes h ↦ space-met n k h | no h ↦ absurd (e (space-kept n k (omega arith))) ]
+
+-- ---- what refuses a new file
+
+module _ (y : Layout) (d m : List ℕ) (a : Allocation) (name : List ℕ) (attributes hash : ℕ) (t : Stamps) (hint : ℕ) where
+  refused-is : (n : ℕ) → newCause y d m a name attributes hint ≡ n → n ≢ 0 → newFileIn y d m a name attributes hash t hint ≡ refuse n hint d
+  unfolding newFileIn
+  refused-is n e z = rw (e, ne-eqb n 0 z) refl
+
+  done-is : newCause y d m a name attributes hint ≡ 0
+      → newFileIn y d m a name attributes hash t hint
+      ≡ placed y (growBy y m (newGrowth y d a (length name)) (standing d a hint)) (newEntries (length name)) (newSet name attributes hash t)
+  unfolding newFileIn
+  done-is e = rw e refl
+
+  abbrev later : List ℕ
+  later =
+      nameCause name ∷ attributeCause attributes ∷ spaceCause (newGrowth y d a (length name)) (count (isUsable y d m) 2 (y .count)) ∷ []
+
+  pub new-hint : inHeap (y .count) hint ≡ false → newFileIn y d m a name attributes hash t hint ≡ refuse 2 hint d
+  new-hint e =
+      let h = heap-met (y .count) hint e in
+      refused-is 2 (unfold newCause in (cause-met (heapCause (y .count) hint) (directoryCause y d a ∷ later) (λ z. omega arith) ∙ h)) (λ z. omega arith)
+
+  module _ (h : inHeap (y .count) hint ≡ true) where
+    past-hint : newCause y d m a name attributes hint ≡ firstCause (directoryCause y d a ∷ later)
+    unfolding newCause
+    past-hint = cause-skip (heapCause (y .count) hint) (directoryCause y d a ∷ later) (heap-kept (y .count) hint h)
+
+    pub new-directory : (n : ℕ) → n ≡ directoryCause y d a → n ≢ 0 → newFileIn y d m a name attributes hash t hint ≡ refuse n hint d
+    new-directory n e z = refused-is n (past-hint ∙ cause-met (directoryCause y d a) later (λ q. z (e ∙ q)) ∙ sym e) z
+
+  module _ (r : Ready y d m a hint) where
+    cause-is : newCause y d m a name attributes hint ≡ firstCause later
+    cause-is = past-hint (r .hint-in) ∙ cause-skip (directoryCause y d a) later (r .directory)
+
+    pub new-name : nameOk name ≡ false → newFileIn y d m a name attributes hash t hint ≡ refuse 12 hint d
+    new-name e =
+        let q : nameCause name ≡ 12 = unfold nameCause in (rw e refl) in
+        refused-is 12 (cause-is ∙ cause-met (nameCause name) _ (λ z. omega arith) ∙ q) (λ z. omega arith)
+
+    module _ (n : nameOk name ≡ true) where
+      past-name : newCause y d m a name attributes hint
+          ≡ firstCause (attributeCause attributes ∷ spaceCause (newGrowth y d a (length name)) (count (isUsable y d m) 2 (y .count)) ∷ [])
+      past-name = cause-is ∙ cause-skip (nameCause name) _ (unfold nameCause in (rw n refl))
+
+      pub new-attributes : attributesOk attributes ≡ false → newFileIn y d m a name attributes hash t hint ≡ refuse 13 hint d
+      new-attributes e =
+          let q : attributeCause attributes ≡ 13 = unfold attributeCause in (rw e refl) in
+          refused-is 13 (past-name ∙ cause-met (attributeCause attributes) _ (λ z. omega arith) ∙ q) (λ z. omega arith)
+
+      module _ (b : attributesOk attributes ≡ true) (k : ℕ) (room : Room) (en : k ≡ newEntries (length name)) (at : room ≡ roomFor (y .size) (bytesIn y d a) k) where
+        growth-is : room .clusters ≡ newGrowth y d a (length name)
+        unfolding newGrowth roomFor
+        growth-is = ap (λ (x : Room). x .clusters) at ∙ ap (growth (y .size) (bytesIn y d a)) en
+
+        last-cause : newCause y d m a name attributes hint ≡ spaceCause (room .clusters) (count (isUsable y d m) 2 (y .count))
+        last-cause =
+            past-name ∙ cause-skip (attributeCause attributes) _ (unfold attributeCause in (rw b refl)) ∙ cause-last _
+            ∙ ap (λ (x : ℕ). spaceCause x (count (isUsable y d m) 2 (y .count))) (sym growth-is)
+
+        pub new-space : (c : ℕ) → c ≡ spaceCause (room .clusters) (count (isUsable y d m) 2 (y .count)) → c ≢ 0
+            → newFileIn y d m a name attributes hash t hint ≡ refuse 7 hint d
+        new-space c e z = refused-is 7 (last-cause ∙ space-seven _ _ (λ q. z (e ∙ q))) (λ q. omega arith)
+
+        pub new-done : (c : ℕ) → c ≡ spaceCause (room .clusters) (count (isUsable y d m) 2 (y .count)) → c ≡ 0 → (s : List ℕ) → s ≡ newSet name attributes hash t
+            → newFileIn y d m a name attributes hash t hint ≡ placed y (growBy y m (room .clusters) (standing d a hint)) k s
+        new-done c e z s f =
+            let q : newCause y d m a name attributes hint ≡ 0 = last-cause ∙ sym e ∙ z in
+            done-is q ∙ ap (λ (x : ℕ). placed y (growBy y m x (standing d a hint)) (newEntries (length name)) (newSet name attributes hash t)) (sym growth-is)
+            ∙ ap₂ (λ (x : ℕ) (l : List ℕ). placed y (growBy y m (room .clusters) (standing d a hint)) x l) (sym en) (sym f)
+
+-- ---- the public call
+
+module _ (g : Geometry) (d m name : List ℕ) (attributes hash : ℕ) (t : Stamps) (hint : ℕ) where
+  pub call-limits : limits g (length d) m ≡ false → newFile g d m name attributes hash t hint ≡ refuse 1 hint d
+  unfolding newFile
+  call-limits e = rw e refl
+
+  module _ (l : limits g (length d) m ≡ true) (y : Layout) (e : y ≡ layoutOf g (length d)) where
+    call-is : newFile g d m name attributes hash t hint ≡ newFileIn y d m (rootRecord y d (rootCluster g)) name attributes hash t hint
+    unfolding newFile
+    call-is = (rw l refl) ∙ ap (λ (x : Layout). newFileIn x d m (rootRecord x d (rootCluster g)) name attributes hash t hint) (sym e)
+
+    pub call-hint : inHeap (y .count) hint ≡ false → newFile g d m name attributes hash t hint ≡ refuse 2 hint d
+    call-hint h = call-is ∙ new-hint y d m (rootRecord y d (rootCluster g)) name attributes hash t hint h
+
+    module _ (h : inHeap (y .count) hint ≡ true) (r : Directory) (o : r ≡ openRoot y d (rootCluster g)) where
+      pub call-root : r .number ≢ 0 → newFile g d m name attributes hash t hint ≡ refuse (r .number) hint d
+      call-root z =
+          call-is
+          ∙ new-directory y d m (rootRecord y d (rootCluster g)) name attributes hash t hint h (r .number) (root-number y d (rootCluster g) r o) z
+
+      pub call-opens : r .number ≡ 0 → newFile g d m name attributes hash t hint ≡ newFileIn y d m (r .allocation) name attributes hash t hint
+      call-opens z =
+          call-is ∙ ap (λ (x : Allocation). newFileIn y d m x name attributes hash t hint) (sym (root-allocation y d (rootCluster g) r o z))
+
+module _ (g : Geometry) (d m : List ℕ) (hint : ℕ) (l : limits g (length d) m ≡ true) (y : Layout) (e : y ≡ layoutOf g (length d))
+    (h : inHeap (y .count) hint ≡ true) (r : Directory) (o : r ≡ openRoot y d (rootCluster g)) where
+  pub call-ready : r .number ≡ 0 → Ready y d m (r .allocation) hint
+  call-ready z =
+      let p = accepted-of g (length d) m l in
+      let c : directoryCause y d (r .allocation) ≡ 0 =
+      ap (directoryCause y d) (root-allocation y d (rootCluster g) r o z) ∙ sym (root-number y d (rootCluster g) r o) ∙ z in
+      subst (λ (x : Layout). directoryCause x d (r .allocation) ≡ 0 → inHeap (x .count) hint ≡ true → Ready x d m (r .allocation) hint) (sym e)
+      (λ c h. record {
+        laid = laid-of g (length d) p;
+        apart = apart-of g (length d) p;
+        long = unfold layoutOf in refl;
+        map = unfold layoutOf in (omega (arith, map-length g (length d) m l));
+        mapped = mapped g m (length d) l;
+        directory = c;
+        hint-in = h;
+      }) c h

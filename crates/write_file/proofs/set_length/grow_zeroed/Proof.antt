@@ -1,0 +1,43 @@
+use mathlib.Core.Path.{_≡_, sym, _∙_, refl, ap}
+use native.Mathlib.Omega.{arith}
+use mathlib.Core.List.{List}
+use Prim.Native.Nat.{ℕ, _-_, _≤_}
+use lib.ListN.{replicate}
+use Rattle.stream.specs.Bytes.{storeAt}
+use Rattle.write_dir.specs.Directory.{clustersIn}
+use Rattle.write_file.specs.SetLength.{zeroEnd}
+use Rattle.write_file.proofs.SetLengthLaws.{end-le}
+use borrow.Author.Needs.{needs}
+use Rattle.write_file.proofs.set_length.grow_zeroed.Statement.{statement}
+use Rattle.write_file.proofs.set_length.grow_zeroed.Tie as tie
+
+zero-end-requires : tie.Need-zero-end-requires
+zero-end-requires c κs = search needs
+
+grow-to-requires : tie.Need-grow-to-requires
+grow-to-requires c κs =
+    let p = c .before .before .before .before .pre in
+    (p .0, (p .1 .0, (p .1 .1 .0, (p .1 .1 .1 .0, (p .1 .1 .1 .1 .0, (p .1 .1 .1 .1 .1 .0, p .1 .1 .1 .1 .1 .1 .0))))))
+
+zero-range-requires : tie.Need-zero-range-requires
+zero-range-requires c κs =
+    let a = c .before .before .before .before .before .before .before .before .args in
+    let p = c .before .before .before .before .before .before .before .before .pre in
+    let g = c .before .before .before .grow-to in
+    let l = p .0 in
+    let h : 1 ≤ a .y .size = omega (arith, l .size-low) in
+    (l, (omega arith, (p .1 .1 .1 .0, (g .ensures .1 .1 .0, omega (arith, g .ensures .1 .1 .1, c .before .before .before .before .before .zero-end .ensures, end-le (a .y .size) (a .valid) (a .len) h)))))
+
+same-length : tie.Need-same-length
+same-length c = search needs
+
+returns : tie.Need-returns
+returns c =
+    let a = c .before .before .before .before .before .before .before .before .before .before .before .args in
+    let g = c .before .before .before .before .before .before .grow-to in
+    let z = c .before .before .before .before .before .before .before .before .zero-end in
+    (g .ensures .0, c .before .before .zero-range .ensures ∙ ap (λ (l : List ℕ). storeAt (a .y) l (clustersIn (a .y) l (g .result .allocation)) (a .valid) (replicate (z .result - a .valid) 0)) (g .ensures .1 .0) ∙ (cc))
+
+pub grow-zeroed-spec : {M : Type 1} → statement M
+grow-zeroed-spec =
+    tie.close (tie.spec zero-end-requires grow-to-requires zero-range-requires same-length returns)

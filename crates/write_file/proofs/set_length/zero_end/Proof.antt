@@ -1,0 +1,31 @@
+use mathlib.Core.Path.{_≡_, sym, _∙_, refl, ap}
+use native.Mathlib.Nat.{div-add-mod'}
+use native.Mathlib.Omega.{arith}
+use Rattle.write_file.proofs.SetLengthLaws.{end-whole, end-rest}
+use borrow.Author.Needs.{needs}
+use Rattle.write_file.proofs.set_length.zero_end.Statement.{statement}
+use Rattle.write_file.proofs.set_length.zero_end.Tie as tie
+
+rem-rest : tie.Need-rem-rest
+rem-rest c = search needs
+
+returns : tie.Need-returns
+returns c = sym (end-whole _ _ _ (omega arith) (omega arith) (omega arith))
+
+sub-smaller : tie.Need-sub-smaller
+sub-smaller c =
+    let a = c .before .args in
+    omega (arith, div-add-mod' (a .valid) (a .y .size))
+
+add-smaller : tie.Need-add-smaller
+add-smaller c = omega arith
+
+smaller-requires : tie.Need-smaller-requires
+smaller-requires c κs = search needs
+
+returns-2 : tie.Need-returns-2
+returns-2 c = (cc) ∙ sym (end-rest _ _ _ (omega arith) (λ z. omega arith))
+
+pub zero-end-spec : {M : Type 1} → statement M
+zero-end-spec =
+    tie.close (tie.spec rem-rest returns sub-smaller add-smaller smaller-requires returns-2)

@@ -1,0 +1,33 @@
+use mathlib.Core.Path.{_≡_, sym, _∙_, refl, ap}
+use native.Mathlib.Omega.{arith}
+use Rattle.write_file.proofs.RefreshLaws.{entries-some}
+use mathlib.Core.List.{List}
+use Prim.Native.Nat.{ℕ}
+use Rattle.write_dir.specs.Directory.{clustersIn}
+use Rattle.write_file.specs.Write.{withData}
+use borrow.Author.Needs.{needs}
+use Rattle.write_file.proofs.write.put_grown.Statement.{statement}
+use Rattle.write_file.proofs.write.put_grown.Tie as tie
+
+grow-to-requires : tie.Need-grow-to-requires
+grow-to-requires c κs =
+    let p = c .before .before .before .before .pre in
+    (p .0, (p .1 .0, (p .1 .1 .0, (p .1 .1 .1 .0, (p .1 .1 .1 .1 .0, (p .1 .1 .1 .1 .1 .0, p .1 .1 .1 .1 .1 .1 .0))))))
+
+put-data-requires : tie.Need-put-data-requires
+put-data-requires c κs =
+    let p = c .before .before .before .before .before .before .before .before .pre in
+    let g = c .before .before .before .grow-to in
+    (p .0, (omega arith, (p .1 .1 .1 .0, (g .ensures .1 .1 .0, omega (arith, g .ensures .1 .1 .1, p .1 .1 .1 .1 .1 .1 .1)))))
+
+same-length : tie.Need-same-length
+same-length c = search needs
+
+returns : tie.Need-returns
+returns c =
+    let a = c .before .before .before .before .before .before .before .before .before .before .before .args in
+    let g = c .before .before .before .before .before .before .grow-to in
+    (g .ensures .0, c .before .before .put-data .ensures ∙ ap (λ (l : List ℕ). withData (a .y) l (clustersIn (a .y) l (g .result .allocation)) (a .valid) (a .offset) (a .src .now)) (g .ensures .1 .0))
+
+pub put-grown-spec : {M : Type 1} → statement M
+put-grown-spec = tie.close (tie.spec grow-to-requires put-data-requires same-length returns)

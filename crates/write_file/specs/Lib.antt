@@ -1,0 +1,5 @@
+pub mod NewFile
+pub mod Refresh
+pub mod Opens
+pub mod Write
+pub mod SetLength

@@ -1,0 +1,42 @@
+-- The entry set of a file stored anew (Rust: `record`), and the clusters that a new length needs.
+use mathlib.Core.Bool.{Bool}
+use mathlib.Core.List.{List, [], _∷_}
+use Prim.Native.Nat.{ℕ, _+_, _-_, _*_}
+use lib.ListN.{take}
+use Rattle.tables.specs.Count.{count}
+use Rattle.boot.specs.declared.layout.Layout.{Layout}
+use Rattle.boot.specs.Causes.{firstCause, heapCause}
+use Rattle.metadata.specs.Usable.{isUsable}
+use Rattle.stream.specs.declared.allocation.Allocation.{Allocation}
+use Rattle.stream.specs.Bytes.{storeAt}
+use Rattle.entry_set.specs.declared.stamp.Stamp.{Stamp}
+use Rattle.entry_set.specs.Fields.{secondaryCount, clustersFor}
+use Rattle.entry_set.specs.Put.{refreshed}
+use Rattle.write_alloc.specs.Outcome.{spaceCause}
+use Rattle.write_dir.specs.Directory.{directoryCause}
+use Rattle.write_dir.specs.Open.{fileCause}
+
+-- the entries of set s
+unfoldable pub entriesOf : List ℕ → ℕ
+entriesOf s = 1 + secondaryCount s
+
+-- set s with stream b, both lengths, the stamp, attribute 0x20 and the checksum
+unfoldable pub recorded : List ℕ → Allocation → ℕ → ℕ → Stamp → List ℕ
+recorded s b valid len t = refreshed s (entriesOf s) (b .first) (b .«no_fat_chain») valid len t
+
+-- and stored at a slot of the directory whose clusters are ks
+unfoldable pub stored : Layout → List ℕ → List ℕ → ℕ → List ℕ → Allocation → ℕ → ℕ → Stamp → List ℕ
+stored y d ks slot s b valid len t =
+    storeAt y d ks (32 * slot) (take (32 * entriesOf s) (recorded s b valid len t))
+
+-- the clusters that stream b must add for a length
+unfoldable pub missing : Layout → Allocation → ℕ → ℕ
+missing y b len = clustersFor (y .size) len - b .count
+
+-- 7: they are more than the usable ones
+unfoldable pub lengthCause : Layout → List ℕ → List ℕ → Allocation → ℕ → ℕ
+lengthCause y d m b len = spaceCause (missing y b len) (count (isUsable y d m) 2 (y .count))
+
+-- what refuses any call on the file at a slot of directory a, in this order: the hint, the directory's, 10, 11, the stream's
+unfoldable pub openCause : Layout → List ℕ → List ℕ → Allocation → ℕ → ℕ → ℕ
+openCause y d m a slot hint = firstCause (heapCause (y .count) hint ∷ directoryCause y d a ∷ fileCause y d m a slot ∷ [])

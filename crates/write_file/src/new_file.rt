@@ -1,0 +1,122 @@
+// New file: the set of an empty file stored in a directory, which grows where it must (Rust: `make_in`, no directory).
+ghost use mathlib.Core.Path.{_≡_};
+ghost use Prim.Native.Nat.{_*_, _≤_};
+ghost use lib.ListN.{length};
+ghost use Rattle.tables.specs.Count.{count};
+ghost use Rattle.boot.specs.Layout.{Laid};
+ghost use Rattle.metadata.specs.Usable.{isUsable};
+ghost use Rattle.write_alloc.specs.Outcome.{spaceCause};
+ghost use Rattle.write_dir.specs.Directory.{bytesIn};
+ghost use Rattle.write_dir.specs.Place.{standing, roomFor, growBy};
+ghost use Rattle.write_file.specs.NewFile.{Ready, placed, newFileIn, newFile};
+use boot::geometry::Geometry;
+use boot::layout::Layout;
+use entry_set::stamp::Stamps;
+use stream::allocation::Allocation;
+use write_dir::answer::FileAnswer;
+use write_dir::entries::Room;
+
+// What refuses n more clusters: 7. The usable ones are counted only where some are wanted.
+fn space_cause(vol: &[u8], map: &[u8], y: Layout, n: u32) -> u32
+    requires { ⌜ Laid y × ((length (now vol) ≡ y .len) × (y .count ≤ 8 * length (now map))) ⌝ }
+    ensures { λ r. ⌜ r ≡ spaceCause n (count (isUsable y (now (vol .entry)) (now (map .entry))) 2 (y .count)) ⌝ }
+{
+    if n == 0 {
+        return 0;
+    }
+    if write_alloc::choice::usable_count(vol, map, y) < n {
+        return 7;
+    }
+    0
+}
+
+// Stores a set of n entries in a directory where there is room for it, the directory grown first (Rust: `insert`).
+fn insert(
+    vol: &mut [u8],
+    map: &[u8],
+    y: Layout,
+    dir: Allocation,
+    room: Room,
+    set: &[u8; 608],
+    n: usize,
+    hint: u32,
+) -> FileAnswer
+    requires { ⌜ Ready y (now vol) (now map) dir hint × ((1 ≤ n) × ((n ≤ 19) × ((room ≡ roomFor (y .size) (bytesIn y (now vol) dir) n) × (room .clusters ≤ count (isUsable y (now vol) (now map)) 2 (y .count))))) ⌝ }
+    ensures { λ r. ⌜ (r ≡ placed y (growBy y (now (map .entry)) (room .clusters) (standing (now (vol .entry)) dir hint)) n (now (set .entry)) .answer) × (now (vol .exit) ≡ placed y (growBy y (now (map .entry)) (room .clusters) (standing (now (vol .entry)) dir hint)) n (now (set .entry)) .volume) ⌝ }
+{
+    let w = write_dir::place::grow_by(vol, map, y, dir, room.clusters, hint);
+    let spot = write_dir::place::locate(vol, y, w.allocation, room.slot);
+    write_dir::place::write_set(vol, y, spot, set, n);
+    FileAnswer {
+        number: 0,
+        slot: room.slot,
+        hint: w.hint,
+    }
+}
+
+// Makes an empty file in a directory that opens: 12, 13, 7, or its set stored.
+fn new_file_in(
+    vol: &mut [u8],
+    map: &[u8],
+    y: Layout,
+    dir: Allocation,
+    name: &[u16],
+    attributes: u16,
+    hash: u16,
+    t: Stamps,
+    hint: u32,
+) -> FileAnswer
+    requires { ⌜ Ready y (now vol) (now map) dir hint ⌝ }
+    ensures { λ r. ⌜ (r ≡ newFileIn y (now (vol .entry)) (now (map .entry)) dir (now (name .entry)) attributes hash t hint .answer) × (now (vol .exit) ≡ newFileIn y (now (vol .entry)) (now (map .entry)) dir (now (name .entry)) attributes hash t hint .volume) ⌝ }
+{
+    if entry_set::name::name_ok(name) {
+        if entry_set::name::attributes_ok(attributes) {
+            let n = 2 + entry_set::set::name_entries(name.len());
+            let room = write_dir::entries::free_run(vol, y, dir, n as u32);
+            if space_cause(vol, map, y, room.clusters) == 0 {
+                let set = entry_set::set::new_set(name, attributes, hash, t);
+                return insert(vol, map, y, dir, room, &set, n, hint);
+            }
+            return crate::target::refused(7, hint);
+        }
+        return crate::target::refused(13, hint);
+    }
+    crate::target::refused(12, hint)
+}
+
+// Makes an empty file in the root (Rust: `make_in`, no directory).
+pub fn make_in(
+    vol: &mut [u8],
+    map: &[u8],
+    g: Geometry,
+    name: &[u16],
+    attributes: u16,
+    hash: u16,
+    t: Stamps,
+    hint: u32,
+) -> FileAnswer
+    ensures { λ r. ⌜ (r ≡ newFile g (now (vol .entry)) (now (map .entry)) (now (name .entry)) attributes hash t hint .answer) × (now (vol .exit) ≡ newFile g (now (vol .entry)) (now (map .entry)) (now (name .entry)) attributes hash t hint .volume) ⌝ }
+{
+    if boot::geometry::validate(g, vol.len(), map) {
+        let y = boot::layout::layout_of(g, vol.len());
+        if boot::layout::in_heap(y.count, hint) {
+            let root = write_dir::directory::root_dir(vol, y, g.root_cluster);
+            if root.number == 0 {
+                return new_file_in(
+                    vol,
+                    map,
+                    y,
+                    root.allocation,
+                    name,
+                    attributes,
+                    hash,
+                    t,
+                    hint,
+                );
+            }
+            return crate::target::refused(root.number, hint);
+        }
+        return crate::target::refused(2, hint);
+    }
+    crate::target::refused(1, hint)
+}
