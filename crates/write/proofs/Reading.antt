@@ -1,0 +1,181 @@
+-- What holds of a record that reads as a list of clusters, and the records of root and files read back from the volume.
+-- Assumes nothing.
+use mathlib.Core.Path.{_≡_, refl, sym, _∙_, ap, ap₂, subst}
+use mathlib.Core.Logic.{_≢_}
+use mathlib.Core.Bool.{Bool, true, false, cond}
+use mathlib.Core.List.{[], List, _∷_}
+use Prim.Native.Nat.{ℕ, _+_, _-_, _*_, _≤_}
+use native.Mathlib.Decide.{ℕ-discrete}
+use native.Mathlib.Omega.{arith}
+use lib.ListN.{length, getD}
+use borrow.Author.Tests.{eq-eqb, ne-eqb}
+use Rattle.tables.specs.Lists.{Mem, here, Distinct, every, lastOr}
+use Rattle.tables.proofs.ListLaws.{every-mem, last-of}
+use Rattle.boot.specs.declared.layout.Layout.{Layout}
+use Rattle.boot.specs.Layout.{inHeap}
+use Rattle.boot.proofs.Apart.{in-heap}
+use Rattle.metadata.specs.Fat.{fatEntry}
+use Rattle.metadata.specs.Marks.{marked}
+use Rattle.metadata.proofs.Frame.{Fits}
+use Rattle.stream.specs.declared.allocation.Allocation.{Allocation}
+use Rattle.stream.specs.Chain.{Clusters, listed, readChain}
+use Rattle.stream.specs.Stream.{numberOf, streamOf}
+use Rattle.stream.specs.Along.{after, along}
+use Rattle.stream.specs.Listing.{clustersOf}
+use Rattle.stream.proofs.ChainLaws.{stream-empty, stream-listed}
+use Rattle.stream.proofs.StreamLaws.{Read, read-facts, along-step, last-consec}
+use Rattle.stream.proofs.Distinct.{few, chain-listed, read-length, read-run, read-chain, read-distinct}
+use Rattle.stream.proofs.BytesLaws.{length-of}
+use Rattle.entry_set.specs.Fields.{noFatChain, firstCluster, dataLength, clustersFor}
+use Rattle.write_alloc.specs.Outcome.{empty}
+use Rattle.write_alloc.proofs.GrowLaws.{small}
+use Rattle.write_dir.specs.Directory.{chainRecord, rootRecord, clustersIn, bytesIn}
+use Rattle.write_dir.specs.Open.{fileRecord}
+
+-- ---- a record that is not refused
+
+module _ (y : Layout) (d : List ℕ) (a : Allocation) where
+  -- its clusters, from the list that it reads as
+  pub clusters-of : (ks : List ℕ) → streamOf y d a ≡ listed ks → clustersIn y d a ≡ ks
+  unfolding clustersIn
+  clusters-of ks e = ap clustersOf e
+
+  pub number-of : (ks : List ℕ) → streamOf y d a ≡ listed ks → numberOf (streamOf y d a) ≡ 0
+  number-of ks e = ap numberOf e ∙ (unfold numberOf in refl)
+
+  pub reads-as : numberOf (streamOf y d a) ≡ 0 → streamOf y d a ≡ listed (clustersIn y d a)
+  reads-as e = let p = list in p .1 ∙ ap listed (sym (clusters-of (p .0) (p .1)))
+    where
+      list : (ks : List ℕ) × (streamOf y d a ≡ listed ks)
+      list = unfold streamOf in (stream-listed (y .count) (fatEntry y d) (marked y d) a e)
+
+  -- count 0 has no clusters, whatever the rest
+  pub empty-reads : a .count ≡ 0 → streamOf y d a ≡ listed []
+  unfolding streamOf
+  empty-reads z = stream-empty (y .count) (fatEntry y d) (marked y d) a z
+
+module _ (y : Layout) (d : List ℕ) (a : Allocation) (e : numberOf (streamOf y d a) ≡ 0) where
+  pub reads : Read (y .count) (fatEntry y d) (marked y d) a (clustersIn y d a)
+  reads = read-facts (y .count) (fatEntry y d) (marked y d) a (clustersIn y d a) (unfold streamOf in (reads-as y d a e))
+
+  pub clusters-length : length (clustersIn y d a) ≡ a .count
+  clusters-length = read-length (y .count) (fatEntry y d) (marked y d) a (clustersIn y d a) reads
+
+  pub clusters-heap : every (inHeap (y .count)) (clustersIn y d a) ≡ true
+  clusters-heap = reads .heap
+
+  pub clusters-marked : every (marked y d) (clustersIn y d a) ≡ true
+  clusters-marked = reads .marks
+
+  pub clusters-distinct : Fits y d → Distinct (clustersIn y d a)
+  clusters-distinct w = read-distinct (y .count) (fatEntry y d) (marked y d) a (small y d w) (clustersIn y d a) reads
+
+  pub bytes-length : Fits y d → length (bytesIn y d a) ≡ length (clustersIn y d a) * y .size
+  unfolding bytesIn
+  bytes-length w = length-of y d w (clustersIn y d a) clusters-heap
+
+-- ---- a record that reads as some clusters
+
+module _ (y : Layout) (d : List ℕ) (a : Allocation) (ks : List ℕ) (e : streamOf y d a ≡ listed ks) where
+  read-of : Read (y .count) (fatEntry y d) (marked y d) a ks
+  read-of = read-facts (y .count) (fatEntry y d) (marked y d) a ks (unfold streamOf in e)
+
+  pub count-is : a .count ≡ length ks
+  count-is = sym (read-length (y .count) (fatEntry y d) (marked y d) a ks read-of)
+
+  pub count-few : Fits y d → a .count ≤ y .count
+  count-few w =
+      omega (
+        arith,
+        count-is,
+        few (y .count) ks (read-distinct (y .count) (fatEntry y d) (marked y d) a (small y d w) ks read-of) (read-of .heap),
+      )
+
+  module _ (some : a .count ≢ 0) where
+    starts : (rest : List ℕ) × (ks ≡ a .first ∷ rest)
+    starts = (
+      along (fatEntry y d) (a .«no_fat_chain») (after (fatEntry y d) (a .«no_fat_chain») (a .first)) (a .count - 1),
+      read-of .goes ∙ along-step (fatEntry y d) (a .«no_fat_chain») (a .first) (a .count) (omega arith),
+    )
+
+    pub first-is : a .first ≡ getD ks 0 0
+    first-is = ap (λ (l : List ℕ). getD l 0 0) (sym (starts .1))
+
+    pub first-mem : Mem (a .first) ks
+    first-mem = subst (Mem (a .first)) (sym (starts .1)) (here refl)
+
+    pub first-heap : inHeap (y .count) (a .first) ≡ true
+    first-heap = every-mem (inHeap (y .count)) ks (read-of .heap) (a .first) first-mem
+
+    pub last-is : lastOr 0 ks ≡ a .last
+    last-is = read-of .last some 0
+
+    pub last-heap : inHeap (y .count) (a .last) ≡ true
+    last-heap =
+        ap (inHeap (y .count)) (sym last-is)
+        ∙ every-mem (inHeap (y .count)) ks (read-of .heap) (lastOr 0 ks) (last-of 0 ks (omega (arith, count-is)))
+
+    -- a run's last, and where a run ends
+    pub run-last : a .«no_fat_chain» ≡ true → a .last + 1 ≡ a .first + a .count
+    run-last t =
+        omega (
+          arith,
+          last-is,
+          ap (lastOr 0) (read-run (y .count) (fatEntry y d) (marked y d) a ks read-of t),
+          last-consec 0 (a .first) (a .count) some,
+        )
+
+    pub run-ends : a .«no_fat_chain» ≡ true → a .first + a .count ≤ y .count + 2
+    run-ends t = omega (arith, run-last t, in-heap (y .count) (a .last) last-heap .1)
+
+    -- a chain is what the walk of the FAT finds
+    pub chain-reads : Fits y d → a .«no_fat_chain» ≡ false → readChain (y .count) (fatEntry y d) (a .first) ≡ listed ks
+    chain-reads w t =
+        let q = starts .1 in
+        chain-listed (y .count) (fatEntry y d) (small y d w) (a .first) (a .first) (starts .0)
+        (read-chain (y .count) (fatEntry y d) (marked y d) a (a .first) (starts .0)
+        (subst (Read (y .count) (fatEntry y d) (marked y d) a) q read-of) t)
+        ∙ ap listed (sym q)
+
+-- ---- the root's record
+
+-- a chain's record is read back from its first cluster
+pub root-back : (y : Layout) (d : List ℕ) → Fits y d → (a : Allocation) (ks : List ℕ) → streamOf y d a ≡ listed ks → a .«no_fat_chain» ≡ false
+    → a .count ≢ 0 → rootRecord y d (a .first) ≡ a
+unfolding rootRecord
+root-back y d w a ks e t some =
+    ap (chainRecord (a .first)) (chain-reads y d a ks e some w t)
+    ∙ (unfold chainRecord in
+    (λ i. record {
+      first = a .first;
+      last = last-is y d a ks e some i;
+      count = sym (count-is y d a ks e) i;
+      «no_fat_chain» = sym t i;
+    }))
+
+-- ---- a file's record
+
+-- the record of a set that has its first cluster, its flag and a length that takes its count
+pub file-back : (y : Layout) (d : List ℕ) → Fits y d → (s : List ℕ) (b : Allocation) (ks : List ℕ) → streamOf y d b ≡ listed ks
+    → firstCluster s ≡ b .first → noFatChain s ≡ b .«no_fat_chain» → clustersFor (y .size) (dataLength s) ≡ b .count
+    → (b .count ≡ 0 → b ≡ empty) → fileRecord y d s ≡ b
+unfolding fileRecord
+file-back y d w s b ks e first flag count none =
+    elim (ℕ-discrete (b .count) 0) [
+      | yes z ↦ rw (eq-eqb (clustersFor (y .size) (dataLength s)) 0 (count ∙ z)) (sym (none z))
+      | no some ↦ rw (ne-eqb (clustersFor (y .size) (dataLength s)) 0 (λ z. some (sym count ∙ z)))
+          (λ i. record { first = first i; last = last some i; count = count i; «no_fat_chain» = flag i })
+    ]
+  where
+    last : b .count ≢ 0
+        → cond (noFatChain s) (firstCluster s + clustersFor (y .size) (dataLength s) - 1) (lastOr 0 (clustersOf (readChain (y .count) (fatEntry y d) (firstCluster s))))
+        ≡ b .last
+    last some =
+        ap₂ (λ (f n : ℕ). cond (noFatChain s) (f + n - 1) (lastOr 0 (clustersOf (readChain (y .count) (fatEntry y d) f)))) first count
+        ∙ by (b .«no_fat_chain») refl
+      where
+        by : (t : Bool) → b .«no_fat_chain» ≡ t
+            → cond (noFatChain s) (b .first + b .count - 1) (lastOr 0 (clustersOf (readChain (y .count) (fatEntry y d) (b .first)))) ≡ b .last
+        by true t = rw (flag ∙ t) (omega (arith, run-last y d b ks e some t))
+        by false t =
+            rw (flag ∙ t) (ap (λ (c : Clusters). lastOr 0 (clustersOf c)) (chain-reads y d b ks e some w t) ∙ last-is y d b ks e some)

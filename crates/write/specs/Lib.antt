@@ -1,0 +1,8 @@
+pub mod Calls
+pub mod Consistent
+pub mod Contents
+pub mod Model
+pub mod Space
+pub mod Demand
+pub mod Replay
+pub mod Example

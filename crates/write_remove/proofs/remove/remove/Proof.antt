@@ -1,0 +1,49 @@
+use mathlib.Core.Path.{sym, _∙_, refl}
+use native.Mathlib.Omega.{arith}
+use Rattle.boot.specs.Layout.{layoutOf}
+use Rattle.boot.proofs.Accepted.{accepted-of, map-length}
+use Rattle.boot.proofs.Places.{laid-of}
+use Rattle.boot.proofs.Apart.{apart-of}
+use Rattle.write_file.proofs.OpenLaws.{shown-as, refuse-shown}
+use Rattle.write_remove.proofs.RemoveLaws.{remove-is, remove-limits}
+use borrow.Author.Needs.{needs}
+use Rattle.write_remove.proofs.remove.remove.Statement.{statement}
+use Rattle.write_remove.proofs.remove.remove.Tie as tie
+
+validate-requires : tie.Need-validate-requires
+validate-requires c κs = search needs
+
+layout-of-requires : tie.Need-layout-of-requires
+layout-of-requires c κs = accepted-of _ _ _ (sym (c .before .validate .ensures) ∙ c .if1 .taken)
+
+remove-in-requires : tie.Need-remove-in-requires
+unfolding layoutOf
+remove-in-requires c κs =
+    let e = sym (c .before .before .before .validate .ensures) ∙ c .before .before .if1 .taken in
+    let p = accepted-of _ _ _ e in
+    let n = map-length _ _ _ e in
+    rw (c .before .layout-of .ensures) (laid-of _ _ p, (refl, (omega arith, apart-of _ _ p)))
+
+same-length : tie.Need-same-length
+same-length c = search needs
+
+returns : tie.Need-returns
+returns c = shown-as (remove-is _ _ _ _ _ _ (cc) (c .before .before .before .before .layout-of .ensures)) (c .before .before .remove-in .ensures)
+
+refused-requires : tie.Need-refused-requires
+refused-requires c κs = search needs
+
+returns-2 : tie.Need-returns-2
+returns-2 c = shown-as (remove-limits _ _ _ _ _ (cc)) (refuse-shown _ _ _ _ (c .refused .ensures))
+
+pub remove-spec : {M : Type 1} → statement M
+remove-spec =
+    tie.close
+    (tie.spec
+    validate-requires
+    layout-of-requires
+    remove-in-requires
+    same-length
+    returns
+    refused-requires
+    returns-2)

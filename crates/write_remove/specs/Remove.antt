@@ -1,0 +1,37 @@
+-- Remove (01, "Remove"; Rust: `remove`).
+use mathlib.Core.Bool.{cond}
+use mathlib.Core.List.{List}
+use Prim.Native.Nat.{ℕ, _*_}
+use lib.Dec.{eqb}
+use lib.ListN.{length, take}
+use Rattle.boot.specs.declared.geometry.Geometry.{Geometry}
+use Rattle.boot.specs.declared.layout.Layout.{Layout}
+use Rattle.boot.specs.Geometry.{rootCluster}
+use Rattle.boot.specs.Limits.{limits}
+use Rattle.boot.specs.Layout.{layoutOf}
+use Rattle.stream.specs.declared.allocation.Allocation.{Allocation}
+use Rattle.stream.specs.Bytes.{storeAt}
+use Rattle.entry_set.specs.Put.{cleared}
+use Rattle.write_shrink.specs.Shrink.{shrinkIn}
+use Rattle.write_dir.specs.Outcome.{Outcome, refuse, carried}
+use Rattle.write_dir.specs.Directory.{rootRecord, clustersIn}
+use Rattle.write_dir.specs.Open.{fileRecord, setIn}
+use Rattle.write_file.specs.Refresh.{entriesOf, openCause}
+
+-- bit 0x80 of each entry of set s cleared at a slot of the directory whose clusters are ks
+unfoldable pub unlinked : Layout → List ℕ → List ℕ → ℕ → List ℕ → List ℕ
+unlinked y d ks slot s = storeAt y d ks (32 * slot) (take (32 * entriesOf s) (cleared s (entriesOf s)))
+
+-- the file at a slot of directory a removed: its entries cleared, then its stream freed
+unfoldable pub removeIn : Layout → List ℕ → List ℕ → Allocation → ℕ → ℕ → Outcome
+removeIn y d m a slot hint =
+    let number = openCause y d m a slot hint in
+    let s = setIn y d a slot in
+    cond (eqb number 0) (carried 0 hint (shrinkIn y (unlinked y d (clustersIn y d a) slot s) m (fileRecord y d s) 0 hint .volume))
+    (refuse number hint d)
+
+-- a file of the root removed
+unfoldable pub remove : Geometry → List ℕ → List ℕ → ℕ → ℕ → Outcome
+remove g d m slot hint =
+    let y = layoutOf g (length d) in
+    cond (limits g (length d) m) (removeIn y d m (rootRecord y d (rootCluster g)) slot hint) (refuse 1 hint d)

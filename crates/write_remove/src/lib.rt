@@ -1,0 +1,2 @@
+// Remove (from write_remove.rs).
+pub mod remove;
