@@ -4,10 +4,11 @@
  * The volume is one byte slice that the caller lends; no call keeps anything between calls, allocates memory or calls the
  * system. Every call takes any bytes and any numbers: it tests everything itself, answers a number, and returns.
  *
- * A slice is a pointer and then a length: in bytes for a volume and a map, in words for a list. An array is a pointer.
+ * A slice is a pointer and then a length: in bytes for a volume, a map and data, in words for a list, in units of 16 bits for a
+ * name. An array is a pointer.
  * What the caller has to keep: each pointer leads to as many elements as its length or its array says, is aligned for them and
- * is not null, at length 0 too; nothing else changes a slice or an array during the call; and what a call writes (the volume of
- * allocate, extend and shrink, `list`, `out`) overlaps no other argument.
+ * is not null, at length 0 too; nothing else changes a slice or an array during the call; and what a call writes (a volume that
+ * is not const, `list`, `out`) overlaps no other argument.
  *
  * Arguments that the calls share
  *
@@ -21,6 +22,10 @@
  *   allocation  A stream's record, 4 words: first cluster, last cluster, count of clusters, NoFatChain (0 is clear, any other
  *               value set). Set, the clusters first..last follow each other and the FAT is not looked at; clear, the FAT links
  *               them. With count 0 the stream is empty, whatever the other words say.
+ *   slot        The place of a file's entry set in the root directory, counted in entries of 32 bytes from 0: what
+ *               exfat_new_file gave, or found by reading the root.
+ *   stamp       6 bytes: a time as the entry holds it (4 bytes, low byte first), its 10 ms increment, its UTC offset. They are
+ *               stored as given. `stamps` is three of them: created, modified, accessed.
  *   hint        The cluster at which a search starts where nothing else says so: the one that the call before gave back, or 2.
  *   out         8 words that the call stores, all of them: what it gives, then zeros.
  *
@@ -28,13 +33,18 @@
  *
  *   0   done
  *   1   the geometry, the volume's length or the map breaks the limits
- *   2   the hint, the near cluster or a cluster of the record is outside 2..C+1
+ *   2   the hint, the near cluster, the root cluster or a cluster of the record is outside 2..C+1
  *   3   a chain meets a FAT value that is neither a cluster nor the end
  *   4   a chain goes on after C clusters
  *   5   the record's count or last cluster is not that of its stream
- *   6   a cluster of the record is not marked in the bitmap
+ *   6   a cluster of the record, the root or the file is not marked in the bitmap
  *   7   too few clusters
- *   9   a system cluster among those to be freed
+ *   8   offset and data length add up to more than 2^64 - 1
+ *   9   a system cluster among those to be freed or among the file's, or a bitmap cluster in the root
+ *   10  no sound file entry at the slot
+ *   11  the entry is a directory's
+ *   12  the name is refused
+ *   13  an attribute outside 0x27 (ReadOnly 0x01, Hidden 0x02, System 0x04, Archive 0x20)
  *   14  the list is shorter than the record's count
  *
  * Every call tests 1 first, then the hint where it has one. A refused call (a number that is not 0) leaves the volume and the
@@ -105,6 +115,49 @@ uint32_t exfat_extend(uint8_t *vol, size_t vol_len, const uint8_t *map, size_t m
  */
 uint32_t exfat_shrink(uint8_t *vol, size_t vol_len, const uint8_t *map, size_t map_len, const uint32_t geometry[11],
                       const uint32_t allocation[4], uint32_t keep, uint32_t hint, uint32_t out[8]);
+
+/*
+ * Makes an empty file in the root directory. Its entry set goes to the lowest sequence of unused entries that holds it; the root
+ * grows by one zeroed cluster at a time until there is one. The name is 1 to 255 units of UTF-16, none below 32 and none of
+ * " * / : < > ? \ |, and not "." or ".."; the caller gives its hash and sees to it that no other file has the same name.
+ *
+ * Numbers: 1; 2 for the hint; the root's 2, 3, 4, 6, 9; 12; 13; 7.
+ * out[0] is the slot of the new set, out[1] the hint, new where the root grew; refused, 0 and the hint as given.
+ */
+uint32_t exfat_new_file(uint8_t *vol, size_t vol_len, const uint8_t *map, size_t map_len, const uint32_t geometry[11],
+                        const uint16_t *name, size_t name_len, uint16_t attributes, uint16_t hash, const uint8_t stamps[18],
+                        uint32_t hint, uint32_t out[8]);
+
+/*
+ * Writes data to a file from an offset on and makes it longer as needed. What lies between the file's valid length and the
+ * offset is zeroed. The modified and accessed stamps become the one given, and attribute 0x20 is set; empty data does no more.
+ *
+ * Numbers: 1; 2 for the hint; the root's 2, 3, 4, 6, 9; 10; 11; the file's 3 or 4, 5, 6, 9; and with data 8, then 7.
+ * out[0] is the hint, new where the file got clusters; refused, the hint as given.
+ */
+uint32_t exfat_write(uint8_t *vol, size_t vol_len, const uint8_t *map, size_t map_len, const uint32_t geometry[11],
+                     uint32_t slot, uint64_t offset, const uint8_t *src, size_t src_len, const uint8_t stamp[6], uint32_t hint,
+                     uint32_t out[8]);
+
+/*
+ * Sets a file's length. Shorter, the clusters past the new end are freed, and the valid length is at most the length; longer,
+ * clusters are added, and what is read past the valid length is 0: the rest of its cluster is zeroed, the others stay as they
+ * were. Stamps and attribute as for exfat_write.
+ *
+ * Numbers: 1; 2 for the hint; the root's 2, 3, 4, 6, 9; 10; 11; the file's 3 or 4, 5, 6, 9; 7.
+ * out[0] is the hint, new where the file got clusters; refused, the hint as given.
+ */
+uint32_t exfat_set_length(uint8_t *vol, size_t vol_len, const uint8_t *map, size_t map_len, const uint32_t geometry[11],
+                          uint32_t slot, uint64_t length, const uint8_t stamp[6], uint32_t hint, uint32_t out[8]);
+
+/*
+ * Removes a file: its entries are marked unused and its clusters freed.
+ *
+ * Numbers: 1; 2 for the hint; the root's 2, 3, 4, 6, 9; 10; 11; the file's 3 or 4, 5, 6, 9.
+ * out[0] is the hint as given.
+ */
+uint32_t exfat_remove(uint8_t *vol, size_t vol_len, const uint8_t *map, size_t map_len, const uint32_t geometry[11],
+                      uint32_t slot, uint32_t hint, uint32_t out[8]);
 
 #ifdef __cplusplus
 }

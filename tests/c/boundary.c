@@ -1,6 +1,7 @@
 /*
  * The library through its header, as a C program sees it: each call once with good arguments and once with bad ones. A line
- * for each check. The volume is that of 01's trials; the good calls are T2, T8 and T9.
+ * for each check. The volume is that of 01's trials; the good calls are T2, T8 and T9, and a file that is made, written, made
+ * longer and shorter, and removed.
  */
 #include <stdio.h>
 #include <string.h>
@@ -158,6 +159,116 @@ static void shrink(void)
     check("shrink over the bitmap: 9, record and hint as given", number == 9 && out_is(2, 2, 1, 1, 4) && volume_is_expected());
 }
 
+/* ---- the four calls on files: root in cluster 3, the file's set at slot 0 */
+
+#define ROOT_AT (HEAP_AT + SECTOR)
+
+static const uint8_t stamps[18] = {1, 2, 3, 4, 5, 6, 7, 8, 9, 10, 11, 12, 13, 14, 15, 16, 17, 18};
+static const uint8_t stamp[6] = {21, 22, 23, 24, 25, 26};
+static const uint16_t name[1] = {'a'};
+
+/* The checksum of a set: rotate right by one, add each byte but 2 and 3. */
+static void put_checksum(uint8_t *set, int entries)
+{
+    uint16_t sum = 0;
+    for (int i = 0; i < 32 * entries; i++)
+        if (i != 2 && i != 3)
+            sum = (uint16_t)((uint16_t)(sum << 15 | sum >> 1) + set[i]);
+    set[2] = (uint8_t)sum;
+    set[3] = (uint8_t)(sum >> 8);
+}
+
+/* The set of file "a" at slot 0 of `expected`: as exfat_new_file leaves it, or after a call with `stamp`. */
+static void put_set(int changed, uint8_t flags, uint32_t first, uint32_t length, uint32_t valid)
+{
+    uint8_t *set = expected + ROOT_AT;
+    memset(set, 0, 96);
+    set[0] = 0x85;
+    set[1] = 2;
+    set[4] = changed ? 0x21 : 0x01;
+    memcpy(set + 8, stamps, 4);
+    set[20] = stamps[4];
+    set[22] = stamps[5];
+    memcpy(set + 12, changed ? stamp : stamps + 6, 4);
+    set[21] = changed ? stamp[4] : stamps[10];
+    set[23] = changed ? stamp[5] : stamps[11];
+    memcpy(set + 16, changed ? stamp : stamps + 12, 4);
+    set[24] = changed ? stamp[5] : stamps[17];
+    set[32] = 0xC0;
+    set[33] = flags;
+    set[35] = 1;
+    set[36] = 0x34;
+    set[37] = 0x12;
+    for (int i = 0; i < 4; i++) {
+        set[40 + i] = (uint8_t)(valid >> (8 * i));
+        set[52 + i] = (uint8_t)(first >> (8 * i));
+        set[56 + i] = (uint8_t)(length >> (8 * i));
+    }
+    set[64] = 0xC1;
+    set[66] = 'a';
+    put_checksum(set, 3);
+}
+
+static void files(void)
+{
+    uint8_t src[600];
+    const uint16_t refused[2] = {'a', '?'};
+
+    make_volume(0x03);
+    put_set(0, 1, 0, 0, 0);
+    uint32_t number = exfat_new_file(volume, VOLUME_BYTES, map, MAP_BYTES, geometry, name, 1, 0x01, 0x1234, stamps, 4, out);
+    check("new file: slot 0, hint 4", number == 0 && out_is(0, 4, 0, 0, 0) && volume_is_expected());
+
+    spoil_out();
+    number = exfat_new_file(volume, VOLUME_BYTES, map, MAP_BYTES, geometry, refused, 2, 0, 0, stamps, 4, out);
+    check("new file with a unit that is refused: 12", number == 12 && out_is(0, 4, 0, 0, 0) && volume_is_expected());
+    spoil_out();
+    number = exfat_new_file(volume, VOLUME_BYTES, map, MAP_BYTES, geometry, name, 1, 0x10, 0, stamps, 5, out);
+    check("new file with attribute 0x10: 13", number == 13 && out_is(0, 5, 0, 0, 0) && volume_is_expected());
+
+    memset(src, 0x55, sizeof src);
+    memset(expected + HEAP_AT + 2 * SECTOR + 100, 0x55, sizeof src);
+    expected[HEAP_AT] = 0x0F;
+    put_set(1, 3, 4, 700, 700);
+    spoil_out();
+    number = exfat_write(volume, VOLUME_BYTES, map, MAP_BYTES, geometry, 0, 100, src, sizeof src, stamp, 4, out);
+    check("write 600 bytes at 100: run 4..5, hint 6", number == 0 && out_is(6, 0, 0, 0, 0) && volume_is_expected());
+
+    spoil_out();
+    number = exfat_write(volume, VOLUME_BYTES, map, MAP_BYTES, geometry, 0, UINT64_MAX, src, 1, stamp, 4, out);
+    check("write 1 byte at 2^64 - 1: 8", number == 8 && out_is(4, 0, 0, 0, 0) && volume_is_expected());
+    spoil_out();
+    number = exfat_write(volume, VOLUME_BYTES, map, MAP_BYTES, geometry, 1, 0, src, 1, stamp, 4, out);
+    check("write at a slot with no file entry: 10", number == 10 && out_is(4, 0, 0, 0, 0) && volume_is_expected());
+
+    expected[HEAP_AT] = 0x1F;
+    put_set(1, 3, 4, 1300, 700);
+    spoil_out();
+    number = exfat_set_length(volume, VOLUME_BYTES, map, MAP_BYTES, geometry, 0, 1300, stamp, 2, out);
+    check("set length 1,300 (T11): run 4..6, hint 7", number == 0 && out_is(7, 0, 0, 0, 0) && volume_is_expected());
+
+    spoil_out();
+    number = exfat_set_length(volume, VOLUME_BYTES, map, MAP_BYTES, geometry, 0, UINT64_MAX, stamp, 4, out);
+    check("set length 2^64 - 1: 7", number == 7 && out_is(4, 0, 0, 0, 0) && volume_is_expected());
+
+    expected[HEAP_AT] = 0x07;
+    put_set(1, 3, 4, 400, 400);
+    spoil_out();
+    number = exfat_set_length(volume, VOLUME_BYTES, map, MAP_BYTES, geometry, 0, 400, stamp, 9, out);
+    check("set length 400: run 4..4, hint as given", number == 0 && out_is(9, 0, 0, 0, 0) && volume_is_expected());
+
+    expected[HEAP_AT] = 0x03;
+    for (int i = 0; i < 3; i++)
+        expected[ROOT_AT + 32 * i] &= 0x7F;
+    spoil_out();
+    number = exfat_remove(volume, VOLUME_BYTES, map, MAP_BYTES, geometry, 0, 9, out);
+    check("remove: entries unused, cluster freed", number == 0 && out_is(9, 0, 0, 0, 0) && volume_is_expected());
+
+    spoil_out();
+    number = exfat_remove(volume, VOLUME_BYTES, map, MAP_BYTES, geometry, 0, 9, out);
+    check("remove again: 10", number == 10 && out_is(9, 0, 0, 0, 0) && volume_is_expected());
+}
+
 int main(void)
 {
     free_count();
@@ -165,6 +276,7 @@ int main(void)
     allocate();
     extend();
     shrink();
+    files();
     if (failed)
         printf("boundary: FAILED, %d checks\n", failed);
     return failed != 0;

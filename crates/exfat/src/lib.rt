@@ -8,8 +8,12 @@ ghost use Rattle.metadata.specs.Free.{freeClusters};
 ghost use Rattle.stream.specs.Listing.{listingNumber, listingList};
 ghost use Rattle.write_alloc.specs.Allocate.{allocateClusters};
 ghost use Rattle.write_alloc.specs.Extend.{extendClusters};
-ghost use Rattle.write_alloc.specs.Shrink.{shrinkClusters};
-ghost use Rattle.exfat.specs.Words.{flagOf, geometryOf, allocationOf, countWords, answerWords};
+ghost use Rattle.write_shrink.specs.Shrink.{shrinkClusters};
+ghost use Rattle.write_file.specs.NewFile.{newFile};
+ghost use Rattle.write_file.specs.Write.{writeInto};
+ghost use Rattle.write_file.specs.SetLength.{setLength};
+ghost use Rattle.write_remove.specs.Remove.{remove};
+ghost use Rattle.exfat.specs.Words.{flagOf, geometryOf, allocationOf, countWords, answerWords, stampAt, stampsOf, slotWords, hintWords};
 
 // How many clusters are free.
 #[no_mangle]
@@ -96,6 +100,85 @@ pub extern "C" fn exfat_shrink(
 {
     let g = words::geometry_of(geometry);
     let a = words::allocation_of(allocation);
-    let r = write_alloc::shrink::shrink_clusters(vol, map, g, a, keep, hint);
+    let r = write_shrink::shrink::shrink_clusters(vol, map, g, a, keep, hint);
     words::put_answer(out, r)
+}
+
+// A new, empty file in the root.
+#[no_mangle]
+pub extern "C" fn exfat_new_file(
+    vol: &mut [u8],
+    map: &[u8],
+    geometry: &[u32; 11],
+    name: &[u16],
+    attributes: u16,
+    hash: u16,
+    stamps: &[u8; 18],
+    hint: u32,
+    out: &mut [u32; 8],
+) -> u32
+    ensures { λ r. ⌜ (let o = newFile (geometryOf (now (geometry .entry))) (now (vol .entry)) (now (map .entry)) (now (name .entry)) attributes hash (stampsOf (now (stamps .entry))) hint in (r ≡ o .answer .number) × ((now (vol .exit) ≡ o .volume) × (now (out .exit) ≡ slotWords (o .answer)))) ⌝ }
+{
+    let g = words::geometry_of(geometry);
+    let t = words::stamps_of(stamps);
+    let r = write_file::new_file::make_in(vol, map, g, name, attributes, hash, t, hint);
+    words::put_slot(out, r)
+}
+
+// Data written to the file at a slot.
+#[no_mangle]
+pub extern "C" fn exfat_write(
+    vol: &mut [u8],
+    map: &[u8],
+    geometry: &[u32; 11],
+    slot: u32,
+    offset: u64,
+    src: &[u8],
+    stamp: &[u8; 6],
+    hint: u32,
+    out: &mut [u32; 8],
+) -> u32
+    ensures { λ r. ⌜ (let o = writeInto (geometryOf (now (geometry .entry))) (now (vol .entry)) (now (map .entry)) slot offset (now (src .entry)) (stampAt (now (stamp .entry)) 0) hint in (r ≡ o .answer .number) × ((now (vol .exit) ≡ o .volume) × (now (out .exit) ≡ hintWords (o .answer)))) ⌝ }
+{
+    let g = words::geometry_of(geometry);
+    let t = words::stamp_of(stamp);
+    let r = write_file::write::write_into(vol, map, g, slot, offset, src, t, hint);
+    words::put_hint(out, r)
+}
+
+// A new length for the file at a slot.
+#[no_mangle]
+pub extern "C" fn exfat_set_length(
+    vol: &mut [u8],
+    map: &[u8],
+    geometry: &[u32; 11],
+    slot: u32,
+    len: u64,
+    stamp: &[u8; 6],
+    hint: u32,
+    out: &mut [u32; 8],
+) -> u32
+    ensures { λ r. ⌜ (let o = setLength (geometryOf (now (geometry .entry))) (now (vol .entry)) (now (map .entry)) slot len (stampAt (now (stamp .entry)) 0) hint in (r ≡ o .answer .number) × ((now (vol .exit) ≡ o .volume) × (now (out .exit) ≡ hintWords (o .answer)))) ⌝ }
+{
+    let g = words::geometry_of(geometry);
+    let t = words::stamp_of(stamp);
+    let r = write_file::set_length::set_length(vol, map, g, slot, len, t, hint);
+    words::put_hint(out, r)
+}
+
+// The file at a slot removed.
+#[no_mangle]
+pub extern "C" fn exfat_remove(
+    vol: &mut [u8],
+    map: &[u8],
+    geometry: &[u32; 11],
+    slot: u32,
+    hint: u32,
+    out: &mut [u32; 8],
+) -> u32
+    ensures { λ r. ⌜ (let o = remove (geometryOf (now (geometry .entry))) (now (vol .entry)) (now (map .entry)) slot hint in (r ≡ o .answer .number) × ((now (vol .exit) ≡ o .volume) × (now (out .exit) ≡ hintWords (o .answer)))) ⌝ }
+{
+    let g = words::geometry_of(geometry);
+    let r = write_remove::remove::remove(vol, map, g, slot, hint);
+    words::put_hint(out, r)
 }

@@ -1,10 +1,15 @@
 // Arguments and answers as words: what crosses the C boundary.
 ghost use mathlib.Core.Path.{_≡_};
-ghost use Rattle.exfat.specs.Words.{flagOf, flagWord, geometryOf, allocationOf, countWords, answerWords};
+ghost use Prim.Native.Nat.{_+_, _≤_};
+ghost use lib.ListN.{length};
+ghost use Rattle.exfat.specs.Words.{flagOf, flagWord, geometryOf, allocationOf, countWords, answerWords, stampAt, stampsOf, slotWords, hintWords};
 use boot::geometry::Geometry;
+use entry_set::stamp::Stamp;
+use entry_set::stamp::Stamps;
 use metadata::free::FreeCount;
 use stream::allocation::Allocation;
 use write_alloc::answer::Answer;
+use write_dir::answer::FileAnswer;
 
 // A flag in a word: 0 is clear, any other value set.
 pub fn flag_of(w: u32) -> bool
@@ -70,5 +75,54 @@ pub fn put_answer(out: &mut [u32; 8], r: Answer) -> u32
     let a = r.allocation;
     let flag = flag_word(a.no_fat_chain);
     *out = [a.first, a.last, a.count, flag, r.hint, 0, 0, 0];
+    r.number
+}
+
+// A stamp's 6 bytes: the value low byte first, the increment, the offset.
+fn stamp_at(bytes: &[u8], at: usize) -> Stamp
+    requires { ⌜ at + 6 ≤ length (now bytes) ⌝ }
+    ensures { λ r. ⌜ r ≡ stampAt (now (bytes .entry)) at ⌝ }
+{
+    Stamp {
+        value: primitives::words::u32_at(bytes, at),
+        increment: bytes[at + 4],
+        offset: bytes[at + 5],
+    }
+}
+
+// One stamp.
+pub fn stamp_of(bytes: &[u8; 6]) -> Stamp
+    ensures { λ r. ⌜ r ≡ stampAt (now (bytes .entry)) 0 ⌝ }
+{
+    stamp_at(bytes, 0)
+}
+
+// The stamps of a new file: created, modified, accessed.
+pub fn stamps_of(bytes: &[u8; 18]) -> Stamps
+    ensures { λ r. ⌜ r ≡ stampsOf (now (bytes .entry)) ⌝ }
+{
+    let created = stamp_at(bytes, 0);
+    let modified = stamp_at(bytes, 6);
+    let accessed = stamp_at(bytes, 12);
+    Stamps {
+        created: created,
+        modified: modified,
+        accessed: accessed,
+    }
+}
+
+// Stores the slot and the hint of a new file, and answers its number.
+pub fn put_slot(out: &mut [u32; 8], r: FileAnswer) -> u32
+    ensures { λ n. ⌜ (n ≡ r .number) × (now (out .exit) ≡ slotWords r) ⌝ }
+{
+    *out = [r.slot, r.hint, 0, 0, 0, 0, 0, 0];
+    r.number
+}
+
+// Stores the hint of a call on a file, and answers its number.
+pub fn put_hint(out: &mut [u32; 8], r: FileAnswer) -> u32
+    ensures { λ n. ⌜ (n ≡ r .number) × (now (out .exit) ≡ hintWords r) ⌝ }
+{
+    *out = [r.hint, 0, 0, 0, 0, 0, 0, 0];
     r.number
 }

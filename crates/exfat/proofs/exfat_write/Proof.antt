@@ -1,0 +1,24 @@
+use borrow.Author.Needs.{needs}
+use Rattle.exfat.proofs.exfat_write.Statement.{statement}
+use Rattle.exfat.proofs.exfat_write.Tie as tie
+
+geometry-of-requires : tie.Need-geometry-of-requires
+geometry-of-requires c κs = search needs
+
+stamp-of-requires : tie.Need-stamp-of-requires
+stamp-of-requires c κs = search needs
+
+write-into-requires : tie.Need-write-into-requires
+write-into-requires c κs = search needs
+
+put-hint-requires : tie.Need-put-hint-requires
+put-hint-requires c κs = search needs
+
+same-length : tie.Need-same-length
+same-length c = search needs
+
+returns : tie.Need-returns
+returns c = (cc, (cc, cc))
+
+pub exfat-write-spec : {M : Type 1} → statement M
+exfat-write-spec = tie.close (tie.spec geometry-of-requires stamp-of-requires write-into-requires put-hint-requires same-length returns)
