@@ -43,6 +43,28 @@ TRIALS = [
 ]
 
 
+# name; answer (number, slot, hint); bitmap byte; checksum, attributes, stamp and length of the set; how many of the bytes behind
+# byte 700 of the file are zeroed, the others of clusters 5 and 6 keep 0xB5
+EARLIER, GIVEN = (0x5A210000, 10, 0x84), (0x5B65A80F, 150, 0xA0)
+LENGTHS = [
+    ("T11", (0, 0, 7), 0x1F, 0x21, 1300, 1024 - 700),
+    ("T12", (0, 0, 4), 0x0F, 0x21, 900, 900 - 700),
+]
+
+
+def entry_set(attributes, stamp, length):
+    """The set of file "a": valid length 700, run from cluster 4, created at the earlier stamp."""
+    value, increment, offset = stamp
+    head = bytes([0x85, 2, 0, 0, attributes, 0, 0, 0])
+    times = b"".join(v.to_bytes(4, "little") for v in (EARLIER[0], value, value))
+    small = bytes([EARLIER[1], increment, EARLIER[2], offset, offset])
+    stream = bytes([0xC0, 3, 0, 1, 0x34, 0x12, 0, 0]) + (700).to_bytes(8, "little") + bytes(4)
+    stream += (4).to_bytes(4, "little") + length.to_bytes(8, "little")
+    whole = bytearray((head + times + small).ljust(32, b"\0") + stream + bytes([0xC1, 0, 0x61]).ljust(32, b"\0"))
+    whole[2:4] = checksum(whole).to_bytes(2, "little")
+    return whole
+
+
 def volume(marks, links):
     """The 48 sectors."""
     bytes_ = bytearray(24576)
@@ -75,13 +97,35 @@ def lines():
         yield f"  sum {checksum(vol):04x}"
 
 
+def length_lines():
+    for name, (number, slot, hint), mark, attributes, length, zeroed in LENGTHS:
+        vol = volume((mark, 0), {})
+        vol[16896:16992] = entry_set(attributes, GIVEN, length)
+        vol[17408:18944] = b"\xA5" * 700 + bytes(zeroed) + b"\xB5" * (836 - zeroed)
+        yield name
+        yield f"  answer {number} {slot} {hint}"
+        yield f"  free 0 {16 - bin(mark).count('1')}"
+        yield f"  marks {mark:02x} 00"
+        yield "  fat " + " ".join(f"{({3: END}).get(k, 0):08x}" for k in range(18))
+        yield f"  sum {checksum(vol):04x}"
+        for label, at, n in (("set", 16896, 96), ("from 696", 18104, 8), ("from 896", 18304, 8), ("from 1020", 18428, 8)):
+            yield f"  {label} " + " ".join(f"{b:02x}" for b in vol[at : at + n])
+
+
+def all_lines():
+    """In the program's order: T11 and T12 behind T10."""
+    first = list(lines())
+    cut = first.index("old entries stay")
+    return first[:cut] + list(length_lines()) + first[cut:]
+
+
 def main():
-    text = "".join(line + "\n" for line in lines())
+    text = "".join(line + "\n" for line in all_lines())
     if sys.argv[1:2] == ["--check"]:
         with open(sys.argv[2], encoding="utf-8") as f:
             if f.read() != text:
                 sys.exit(f"trials: {sys.argv[2]} does not hold the lines of tests/trials.py")
-        print(f"trials: {len(TRIALS)} trials, as stored")
+        print(f"trials: {len(TRIALS) + len(LENGTHS)} trials, as stored")
     else:
         sys.stdout.write(text)
 

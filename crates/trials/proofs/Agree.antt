@@ -21,12 +21,13 @@ use Rattle.write_alloc.specs.Allocate.{nearCause, newCause, newRun, newChain, n
 use Rattle.write_alloc.specs.Choice.{allFrom, firstRun, runFrom, choose, around, chosen}
 use Rattle.write_alloc.specs.Extend.{moreCause, inPlace, longerRun, linkOld, longerChain, longer, extendIn, extendClusters}
 use Rattle.write_alloc.specs.Outcome.{wrap, spaceCause}
-use Rattle.write_alloc.specs.Shrink.{systemCause, freeAll, risingFrom, rising, keptRecord, endKept, shrinkCause, cut, shrinkIn, shrinkClusters}
+use Rattle.write_shrink.specs.Shrink.{systemCause, freeAll, risingFrom, rising, keptRecord, endKept, shrinkCause, cut, shrinkIn, shrinkClusters}
 use Rattle.write_alloc.specs.Take.{markRun, linkRun, takeOne, takeAll}
-use Rattle.trials.specs.Table.{new, bad6, page, list6, after6, file, after8, after9, loop, old, eight, T1, T2, T3, T4, T5, T6, T6-list, T7, T8, T8-list, T9, T10-list, T10-extend, T10-shrink, old-entries, eight-list, eight-extend, eight-shrink, trials}
+use Rattle.trials.specs.Table.{new, bad6, page, list6, after6, file, after8, after9, loop, old, eight, T1, T2, T3, T4, T5, T6, T6-list, T7, T8, T8-list, T9, T10-list, T10-extend, T10-shrink, T11, T12, old-entries, eight-list, eight-extend, eight-shrink, trials}
 use Rattle.trials.specs.Trial.{Trial, wanted, resultOf, sameFlag, sameList, sameRecord, sameAnswer, sameResult, said, agrees, allAgree}
 use Rattle.trials.specs.Volume.{geometry, system, linkAt, entryAt, wordBytes, fatBytes, padded, bytesOf, linked}
 use Rattle.trials.proofs.Same.{all-same}
+use Rattle.trials.proofs.FileRows.{row-T11, row-T12}
 
 -- a trial with everything open that has to compute
 unfoldable opened : Trial → Bool
@@ -133,12 +134,14 @@ trials-agree =
     (more T10-list _ row-T10-list
     (more T10-extend _ row-T10-extend
     (more T10-shrink _ row-T10-shrink
+    (more T11 _ row-T11
+    (more T12 _ row-T12
     (more old-entries _ row-old-entries
     (more eight-list _ row-eight-list
     (more eight-extend _ row-eight-extend
     (more eight-shrink _ row-eight-shrink
-    none)))))))))))))))))
+    none)))))))))))))))))))
 
--- T1 to T10: what the definitions say is what is expected, row by row of the table
+-- T1 to T12: what the definitions say is what is expected, row by row of the table
 pub trials-hold : map said trials ≡ map wanted trials
 trials-hold = all-same trials trials-agree

@@ -8,7 +8,8 @@ use borrow.Author.Tests.{eqb-true}
 use Rattle.boot.proofs.Tests.{and-left, and-right}
 use Rattle.stream.specs.declared.allocation.Allocation.{Allocation}
 use Rattle.write_alloc.specs.declared.answer.Answer.{Answer}
-use Rattle.trials.specs.Trial.{Result, answered, listed, Trial, sameFlag, sameList, sameRecord, sameAnswer, sameResult, said, wanted, agrees, allAgree}
+use Rattle.write_dir.specs.declared.answer.FileAnswer.{FileAnswer}
+use Rattle.trials.specs.Trial.{Result, answered, listed, carried, Trial, sameFlag, sameList, sameRecord, sameAnswer, sameFileAnswer, sameResult, said, wanted, agrees, allAgree}
 
 -- both of two tests are passed
 both : (a b : Bool) → (a && b) ≡ true → (a ≡ true) × (b ≡ true)
@@ -55,13 +56,31 @@ same-answer a b e =
       hint = eqb-true (a .hint) (b .hint) (r .1) i;
     }
 
+same-file-answer : (a b : FileAnswer) → sameFileAnswer a b ≡ true → a ≡ b
+unfolding sameFileAnswer
+same-file-answer a b e =
+    let n = both (eqb (a .number) (b .number)) (eqb (a .slot) (b .slot) && eqb (a .hint) (b .hint)) e in
+    let s = both (eqb (a .slot) (b .slot)) (eqb (a .hint) (b .hint)) (n .1) in
+    λ i. record {
+      number = eqb-true (a .number) (b .number) (n .0) i;
+      slot = eqb-true (a .slot) (b .slot) (s .0) i;
+      hint = eqb-true (a .hint) (b .hint) (s .1) i;
+    }
+
 same-result : (r s : Result) → sameResult r s ≡ true → r ≡ s
 unfolding sameResult
 same-result (answered a d) (answered b e) t =
     let p = both (sameAnswer a b) (sameList d e) t in
     cc (same-answer a b (p .0), same-list d e (p .1))
 same-result (answered a d) (listed n l) t = cc
+same-result (answered a d) (carried b e) t = cc
 same-result (listed n l) (answered b e) t = cc
+same-result (listed n l) (carried b e) t = cc
+same-result (carried a d) (answered b e) t = cc
+same-result (carried a d) (listed n l) t = cc
+same-result (carried a d) (carried b e) t =
+    let p = both (sameFileAnswer a b) (sameList d e) t in
+    cc (same-file-answer a b (p .0), same-list d e (p .1))
 same-result (listed m k) (listed n l) t =
     let p = both (eqb m n) (sameList k l) t in
     cc (eqb-true m n (p .0), same-list k l (p .1))

@@ -1,3 +1,4 @@
 pub mod Volume
+pub mod File
 pub mod Trial
 pub mod Table

@@ -1,4 +1,4 @@
--- The marked trials T1 to T10 of 01, and rows that tell its slips apart, as one table. proofs/Agree.antt: every row agrees.
+-- The marked trials T1 to T12 of 01, and rows that tell its slips apart, as one table. proofs/Agree.antt: every row agrees.
 use mathlib.Core.Bool.{true, false}
 use mathlib.Core.List.{List, [], _∷_, _++_}
 use Prim.Native.Nat.{ℕ}
@@ -6,8 +6,9 @@ use lib.ListN.{replicate}
 use Rattle.metadata.specs.Fat.{BAD}
 use Rattle.stream.specs.declared.allocation.Allocation.{Allocation}
 use Rattle.write_alloc.specs.Outcome.{empty}
-use Rattle.trials.specs.Volume.{Link, Volume, bytesOf, linked}
-use Rattle.trials.specs.Trial.{Call, allocate, extend, shrink, listing, Result, answered, listed, Trial}
+use Rattle.trials.specs.Volume.{Link, Volume, bytesOf, linked, padded}
+use Rattle.trials.specs.File.{earlier, given, entries}
+use Rattle.trials.specs.Trial.{Call, allocate, extend, shrink, listing, newLength, Result, answered, listed, carried, Trial}
 
 -- a volume by the two bytes of its bitmap and its FAT entries that are not 0, the root's left out
 abbrev pub volume : ℕ → ℕ → List Link → Volume
@@ -28,6 +29,10 @@ chain first last count = record { first = first; last = last; count = count; «n
 -- number, record, hint, and the volume after the call
 abbrev pub gives : ℕ → Allocation → ℕ → Volume → Result
 gives number a hint v = answered (record { number = number; allocation = a; hint = hint }) (bytesOf v)
+
+-- number, hint, and the volume after a file call that makes no set
+abbrev pub leaves : ℕ → ℕ → Volume → Result
+leaves number hint v = carried (record { number = number; slot = 0; hint = hint }) (bytesOf v)
 
 -- a row
 abbrev pub trial : Volume → Call → Result → Trial
@@ -76,6 +81,22 @@ old = link 4 9 ∷ link 5 0xFFFFFFFF ∷ link 6 0x12345678 ∷ []
 -- FAT 4 to 5 to 0xFFFFFFF8
 unfoldable pub eight : Volume
 eight = volume 0x0F 0x00 (link 4 5 ∷ link 5 0xFFFFFFF8 ∷ [])
+
+-- a volume by byte 0 of its bitmap, a file's entries at slot 0 of the root, and the bytes of clusters 4, 5 and 6
+abbrev pub filed : ℕ → List ℕ → List ℕ → Volume
+filed b0 es bs = record { mark0 = b0; mark1 = 0x00; links = []; heap = padded 512 es ++ bs }
+
+-- 4..5 are a file's run, length and valid 700: its bytes are 0xA5, and those behind them in 5 and 6, old contents, 0xB5
+unfoldable pub file700 : Volume
+file700 = filed 0x0F (entries 0x16EC 0x01 earlier 700) (replicate 700 0xA5 ++ replicate 836 0xB5)
+
+-- after T11: 6 is marked too, bytes 700..1,023 are 0, and 6 has its old contents
+unfoldable pub after11 : Volume
+after11 = filed 0x1F (entries 0x3328 0x21 given 1300) (replicate 700 0xA5 ++ (replicate 324 0 ++ replicate 512 0xB5))
+
+-- after T12: bytes 700..899 are 0, and the rest of 5 has its old contents
+unfoldable pub after12 : Volume
+after12 = filed 0x0F (entries 0x0B29 0x21 given 900) (replicate 700 0xA5 ++ (replicate 200 0 ++ replicate 636 0xB5))
 
 -- T1 allocate 0: empty, hint 4
 unfoldable pub T1 : Trial
@@ -131,6 +152,14 @@ T10-extend = trial loop (extend (chain 4 5 2) 1 4) (gives 4 (chain 4 5 2) 4 loop
 unfoldable pub T10-shrink : Trial
 T10-shrink = trial loop (shrink (chain 4 5 2) 1 4) (gives 4 (chain 4 5 2) 4 loop)
 
+-- T11 length and valid 700, set 1,300: zero 700..1,023, valid 700. Slip: zeroing the whole gap, and so 276 bytes of cluster 6
+unfoldable pub T11 : Trial
+T11 = trial file700 (newLength 0 1300 given 4) (leaves 0 7 after11)
+
+-- T12 the same, set 900: zero 700..899
+unfoldable pub T12 : Trial
+T12 = trial file700 (newLength 0 900 given 4) (leaves 0 4 after12)
+
 -- slip: zeroing a run's old FAT entries on allocation. They stay
 unfoldable pub old-entries : Trial
 old-entries = trial (volume 0x03 0x00 old) (allocate 3 4) (gives 0 (run 4 6 3) 7 (volume 0x1F 0x00 old))
@@ -162,6 +191,8 @@ trials =
     ∷ T10-list
     ∷ T10-extend
     ∷ T10-shrink
+    ∷ T11
+    ∷ T12
     ∷ old-entries
     ∷ eight-list
     ∷ eight-extend

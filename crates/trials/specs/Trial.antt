@@ -10,10 +10,14 @@ use Rattle.write_alloc.specs.declared.answer.Answer.{Answer}
 use Rattle.write_alloc.specs.Outcome.{Outcome}
 use Rattle.write_alloc.specs.Allocate.{allocateClusters}
 use Rattle.write_alloc.specs.Extend.{extendClusters}
-use Rattle.write_alloc.specs.Shrink.{shrinkClusters}
+use Rattle.write_shrink.specs.Shrink.{shrinkClusters}
+use Rattle.entry_set.specs.declared.stamp.Stamp.{Stamp}
+use Rattle.write_dir.specs.declared.answer.FileAnswer.{FileAnswer}
+use Rattle.write_dir.specs.Outcome as file
+use Rattle.write_file.specs.SetLength.{setLength}
 use Rattle.trials.specs.Volume.{Volume, geometry, system, bytesOf}
 
--- a call with its own arguments, in the order of 01; a file's calls join here
+-- a call with its own arguments, in the order of 01
 pub data Call : Type 0 where
   -- clusters, hint; no near
   allocate : ℕ → ℕ → Call
@@ -23,6 +27,8 @@ pub data Call : Type 0 where
   shrink : Allocation → ℕ → ℕ → Call
   -- record, the list as it came
   listing : Allocation → List ℕ → Call
+  -- slot, length, stamp, hint
+  newLength : ℕ → ℕ → Stamp → ℕ → Call
 
 -- what a call gives and leaves
 pub data Result : Type 0 where
@@ -30,10 +36,16 @@ pub data Result : Type 0 where
   answered : Answer → List ℕ → Result
   -- number, and the list after the call; the volume is only read
   listed : ℕ → List ℕ → Result
+  -- number, slot and hint, and all bytes of the volume after the call
+  carried : FileAnswer → List ℕ → Result
 
 -- an outcome as a result
 abbrev pub outcome : Outcome → Result
 outcome o = answered (o .answer) (o .volume)
+
+-- a file call's outcome as a result
+abbrev pub fileOutcome : file.Outcome → Result
+fileOutcome o = carried (o .answer) (o .volume)
 
 -- what the definitions say of a call on a volume
 unfoldable pub resultOf : List ℕ → Call → Result
@@ -41,6 +53,7 @@ resultOf d (allocate n hint) = outcome (allocateClusters geometry d system n fal
 resultOf d (extend a n hint) = outcome (extendClusters geometry d system a n hint)
 resultOf d (shrink a keep hint) = outcome (shrinkClusters geometry d system a keep hint)
 resultOf d (listing a l) = listed (listingNumber geometry d system a (length l)) (listingList geometry d system a l)
+resultOf d (newLength slot len t hint) = fileOutcome (setLength geometry d system slot len t hint)
 
 -- one row of the table
 pub record Trial : Type 0 where
@@ -71,12 +84,21 @@ sameRecord a b =
 unfoldable pub sameAnswer : Answer → Answer → Bool
 sameAnswer a b = eqb (a .number) (b .number) && (sameRecord (a .allocation) (b .allocation) && eqb (a .hint) (b .hint))
 
+-- two answers of file calls are the same
+unfoldable pub sameFileAnswer : FileAnswer → FileAnswer → Bool
+sameFileAnswer a b = eqb (a .number) (b .number) && (eqb (a .slot) (b .slot) && eqb (a .hint) (b .hint))
+
 -- two results are the same
 unfoldable pub sameResult : Result → Result → Bool
 sameResult (answered a d) (answered b e) = sameAnswer a b && sameList d e
 sameResult (answered a d) (listed n l) = false
+sameResult (answered a d) (carried b e) = false
 sameResult (listed n l) (answered b e) = false
 sameResult (listed m k) (listed n l) = eqb m n && sameList k l
+sameResult (listed n l) (carried b e) = false
+sameResult (carried a d) (answered b e) = false
+sameResult (carried a d) (listed n l) = false
+sameResult (carried a d) (carried b e) = sameFileAnswer a b && sameList d e
 
 -- what the definitions say in a trial
 unfoldable pub said : Trial → Result

@@ -2,6 +2,7 @@
 use libc::STDOUT_FILENO;
 use stream::allocation::Allocation;
 use write_alloc::answer::Answer;
+use write_dir::answer::FileAnswer;
 
 // Writes a text.
 pub fn text(s: &[u8]) {
@@ -49,6 +50,26 @@ pub fn answer(r: Answer) {
     number(r.number as u64);
     record(r.allocation);
     number(r.hint as u64);
+    end();
+}
+
+// The line of a file call's answer: number, slot and hint.
+pub fn file_answer(r: FileAnswer) {
+    text(b"  answer");
+    number(r.number as u64);
+    number(r.slot as u64);
+    number(r.hint as u64);
+    end();
+}
+
+// A line of bytes.
+pub fn bytes(name: &[u8], part: &[u8]) {
+    text(name);
+    let mut i = 0;
+    while i < part.len() {
+        byte(part[i]);
+        i += 1;
+    }
     end();
 }
 

@@ -4,6 +4,7 @@ ghost use mathlib.Core.Bool.{true, false};
 ghost use Rattle.trials.specs.Volume.{geometry};
 use crate::out;
 use boot::geometry::Geometry;
+use entry_set::stamp::Stamp;
 use stream::allocation::Allocation;
 use write_alloc::answer::Answer;
 
@@ -130,7 +131,7 @@ fn trial(name: &[u8], m0: u8, m1: u8, fat: &[u8], call: Call) {
             report(&vol, r);
         }
         Call::Shrink(a, keep, hint) => {
-            let r = write_alloc::shrink::shrink_clusters(
+            let r = write_shrink::shrink::shrink_clusters(
                 &mut vol,
                 b"\x03\x00",
                 volume(),
@@ -221,11 +222,55 @@ fn eight() {
     );
 }
 
+// The file's set, and its bytes around 700, 900 and 1,024.
+fn stretches(vol: &[u8]) {
+    if vol.len() < 24576 {
+        return;
+    }
+    out::bytes(b"  set", &vol[16896..16992]);
+    out::bytes(b"  from 696", &vol[18104..18112]);
+    out::bytes(b"  from 896", &vol[18304..18312]);
+    out::bytes(b"  from 1020", &vol[18428..18436]);
+}
+
+// A new length for a file "a" on the run 4..5, length and valid 700, its set at slot 0 of the root: its bytes are 0xA5, those
+// behind them in 5 and 6, old contents, 0xB5.
+fn new_length(name: &[u8], len: u64) {
+    let set =
+        b"\x85\x02\xEC\x16\x01\x00\x00\x00\x00\x00\x21\x5A\x00\x00\x21\x5A\x00\x00\x21\x5A\x0A\x0A\x84\x84\x84\x00\x00\x00\x00\x00\x00\x00\xC0\x03\x00\x01\x34\x12\x00\x00\xBC\x02\x00\x00\x00\x00\x00\x00\x00\x00\x00\x00\x04\x00\x00\x00\xBC\x02\x00\x00\x00\x00\x00\x00\xC1\x00a";
+    let own = [0xA5u8; 700];
+    let behind = [0xB5u8; 836];
+    let mut vol = [0u8; 24576];
+    vol[16384] = 0x0F;
+    primitives::words::put_u32(&mut vol, 12300, 0xFFFF_FFFF);
+    primitives::slices::copy_in(&mut vol, 16896, set, 0, set.len());
+    primitives::slices::copy_in(&mut vol, 17408, &own, 0, 700);
+    primitives::slices::copy_in(&mut vol, 18108, &behind, 0, 836);
+    let given = Stamp {
+        value: 0x5B65_A80F,
+        increment: 150,
+        offset: 0xA0,
+    };
+    let r = write_file::set_length::set_length(&mut vol, b"\x03\x00", volume(), 0, len, given, 4);
+    out::text(name);
+    out::end();
+    out::file_answer(r);
+    state(&vol);
+    stretches(&vol);
+}
+
+// T11 and T12: length and valid 700, set 1,300 and 900.
+fn lengths() {
+    new_length(b"T11", 1300);
+    new_length(b"T12", 900);
+}
+
 pub fn all() {
     empty();
     bad();
     changes();
     loops();
+    lengths();
     old();
     eight();
 }

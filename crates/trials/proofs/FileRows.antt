@@ -1,0 +1,52 @@
+-- The rows of T11 and T12, computed like the others; they open the definitions of entries and files too.
+use mathlib.Core.Path.{_≡_, refl}
+use mathlib.Core.Bool.{Bool, true}
+use Rattle.primitives.specs.Bits.{bitOf, setBit, clearBit, putBit, bitAt, countBits}
+use Rattle.primitives.specs.Checksum.{checksum}
+use Rattle.primitives.specs.Splice.{splice}
+use Rattle.primitives.specs.Words.{getLe, putLe}
+use Rattle.tables.specs.Count.{count}
+use Rattle.tables.specs.Lists.{every, lastOr, consec}
+use Rattle.boot.specs.Causes.{firstCause, heapCause}
+use Rattle.boot.specs.Geometry.{sectorSize, clusterSize, bitmapClusters}
+use Rattle.boot.specs.Layout.{fatStart, clusterStart, bitmapFirst, layoutOf, clusterAt, inRun, inHeap, isBitmapCluster}
+use Rattle.boot.specs.Limits.{shapeTests, roomTests, inMap, allInMap, runInMap, apart, secondBitmap, mapTests, limits}
+use Rattle.metadata.specs.Cluster.{putBytes}
+use Rattle.metadata.specs.Fat.{fatEntry}
+use Rattle.metadata.specs.Marks.{markByte, marked, putByte, setMark, allocatedCount, freeCount}
+use Rattle.metadata.specs.Usable.{isFree, isUsable}
+use Rattle.stream.specs.Bytes.{clusterBytes, bytesOf, storeAt}
+use Rattle.stream.specs.Chain.{nextOf, chainFrom, readChain}
+use Rattle.stream.specs.Stream.{numberOf, runCause, readRun, checkChain, readStream, streamOf}
+use Rattle.entry_set.specs.Fields.{entryType, secondaryCount, setChecksum, isDirectory, allocationPossible, noFatChain, nameLength, validLength, firstCluster, dataLength, clustersFor, nameEntries}
+use Rattle.entry_set.specs.Put.{putModified, putAccessed, putStream, archived, sealed, refreshed}
+use Rattle.entry_set.specs.Sound.{headOk, streamEntryOk, namesOk, lengthsOk, wellFormed}
+use Rattle.write_alloc.specs.Choice.{allFrom}
+use Rattle.write_alloc.specs.Extend.{moreCause, inPlace, longerRun, longer, extendIn}
+use Rattle.write_alloc.specs.Outcome.{wrap, spaceCause}
+use Rattle.write_shrink.specs.Shrink.{systemCause}
+use Rattle.write_alloc.specs.Take.{markRun}
+use Rattle.write_dir.specs.Directory.{chainRecord, rootRecord, bitmapCause, directoryCause, clustersIn, bytesIn}
+use Rattle.write_dir.specs.Entries.{entryCount, typeAt, beforeEnd, isFile, entriesAt, setAt, isSound}
+use Rattle.write_dir.specs.Open.{fileRecord, entryCause, attributeCause, streamCause, setIn, fileCause}
+use Rattle.write_dir.specs.Outcome.{carried}
+use Rattle.write_file.specs.Refresh.{entriesOf, recorded, stored, missing, lengthCause, openCause}
+use Rattle.write_file.specs.SetLength.{smaller, setLengthCause, zeroEnd, longerFile, resized, setLengthIn, setLength}
+use Rattle.trials.specs.File.{earlier, given, entries}
+use Rattle.trials.specs.Table.{file700, after11, after12, T11, T12}
+use Rattle.trials.specs.Trial.{Trial, resultOf, sameList, sameFileAnswer, sameResult, said, agrees}
+use Rattle.trials.specs.Volume as volume
+use Rattle.trials.specs.Volume.{geometry, system, linkAt, entryAt, wordBytes, fatBytes, padded}
+
+-- a trial with everything open that has to compute
+unfoldable opened : Trial → Bool
+unfolding bitOf setBit clearBit putBit bitAt countBits checksum splice getLe putLe count every lastOr consec firstCause heapCause sectorSize clusterSize bitmapClusters fatStart clusterStart bitmapFirst layoutOf clusterAt inRun inHeap isBitmapCluster shapeTests roomTests inMap allInMap runInMap apart secondBitmap mapTests limits putBytes fatEntry markByte marked putByte setMark allocatedCount freeCount isFree isUsable clusterBytes bytesOf storeAt nextOf chainFrom readChain numberOf runCause readRun checkChain readStream streamOf entryType secondaryCount setChecksum isDirectory allocationPossible noFatChain nameLength validLength firstCluster dataLength clustersFor nameEntries putModified putAccessed putStream archived sealed refreshed headOk streamEntryOk namesOk lengthsOk wellFormed allFrom moreCause inPlace longerRun longer extendIn wrap spaceCause systemCause markRun chainRecord rootRecord bitmapCause directoryCause clustersIn bytesIn entryCount typeAt beforeEnd isFile entriesAt setAt isSound fileRecord entryCause attributeCause streamCause setIn fileCause carried entriesOf recorded stored missing lengthCause openCause smaller setLengthCause zeroEnd longerFile resized setLengthIn setLength earlier given entries file700 after11 after12 T11 T12 resultOf sameList sameFileAnswer sameResult said agrees geometry system linkAt entryAt wordBytes fatBytes padded volume.bytesOf
+opened t = agrees t
+
+pub row-T11 : agrees T11 ≡ true
+unfolding opened
+row-T11 = refl
+
+pub row-T12 : agrees T12 ≡ true
+unfolding opened
+row-T12 = refl
