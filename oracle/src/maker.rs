@@ -111,7 +111,8 @@ struct FileStream {
 /// Sector shift, cluster shift and how many clusters are wished for.
 fn choose_size(rng: &mut Rng, size: Size) -> (u32, u32, u32) {
     if size == Size::Sample {
-        return (9, 0, rng.range(10, 22) as u32);
+        let (sector, cluster) = rng.pick(&[(9, 0), (9, 0), (9, 1), (10, 0)]);
+        return (sector, cluster, rng.range(10, 22) as u32);
     }
     // Bitmaps of several clusters, up to the largest heap there can be.
     if rng.percent(2) {

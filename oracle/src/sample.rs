@@ -18,11 +18,11 @@ const SEED: u64 = 20_260;
 /// The first volumes are kept as they come; of those that follow, only what
 /// shows a kind of call with a number for the first time.
 const VOLUMES: u64 = 12;
-const CANDIDATES: u64 = 1000;
+const CANDIDATES: u64 = 500;
 /// How many calls are chosen for a volume, and how many of those that show
 /// nothing for the first time are kept.
 const CHOSEN: usize = 300;
-const COMMON: usize = 18;
+const COMMON: usize = 20;
 /// Stretches with fewer like bytes between them are told as one.
 const GAP: usize = 8;
 
@@ -290,7 +290,7 @@ impl Sample {
         let mut chooser = Chooser::new(rng, Kinds::All, false, &volume);
         let mut map = Vec::new();
         let mut common = 0;
-        for _ in 0..CHOSEN {
+        for turn in 0..CHOSEN {
             let before = device.bytes().clone();
             let now = volume.map(&before);
             let view = View {
@@ -298,7 +298,11 @@ impl Sample {
                 bytes: &before,
                 map: &now,
             };
-            let call = chooser.next(view);
+            // The free count comes first, while there are free clusters.
+            let call = match turn {
+                0 if index < VOLUMES => Call::FreeCount,
+                _ => chooser.next(view),
+            };
             let hint = chooser.cluster(shown);
             let step = timed(call, hint, &mut chooser.rng);
             let theirs = call_fresh(&device, &step);

@@ -1,0 +1,3 @@
+pub mod RowLaws
+pub mod SameLaws
+pub mod StretchLaws

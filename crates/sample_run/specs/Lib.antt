@@ -1,0 +1,4 @@
+-- What the program's own functions say: rows and stretches of the input, and what counts as the same.
+pub mod Row
+pub mod Same
+pub mod Stretch
