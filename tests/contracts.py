@@ -16,7 +16,12 @@ PUBLIC_CALLS = {
     "stream::list::clusters",
     "write_alloc::allocate::allocate_clusters",
     "write_alloc::extend::extend_clusters",
-    "write_alloc::shrink::shrink_clusters",
+    "write_shrink::shrink::shrink_clusters",
+    "write_file::new_file::make_in",
+    "write_file::write::write_into",
+    "write_file::set_length::set_length",
+    "write_remove::remove::remove",
+    "write::replay::replay",
 }
 
 HEAD = re.compile(r"^[ \t]*(?:#\[[^\]]*\]\s*)*((?:pub(?:\([a-z]+\))? )?(?:extern \"C\" )?)fn (\w+)", re.M)
