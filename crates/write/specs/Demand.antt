@@ -72,7 +72,7 @@ pub record Demand (g : Geometry) (m d : List ℕ) (cs : List Call) : Type 0 wher
       → step g m (run g m d before) c .answer .number ≡ 0
       → entriesAtSlot g (step g m (run g m d before) c .volume) (slotOf c (step g m (run g m d before) c .answer .slot))
       ≡ setAfter g m (run g m d before) c
-  -- marked clusters add up: those of no stream stay marked
+  -- marked clusters add up: as many more are marked as lengths and root take more
   pub marks-add-up : allocatedCount (lay g d) (run g m d cs) + clustersTaken g d ≡ allocatedCount (lay g d) d + clustersTaken g (run g m d cs)
   -- a further call that meets no other cause gets 7 exactly when it must add more clusters than are usable
   pub seven : (c : Call) → otherCause g m (run g m d cs) c ≡ 0
