@@ -15,7 +15,7 @@ PUBLIC_CALLS = {
     "metadata::free::free_clusters",
     "stream::list::clusters",
     "write_alloc::allocate::allocate_clusters",
-    "write_alloc::extend::extend_clusters",
+    "write_extend::extend::extend_clusters",
     "write_shrink::shrink::shrink_clusters",
     "write_file::new_file::make_in",
     "write_file::write::write_into",

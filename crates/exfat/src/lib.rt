@@ -7,7 +7,7 @@ ghost use lib.ListN.{length};
 ghost use Rattle.metadata.specs.Free.{freeClusters};
 ghost use Rattle.stream.specs.Listing.{listingNumber, listingList};
 ghost use Rattle.write_alloc.specs.Allocate.{allocateClusters};
-ghost use Rattle.write_alloc.specs.Extend.{extendClusters};
+ghost use Rattle.write_extend.specs.Extend.{extendClusters};
 ghost use Rattle.write_shrink.specs.Shrink.{shrinkClusters};
 ghost use Rattle.write_file.specs.NewFile.{newFile};
 ghost use Rattle.write_file.specs.Write.{writeInto};
@@ -81,7 +81,7 @@ pub extern "C" fn exfat_extend(
 {
     let g = words::geometry_of(geometry);
     let a = words::allocation_of(allocation);
-    let r = write_alloc::extend::extend_clusters(vol, map, g, a, more, hint);
+    let r = write_extend::extend::extend_clusters(vol, map, g, a, more, hint);
     words::put_answer(out, r)
 }
 

@@ -2,7 +2,7 @@
 ghost use mathlib.Core.Path.{_≡_};
 ghost use lib.ListN.{getD};
 ghost use Rattle.write_alloc.specs.Allocate.{allocateClusters};
-ghost use Rattle.write_alloc.specs.Extend.{extendClusters};
+ghost use Rattle.write_extend.specs.Extend.{extendClusters};
 ghost use Rattle.write_shrink.specs.Shrink.{shrinkClusters};
 ghost use Rattle.sample_run.specs.Row.{geometryOf, flagAt, recordAt};
 use crate::out;
@@ -61,7 +61,7 @@ pub fn extend(row: &[u32; 33], map: &[u8], vol: &mut [u8], after: &[u8])
 {
     let g = row::geometry(row);
     let a = row::given(row);
-    let r = write_alloc::extend::extend_clusters(vol, map, g, a, row[25], row[20]);
+    let r = write_extend::extend::extend_clusters(vol, map, g, a, row[25], row[20]);
     held(row, r, vol, after);
 }
 

@@ -19,7 +19,7 @@ use Rattle.stream.specs.Listing.{roomCause, listedNumber, listedList, listingNu
 use Rattle.stream.specs.Stream.{numberOf, runCause, readRun, checkChain, readStream, streamOf}
 use Rattle.write_alloc.specs.Allocate.{nearCause, newCause, newRun, newChain, newStream, allocateIn, allocateClusters}
 use Rattle.write_alloc.specs.Choice.{allFrom, firstRun, runFrom, choose, around, chosen}
-use Rattle.write_alloc.specs.Extend.{moreCause, inPlace, longerRun, linkOld, longerChain, longer, extendIn, extendClusters}
+use Rattle.write_extend.specs.Extend.{moreCause, inPlace, longerRun, linkOld, longerChain, longer, extendIn, extendClusters}
 use Rattle.write_alloc.specs.Outcome.{wrap, spaceCause}
 use Rattle.write_shrink.specs.Shrink.{systemCause, freeAll, risingFrom, rising, keptRecord, endKept, shrinkCause, cut, shrinkIn, shrinkClusters}
 use Rattle.write_alloc.specs.Take.{markRun, linkRun, takeOne, takeAll}

@@ -22,7 +22,7 @@ use Rattle.entry_set.specs.Fields.{entryType, secondaryCount, setChecksum, isDi
 use Rattle.entry_set.specs.Put.{putModified, putAccessed, putStream, archived, sealed, refreshed}
 use Rattle.entry_set.specs.Sound.{headOk, streamEntryOk, namesOk, lengthsOk, wellFormed}
 use Rattle.write_alloc.specs.Choice.{allFrom}
-use Rattle.write_alloc.specs.Extend.{moreCause, inPlace, longerRun, longer, extendIn}
+use Rattle.write_extend.specs.Extend.{moreCause, inPlace, longerRun, longer, extendIn}
 use Rattle.write_alloc.specs.Outcome.{wrap, spaceCause}
 use Rattle.write_shrink.specs.Shrink.{systemCause}
 use Rattle.write_alloc.specs.Take.{markRun}

@@ -9,7 +9,7 @@ use Rattle.stream.specs.Listing.{listingNumber, listingList}
 use Rattle.write_alloc.specs.declared.answer.Answer.{Answer}
 use Rattle.write_alloc.specs.Outcome.{Outcome}
 use Rattle.write_alloc.specs.Allocate.{allocateClusters}
-use Rattle.write_alloc.specs.Extend.{extendClusters}
+use Rattle.write_extend.specs.Extend.{extendClusters}
 use Rattle.write_shrink.specs.Shrink.{shrinkClusters}
 use Rattle.entry_set.specs.declared.stamp.Stamp.{Stamp}
 use Rattle.write_dir.specs.declared.answer.FileAnswer.{FileAnswer}

@@ -120,7 +120,7 @@ fn trial(name: &[u8], m0: u8, m1: u8, fat: &[u8], call: Call) {
             report(&vol, r);
         }
         Call::Extend(a, n, hint) => {
-            let r = write_alloc::extend::extend_clusters(
+            let r = write_extend::extend::extend_clusters(
                 &mut vol,
                 b"\x03\x00",
                 volume(),

@@ -35,12 +35,12 @@ use Rattle.stream.proofs.StreamLaws.{Read}
 use Rattle.stream.proofs.BytesLaws.{cluster-cong, bytes-cong, bytes-append, length-of, take-of}
 use Rattle.write_alloc.specs.Choice.{allFrom}
 use Rattle.write_alloc.specs.Outcome.{Outcome, unchanged}
-use Rattle.write_alloc.specs.Extend.{inPlace, longerChain, extendIn}
+use Rattle.write_extend.specs.Extend.{inPlace, longerChain, extendIn}
 use Rattle.write_shrink.specs.Shrink.{systemCause, keptRecord, shrinkCause, cut, shrinkIn}
 use Rattle.write_alloc.proofs.AllocateLaws.{space-kept}
-use Rattle.write_alloc.proofs.ExtendLaws.{longer-out, extend-none}
+use Rattle.write_extend.proofs.ExtendLaws.{longer-out, extend-none}
 use Rattle.write_alloc.proofs.GrowLaws.{Grown, small, grown-other}
-use Rattle.write_alloc.proofs.EnoughLaws.{Took, usable-grown, grow-longer, extend-seven, extend-done}
+use Rattle.write_extend.proofs.EnoughLaws.{Took, usable-grown, grow-longer, extend-seven, extend-done}
 use Rattle.write_shrink.proofs.Cutting.{shrink-by}
 use Rattle.write_shrink.proofs.ShrinkLaws.{Shrunk, cut-reads, cut-shrunk}
 use Rattle.write_dir.specs.Directory.{clustersIn, bytesIn}

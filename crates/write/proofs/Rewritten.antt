@@ -28,7 +28,7 @@ use Rattle.entry_set.specs.declared.stamp.Stamp.{Stamp}
 use Rattle.entry_set.specs.declared.stamp.Stamps.{Stamps}
 use Rattle.entry_set.specs.Fields.{isDirectory, validLength, dataLength, clustersFor}
 use Rattle.write_alloc.specs.Outcome.{empty}
-use Rattle.write_alloc.specs.Extend.{extendIn}
+use Rattle.write_extend.specs.Extend.{extendIn}
 use Rattle.write_dir.specs.Outcome.{Outcome, carried}
 use Rattle.write_dir.specs.Directory.{rootRecord, clustersIn, bytesIn}
 use Rattle.write_dir.specs.Entries.{isFile, entriesAt, sets}

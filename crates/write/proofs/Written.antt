@@ -26,8 +26,8 @@ use Rattle.entry_set.specs.declared.stamp.Stamps.{Stamps}
 use Rattle.entry_set.specs.Fields.{validLength, dataLength, clustersFor}
 use Rattle.entry_set.proofs.SetLaws.{formed-lengths}
 use Rattle.write_alloc.specs.Outcome.{Outcome, spaceCause}
-use Rattle.write_alloc.specs.Extend.{extendIn}
-use Rattle.write_alloc.proofs.ExtendLaws.{extend-none}
+use Rattle.write_extend.specs.Extend.{extendIn}
+use Rattle.write_extend.proofs.ExtendLaws.{extend-none}
 use Rattle.write_dir.specs.Outcome.{carried}
 use Rattle.write_dir.specs.Directory.{clustersIn, bytesIn}
 use Rattle.write_dir.specs.Entries.{sets}

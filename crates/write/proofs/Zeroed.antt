@@ -26,7 +26,7 @@ use Rattle.stream.specs.Bytes.{bytesOf, storeAt}
 use Rattle.stream.proofs.BytesSteps.{store-here, store-over}
 use Rattle.stream.proofs.BytesLaws.{splice-right}
 use Rattle.write_alloc.specs.Outcome.{Outcome}
-use Rattle.write_alloc.specs.Extend.{extendIn}
+use Rattle.write_extend.specs.Extend.{extendIn}
 use Rattle.write_alloc.proofs.Links.{last-append}
 use Rattle.write_dir.specs.Directory.{clustersIn, bytesIn}
 use Rattle.write_dir.specs.Place.{withZeros, Grown, growOne, growBy}

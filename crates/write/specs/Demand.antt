@@ -12,7 +12,7 @@ use Rattle.metadata.specs.Marks.{allocatedCount}
 use Rattle.entry_set.specs.declared.stamp.Stamps.{Stamps}
 use Rattle.entry_set.specs.Fields.{validLength, dataLength, clustersFor}
 use Rattle.entry_set.specs.New.{newSet}
-use Rattle.write_alloc.specs.Extend.{extendIn}
+use Rattle.write_extend.specs.Extend.{extendIn}
 use Rattle.write_shrink.specs.Shrink.{keptRecord}
 use Rattle.write_file.specs.Refresh.{recorded, missing}
 use Rattle.write_file.specs.Write.{larger}

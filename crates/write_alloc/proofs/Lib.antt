@@ -1,11 +1,8 @@
 pub mod AllocateLaws
 pub mod ChoiceLaws
-pub mod EnoughLaws
-pub mod ExtendLaws
 pub mod FirstLaws
 pub mod GrowLaws
 pub mod Links
-pub mod LongerLaws
 pub mod Runs
 pub mod TakeLaws
 pub mod Taking

@@ -2,4 +2,3 @@ pub mod Choice
 pub mod Take
 pub mod Outcome
 pub mod Allocate
-pub mod Extend

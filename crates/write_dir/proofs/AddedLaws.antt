@@ -36,9 +36,9 @@ use Rattle.stream.proofs.BytesLaws.{cluster-cong, cluster-put, cluster-apart}
 use Rattle.stream.proofs.Distinct.{read-length, stream-frame}
 use Rattle.write_alloc.specs.declared.answer.Answer.{Answer}
 use Rattle.write_alloc.specs.Outcome.{Outcome}
-use Rattle.write_alloc.specs.Extend.{extendIn}
+use Rattle.write_extend.specs.Extend.{extendIn}
 use Rattle.write_alloc.proofs.GrowLaws.{small, fresh-unmarked}
-use Rattle.write_alloc.proofs.EnoughLaws.{Took, extend-done, usable-grown}
+use Rattle.write_extend.proofs.EnoughLaws.{Took, extend-done, usable-grown}
 use Rattle.write_dir.specs.declared.place.Added.{Added}
 use Rattle.write_dir.specs.Directory.{clustersIn}
 use Rattle.write_dir.specs.Place.{Grown, standing, addedOf, growOne, growBy, Growable}

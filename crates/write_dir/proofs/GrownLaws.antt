@@ -26,9 +26,9 @@ use Rattle.stream.specs.Bytes.{clusterBytes, bytesOf}
 use Rattle.stream.proofs.StreamLaws.{read-facts}
 use Rattle.stream.proofs.BytesLaws.{bytes-cong, bytes-append}
 use Rattle.write_alloc.specs.Outcome.{Outcome}
-use Rattle.write_alloc.specs.Extend.{extendIn, inPlace, longer, longerRun, longerChain}
-use Rattle.write_alloc.proofs.ExtendLaws.{longer-in, longer-out}
-use Rattle.write_alloc.proofs.EnoughLaws.{grow-longer}
+use Rattle.write_extend.specs.Extend.{extendIn, inPlace, longer, longerRun, longerChain}
+use Rattle.write_extend.proofs.ExtendLaws.{longer-in, longer-out}
+use Rattle.write_extend.proofs.EnoughLaws.{grow-longer}
 use Rattle.write_dir.specs.Directory.{clustersIn, bytesIn}
 use Rattle.write_dir.specs.Place.{withZeros, Grown, growOne, growBy}
 use Rattle.write_dir.proofs.AddedLaws.{Zeroed, zeroed-clusters, zeroed-count, grow-one}

@@ -99,7 +99,7 @@ fn grow(vol: &mut [u8], map: &[u8], y: Layout, dir: Allocation, hint: u32) -> Ad
     requires { ⌜ Laid y × ((length (now vol) ≡ y .len) × ((y .count ≤ 8 * length (now map)) × (Apart y × Growable y (now vol) (now map) dir 1 hint))) ⌝ }
     ensures { λ r. ⌜ (r ≡ addedOf (growOne y (now (map .entry)) (standing (now (vol .entry)) dir hint))) × (now (vol .exit) ≡ growOne y (now (map .entry)) (standing (now (vol .entry)) dir hint) .volume) ⌝ }
 {
-    let o = write_alloc::extend::grow_in(vol, map, y, dir, 1, hint);
+    let o = write_extend::extend::grow_in(vol, map, y, dir, 1, hint);
     let a = o.allocation;
     stream::bytes::put_zeros(vol, y, a.last, 0, y.size);
     Added {

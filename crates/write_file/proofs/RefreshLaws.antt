@@ -31,8 +31,8 @@ use Rattle.entry_set.specs.Fields.{clustersFor}
 use Rattle.entry_set.proofs.SoundLaws.{clusters-even, clusters-rest}
 use Rattle.write_alloc.specs.declared.answer.Answer.{Answer}
 use Rattle.write_alloc.specs.Outcome.{Outcome}
-use Rattle.write_alloc.specs.Extend.{extendIn}
-use Rattle.write_alloc.proofs.EnoughLaws.{Took, extend-done}
+use Rattle.write_extend.specs.Extend.{extendIn}
+use Rattle.write_extend.proofs.EnoughLaws.{Took, extend-done}
 use Rattle.write_alloc.proofs.AllocateLaws.{space-met, space-kept}
 use Rattle.write_dir.specs.Directory.{clustersIn}
 use Rattle.write_file.specs.Refresh.{entriesOf, missing, lengthCause}

@@ -26,7 +26,7 @@ use Rattle.entry_set.specs.Fields.{validLength, dataLength, clustersFor}
 use Rattle.entry_set.proofs.SoundLaws.{clusters-even, clusters-rest}
 use Rattle.write_alloc.specs.declared.answer.Answer.{Answer}
 use Rattle.write_alloc.specs.Outcome as Alloc
-use Rattle.write_alloc.specs.Extend.{extendIn}
+use Rattle.write_extend.specs.Extend.{extendIn}
 use Rattle.write_shrink.specs.declared.shrink.Kept.{Kept}
 use Rattle.write_shrink.specs.Shrink.{keptRecord, shrinkIn}
 use Rattle.write_shrink.specs.Kept.{keptPart, partRecord}

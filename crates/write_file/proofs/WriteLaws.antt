@@ -21,7 +21,7 @@ use Rattle.entry_set.specs.declared.stamp.Stamp.{Stamp}
 use Rattle.entry_set.specs.Fields.{validLength, dataLength}
 use Rattle.write_alloc.specs.declared.answer.Answer.{Answer}
 use Rattle.write_alloc.specs.Outcome as Alloc
-use Rattle.write_alloc.specs.Extend.{extendIn}
+use Rattle.write_extend.specs.Extend.{extendIn}
 use Rattle.write_dir.specs.Outcome.{Outcome, carried, refuse}
 use Rattle.write_dir.specs.Directory.{rootRecord, clustersIn}
 use Rattle.write_dir.specs.Open.{fileRecord, setIn}

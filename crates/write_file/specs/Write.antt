@@ -14,7 +14,7 @@ use Rattle.stream.specs.declared.allocation.Allocation.{Allocation}
 use Rattle.stream.specs.Bytes.{storeAt}
 use Rattle.entry_set.specs.declared.stamp.Stamp.{Stamp}
 use Rattle.entry_set.specs.Fields.{validLength, dataLength}
-use Rattle.write_alloc.specs.Extend.{extendIn}
+use Rattle.write_extend.specs.Extend.{extendIn}
 use Rattle.write_dir.specs.Outcome.{Outcome, refuse, carried}
 use Rattle.write_dir.specs.Directory.{rootRecord, clustersIn}
 use Rattle.write_dir.specs.Open.{fileRecord, setIn}

@@ -6,7 +6,7 @@ ghost use lib.ListN.{length, take, replicate};
 ghost use Rattle.boot.specs.Layout.{Laid, Apart, inHeap};
 ghost use Rattle.stream.specs.Stream.{numberOf, streamOf};
 ghost use Rattle.stream.specs.Bytes.{storeAt};
-ghost use Rattle.write_alloc.specs.Extend.{extendIn};
+ghost use Rattle.write_extend.specs.Extend.{extendIn};
 ghost use Rattle.write_dir.specs.Directory.{clustersIn};
 ghost use Rattle.write_dir.specs.Place.{spotClusters, Reaches};
 ghost use Rattle.write_dir.specs.Open.{fileRecord};
@@ -73,7 +73,7 @@ pub fn grow_to(vol: &mut [u8], map: &[u8], y: Layout, b: Allocation, len: u64, h
     ensures { λ r. ⌜ (r ≡ extendIn y (now (vol .entry)) (now (map .entry)) b (missing y b len) hint .answer) × ((now (vol .exit) ≡ extendIn y (now (vol .entry)) (now (map .entry)) b (missing y b len) hint .volume) × ((numberOf (streamOf y (now (vol .exit)) (r .allocation)) ≡ 0) × (len ≤ r .allocation .count * y .size))) ⌝ }
 {
     let n = missing(y, b, len);
-    write_alloc::extend::grow_in(vol, map, y, b, n, hint)
+    write_extend::extend::grow_in(vol, map, y, b, n, hint)
 }
 
 // Stores a set anew: its stream, both lengths, the stamp, the Archive attribute and the checksum (Rust: `record`).

@@ -7,7 +7,7 @@ ghost use Rattle.boot.specs.Layout.{Laid, Apart, inHeap};
 ghost use Rattle.stream.specs.Stream.{numberOf, streamOf};
 ghost use Rattle.stream.specs.Bytes.{storeAt};
 ghost use Rattle.entry_set.specs.Fields.{dataLength};
-ghost use Rattle.write_alloc.specs.Extend.{extendIn};
+ghost use Rattle.write_extend.specs.Extend.{extendIn};
 ghost use Rattle.write_shrink.specs.Shrink.{keptRecord};
 ghost use Rattle.write_dir.specs.Directory.{rootRecord, clustersIn};
 ghost use Rattle.write_dir.specs.Open.{setIn};

@@ -6,7 +6,7 @@ ghost use lib.ListN.{length};
 ghost use Rattle.boot.specs.Layout.{Laid, Apart, inHeap};
 ghost use Rattle.stream.specs.Stream.{numberOf, streamOf};
 ghost use Rattle.entry_set.specs.Fields.{dataLength};
-ghost use Rattle.write_alloc.specs.Extend.{extendIn};
+ghost use Rattle.write_extend.specs.Extend.{extendIn};
 ghost use Rattle.write_dir.specs.Directory.{rootRecord, clustersIn};
 ghost use Rattle.write_dir.specs.Open.{fileRecord, setIn};
 ghost use Rattle.write_file.specs.Refresh.{missing, lengthCause};

@@ -1,0 +1,3 @@
+pub mod EnoughLaws
+pub mod ExtendLaws
+pub mod LongerLaws

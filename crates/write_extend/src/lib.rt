@@ -1,0 +1,2 @@
+// How a stream grows (from write_alloc.rs).
+pub mod extend;
