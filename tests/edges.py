@@ -8,18 +8,12 @@ import ctypes
 import struct
 import sys
 
+from trials import checksum
+
 SECTOR, FAT_AT, HEAP_AT, END = 512, 24 * 512, 32 * 512, 0xFFFFFFFF
 LAST = 2**64 - 1
 library = ctypes.CDLL(sys.argv[1])
 seen, faults = 0, []
-
-
-def checksum(bytes_):
-    sum_ = 0
-    for k, b in enumerate(bytes_):
-        if k not in (2, 3):
-            sum_ = ((sum_ >> 1 | (sum_ & 1) << 15) + b) & 0xFFFF
-    return sum_
 
 
 def entry_set(flags, first, length, valid, attributes=0x20):

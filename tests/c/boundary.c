@@ -54,6 +54,15 @@ static void put_fat(uint8_t *bytes, uint32_t cluster, uint32_t value)
         bytes[FAT_AT + 4 * cluster + i] = (uint8_t)(value >> (8 * i));
 }
 
+/* The chain 4, 5, 6, 8, which T8 leaves and T9 starts from. */
+static void put_chain(uint8_t *bytes)
+{
+    put_fat(bytes, 4, 5);
+    put_fat(bytes, 5, 6);
+    put_fat(bytes, 6, 8);
+    put_fat(bytes, 8, END);
+}
+
 /* The volume of the trials: bitmap in 2, root in 3, both marked; bytes 1 and 2 of the bitmap's cluster differ by the trial. */
 static void make_volume(uint8_t marks)
 {
@@ -124,10 +133,7 @@ static void extend(void)
     const uint32_t other_flag[4] = {4, 6, 3, 2};
 
     make_volume(0x3F); /* 4..6 the run's, 7 taken */
-    put_fat(expected, 4, 5);
-    put_fat(expected, 5, 6);
-    put_fat(expected, 6, 8);
-    put_fat(expected, 8, END);
+    put_chain(expected);
     expected[HEAP_AT] = 0x7F;
     uint32_t number = exfat_extend(volume, VOLUME_BYTES, map, MAP_BYTES, geometry, run, 1, 4, out);
     check("extend by 1 (T8): chain 4, 5, 6, 8, hint 9", number == 0 && out_is(4, 8, 4, 0, 9) && volume_is_expected());
@@ -143,10 +149,7 @@ static void shrink(void)
     const uint32_t bitmap[4] = {2, 2, 1, 1};
 
     make_volume(0x7F);
-    put_fat(volume, 4, 5);
-    put_fat(volume, 5, 6);
-    put_fat(volume, 6, 8);
-    put_fat(volume, 8, END);
+    put_chain(volume);
     memcpy(expected, volume, VOLUME_BYTES);
     put_fat(expected, 6, END);
     put_fat(expected, 8, 0);
