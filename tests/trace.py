@@ -1,10 +1,11 @@
 #!/usr/bin/env python3
-"""docs/TRACE.md against the repository, and against 01 where that is at hand.
+"""docs/TRACE.md against the repository, and against 01 where that is at hand; and the count of docs/CERTIFICATE.md.
 
 A line of TRACE.md is  - "BEGINNING": `FILE: NAME`, `FILE`, ..  or  - "BEGINNING": demands nothing, REASON  under a heading of 01;
 a line for a clause inside a sentence is indented. Every file must be there and define the name, every must-fail edit and every
 public call must be cited, and the beginnings must be those of all sentences of 01, in its order. 01 is ../shared/docs/01-scope.md,
-or the file that EXFAT_SCOPE names.
+or the file that EXFAT_SCOPE names. The certificate's crates and edits, and their sum, which is the gate's last line, must be those
+that are there.
 """
 
 import functools
@@ -156,9 +157,20 @@ def check_scope(lines):
         faults.append('TRACE.md ends before 01\'s "%s"' % s[:60])
 
 
+def check_certificate():
+    """`N passed, 0 failed`: A crates proved .., and B wrong edits."""
+    crates = [line for line in text_of("crates.txt").splitlines() if line.split("#")[0].strip()]
+    edits = list(pathlib.Path("crates").glob("*/must-fail/*.edit"))
+    said = re.search(r"`(\d+) passed, 0 failed`: (\d+) crates .*?(\d+) wrong edits", text_of("docs/CERTIFICATE.md"))
+    there = (len(crates) + len(edits), len(crates), len(edits))
+    if not said or tuple(map(int, said.groups())) != there:
+        faults.append("CERTIFICATE.md does not say `%d passed, 0 failed`: %d crates .. %d wrong edits" % there)
+
+
 def main():
     lines = read_trace()
     cited = check_names(lines)
+    check_certificate()
     count = sum(quote is not None and not inside for _, _, inside, quote, _ in lines)
     if count == 0:
         faults.append("TRACE.md has no sentence")
