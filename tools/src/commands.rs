@@ -8,11 +8,13 @@ use crate::failure::{refused, usage, Failure, Outcome};
 use crate::format::{self, Wish};
 use crate::heap;
 use crate::library::{self, Number, Stamp};
+use crate::map::{self, Style};
 use crate::replay::{List, Options};
 use crate::stamp;
 use crate::volume::Volume;
+use std::env;
 use std::fs;
-use std::io::{Read, Write};
+use std::io::{IsTerminal, Read, Write};
 
 /// A command: its name, its words and what they do, and the function.
 pub struct Command {
@@ -23,7 +25,7 @@ pub struct Command {
     pub run: fn(Args, &mut Vec<u8>) -> Outcome<()>,
 }
 
-pub const COMMANDS: [Command; 10] = [
+pub const COMMANDS: [Command; 11] = [
     Command {
         name: "format",
         words: "IMAGE [--size BYTES] [--sector BYTES] [--cluster BYTES] [--fats 1|2] [--label TEXT] [--force]",
@@ -92,6 +94,16 @@ unless given; the library takes 0x01, 0x02, 0x04, 0x20 and their sums.",
         help: "Each reason against it names its slot and clusters, with the library's number; the status is then 1. A note is
 no reason: lost clusters, bad ones, FATs or bitmaps that differ, wrong hashes, repeated names.",
         run: check_image,
+    },
+    Command {
+        name: "map",
+        words: "IMAGE [--width CELLS] [--per-cell CLUSTERS] [--color always|never|auto]",
+        does: "draw the heap",
+        help: "CELLS in a row: COLUMNS less the margin, or 64, unless given. A cell is one cluster, or the least power of two of them
+that gives at most 32 rows. A cell of several shows a problem where there is one, is free where all are free, and is
+else what most of its clusters in use are. Each row begins with its first cluster; * stands for more free rows.
+Colours: where the standard output is a terminal, NO_COLOR is not set and TERM is not dumb, or as --color says.",
+        run: draw_map,
     },
     Command {
         name: "replay",
@@ -285,6 +297,36 @@ fn check_image(args: Args, out: &mut Vec<u8>) -> Outcome<()> {
         return Ok(());
     }
     refused(format!("{}: not consistent: {}", words[0], reasons(report.reasons.len())))
+}
+
+fn draw_map(mut args: Args, out: &mut Vec<u8>) -> Outcome<()> {
+    /// What stands before the cells of a row.
+    const MARGIN: usize = 7;
+    let columns = || env::var("COLUMNS").ok()?.parse::<usize>().ok()?.checked_sub(MARGIN);
+    let width = match args.number("--width")? {
+        Some(width) if !(8..=1024).contains(&width) => return usage("--width is not in 8..1024"),
+        Some(width) => width,
+        None => columns().map_or(64, |columns| columns.clamp(8, 1024)),
+    };
+    let per_cell = args.number("--per-cell")?;
+    if per_cell == Some(0) {
+        return usage("--per-cell is 0");
+    }
+    let set = |name: &str| env::var_os(name).is_some_and(|value| !value.is_empty());
+    let color = match args.value("--color")?.as_deref() {
+        Some("always") => true,
+        Some("never") => false,
+        None | Some("auto") => {
+            let dumb = env::var_os("TERM").map_or(true, |term| term == "dumb");
+            std::io::stdout().is_terminal() && !set("NO_COLOR") && !dumb
+        }
+        Some(_) => return usage("--color is not always, never or auto"),
+    };
+    let words = args.words(&["IMAGE"])?;
+    let volume = Volume::open(&words[0])?;
+    let picture = map::draw(&volume, &Style { width, per_cell, color });
+    out.extend(picture.bytes());
+    Ok(())
 }
 
 fn reasons(count: usize) -> String {

@@ -11,6 +11,7 @@ mod format;
 mod geometry;
 mod heap;
 mod library;
+mod map;
 mod replay;
 mod stamp;
 mod upcase;
