@@ -342,7 +342,17 @@ fn ls(mut args: Args, out: &mut Vec<u8>) -> Outcome<()> {
     let words = args.words(&["IMAGE"])?;
     let volume = Volume::open(&words[0])?;
     let mut wrong = 0;
-    say!(out, " slot    length     valid clusters layout            attr   modified              name");
+    say!(
+        out,
+        "{:>5} {:>9} {:>9} {:>8} {:18} {:5} {:25} name",
+        "slot",
+        "length",
+        "valid",
+        "clusters",
+        "layout",
+        "attr",
+        "modified"
+    );
     for (slot, file) in volume.files() {
         match file {
             Ok(file) => wrong += usize::from(!list_file(&volume, &file, long, out)),
@@ -372,7 +382,7 @@ fn list_file(volume: &Volume, file: &File, long: bool, out: &mut Vec<u8>) -> boo
     };
     say!(
         out,
-        "{:5} {:9} {:9} {:8} {layout:18} {} {:21} {}",
+        "{:5} {:9} {:9} {:8} {layout:18} {} {:25} {}",
         file.slot,
         file.length,
         file.valid,
@@ -397,7 +407,7 @@ fn list_file(volume: &Volume, file: &File, long: bool, out: &mut Vec<u8>) -> boo
 fn attributes(bits: u16) -> String {
     let letters = [(0x01, 'R'), (0x02, 'H'), (0x04, 'S'), (0x10, 'D'), (0x20, 'A')];
     let shown = letters.map(|(bit, letter)| if bits & bit != 0 { letter } else { '-' });
-    shown.iter().chain(&[' ']).collect()
+    shown.iter().collect()
 }
 
 fn replay(mut args: Args, out: &mut Vec<u8>) -> Outcome<()> {
