@@ -1,32 +1,32 @@
 /*
- * A recorder's firmware over the library: it makes a file and appends lines to it. `bittsalak format` made the card, so its
- * geometry is known. To be run on a host, the card comes from the standard input and goes to the standard output.
+ * A recorder's firmware over the library: makes a file and appends lines to it, on a card that `bittsalak format` made. To be run
+ * on a host, it reads the card from the standard input and writes it to the standard output.
  */
 #include <stdio.h>
-#include <string.h>
 
 #include "exfat.h"
 
 static uint8_t card[16 * 1024 * 1024];  /* on a device, the mapped memory */
-static const uint8_t map[512] = {0x0F}; /* clusters 2 to 5: allocation bitmap, up-case table, root directory */
-static const uint32_t geometry[EXFAT_GEOMETRY_WORDS] = {9, 3, 24, 32, 1, 0, 56, 4089, 5, 2, 0}; /* exfat.h tells the order */
+static const uint8_t map[512] = {0x0F}; /* system clusters 2 to 5: allocation bitmap, up-case table, root directory */
+static const uint32_t geometry[11] = {9, 3, 24, 32, 1, 0, 56, 4089, 5, 2, 0}; /* from the boot sector; exfat.h has the order */
 #define CARD card, sizeof card, map, sizeof map, geometry
 
-/* Makes MELT.CSV and appends three lines. The answer is 0, or the number of the call that was refused. */
+static const uint16_t name[8] = {'M', 'E', 'L', 'T', '.', 'C', 'S', 'V'}; /* UTF-16 */
+static const uint16_t hash = 0x0A7A;                                      /* the standard's NameHash of that name */
+static const uint8_t stamps[18] = {0, 0x60, 0x70, 0x5D, 0, 0x80,          /* created: 2026-11-16, 12:00, UTC */
+                                   0, 0x60, 0x70, 0x5D, 0, 0x80,          /* modified */
+                                   0, 0x60, 0x70, 0x5D, 0, 0x80};         /* accessed */
+
+/* Makes MELT.CSV and appends three lines of 9 bytes. Gives 0, or the number of the call that was refused. */
 static uint32_t record(void)
 {
-    static const uint16_t name[8] = {'M', 'E', 'L', 'T', '.', 'C', 'S', 'V'}; /* UTF-16 */
-    static const uint16_t hash = 0x0A7A;                                      /* the standard's NameHash of MELT.CSV */
-    static const uint8_t noon[18] = {0, 0x60, 0x70, 0x5D, 0, 0x80, 0, 0x60, 0x70, 0x5D, 0, 0x80, 0, 0x60, 0x70, 0x5D, 0, 0x80};
-    static const char *const lines[3] = {"0,1712.5\n", "1,1713.1\n", "2,1711.8\n"}; /* seconds, degrees Celsius */
-    uint32_t out[EXFAT_OUT_WORDS];
-
-    uint32_t number = exfat_new_file(CARD, name, 8, 0x20, hash, noon, 2, out); /* 0x20: archive; 2: seek from there */
+    static const uint8_t lines[3][10] = {"0,1712.5\n", "1,1713.1\n", "2,1711.8\n"}; /* seconds, degrees Celsius */
+    uint32_t out[8];
+    uint32_t number = exfat_new_file(CARD, name, 8, 0x20, hash, stamps, 2, out); /* 0x20: archive; 2: seek clusters from there */
     uint32_t slot = out[0], hint = out[1];
-    uint64_t length = 0;
-    for (int i = 0; number == 0 && i < 3; i++) {
-        number = exfat_write(CARD, slot, length, (const uint8_t *)lines[i], strlen(lines[i]), noon, hint, out);
-        length += strlen(lines[i]);
+
+    for (uint64_t i = 0; number == 0 && i < 3; i++) {
+        number = exfat_write(CARD, slot, 9 * i, lines[i], 9, stamps, hint, out);
         hint = out[0]; /* where the next call had best seek */
     }
     return number;
@@ -38,7 +38,7 @@ int main(void)
         return 99;
     uint32_t number = record();
     if (number == 7)
-        fputs("the card is full\n", stderr); /* the refused call has changed nothing: what was recorded is there */
+        fputs("the card is full\n", stderr); /* a refused call changes nothing: what was recorded before stays */
     else if (number != 0)
         fprintf(stderr, "the card is damaged: number %u\n", (unsigned)number);
     return fwrite(card, 1, sizeof card, stdout) == sizeof card ? (int)number : 99;

@@ -31,7 +31,7 @@ pub const COMMANDS: [Command; 11] = [
         words: "IMAGE [--size BYTES] [--sector BYTES] [--cluster BYTES] [--fats 1|2] [--label TEXT] [--force]",
         does: "make an image with an empty volume",
         help: "Sizes take K and M: --size 16M (default; 1M to 16M), --sector 512 (512 to 4096), --cluster 4096 (the sector
-to 32K), --fats 1. An image that is there already is replaced only with --force. The new file is written
+to 32K), --fats 1, --label BITTSALAK (at most 11 units; '' for none). An image that is there already is replaced only with --force. The new file is written
 beside it and renamed. The volume's serial number is the time, now or --time.",
         run: format_image,
     },
@@ -125,6 +125,10 @@ consistent after a call. --quiet shows the summary alone. TIMINGS gets line,call
     },
 ];
 
+/// A volume has a label unless `--label ''` says otherwise: Debian's fsstat
+/// (sleuthkit 4.11.1) does not end on one without.
+const LABEL: &str = "BITTSALAK";
+
 macro_rules! say {
     ($out:expr, $($text:tt)*) => {
         // A vector takes everything.
@@ -140,7 +144,7 @@ fn format_image(mut args: Args, out: &mut Vec<u8>) -> Outcome<()> {
         sector,
         cluster: args.number("--cluster")?.unwrap_or(sector.max(4096)),
         fats: args.number("--fats")?.unwrap_or(1),
-        label: args.value("--label")?.unwrap_or_default().encode_utf16().collect(),
+        label: args.value("--label")?.unwrap_or_else(|| LABEL.into()).encode_utf16().collect(),
         serial: u32::from_le_bytes([stamp[0], stamp[1], stamp[2], stamp[3]]),
     };
     let force = args.flag("--force");
