@@ -1,4 +1,5 @@
-//! Why a command ends without success, and the exit status that tells it.
+//! Why a command ends without success, with the exit status that tells it;
+//! and what a command says.
 
 use std::fmt;
 
@@ -45,3 +46,11 @@ pub fn image<T>(words: impl Into<String>) -> Outcome<T> {
 pub fn refused<T>(words: impl Into<String>) -> Outcome<T> {
     Err(Failure::Refused(words.into()))
 }
+
+/// A line of a command's output, which is collected and shown at its end.
+macro_rules! say {
+    ($out:expr, $($text:tt)*) => {
+        $out.extend(format!("{}\n", format_args!($($text)*)).bytes())
+    };
+}
+pub(crate) use say;

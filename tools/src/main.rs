@@ -3,6 +3,7 @@
 mod args;
 mod boot;
 mod calls;
+mod changes;
 mod check;
 mod commands;
 mod directory;
@@ -15,6 +16,7 @@ mod map;
 mod replay;
 mod stamp;
 mod upcase;
+mod views;
 mod volume;
 
 use args::Args;
