@@ -1,0 +1,51 @@
+/*
+ * The limits that the calls are held against, as plain C: the walk of a chain, a memory copy. And the time, and the clearing of
+ * the processor's caches.
+ */
+#define _GNU_SOURCE
+#include <emmintrin.h>
+#include <stddef.h>
+#include <stdint.h>
+#include <string.h>
+#include <sys/syscall.h>
+#include <time.h>
+#include <unistd.h>
+
+/* Follows a FAT from a chain's first cluster to its end mark. Answers the last cluster, so that the walk is not left out. */
+uint32_t bench_walk(const uint8_t *fat, uint32_t first)
+{
+    uint32_t cluster = first;
+    for (;;) {
+        uint32_t next;
+        memcpy(&next, fat + 4 * (size_t)cluster, 4);
+        if (next == 0xFFFFFFFFu)
+            return cluster;
+        cluster = next;
+    }
+}
+
+void bench_copy(uint8_t *to, const uint8_t *from, size_t length)
+{
+    memcpy(to, from, length);
+    __asm__ volatile("" : : "r"(to) : "memory");
+}
+
+/* Takes the bytes out of every cache of the processor. */
+void bench_clear(const uint8_t *bytes, size_t length)
+{
+    for (size_t i = 0; i < length; i += 64)
+        _mm_clflush(bytes + i);
+    _mm_mfence();
+}
+
+/*
+ * Nanoseconds that this thread has had a processor. No call waits for anything, so that this is the time they take, whatever
+ * else the machine does. By the system call, since the original's driver puts a clock of its own in the place of clock_gettime
+ * (oracle/original/src/driver.rs).
+ */
+uint64_t bench_now(void)
+{
+    struct timespec t;
+    syscall(SYS_clock_gettime, CLOCK_THREAD_CPUTIME_ID, &t);
+    return (uint64_t)t.tv_sec * 1000000000u + (uint64_t)t.tv_nsec;
+}
