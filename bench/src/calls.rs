@@ -1,6 +1,15 @@
 //! A list of calls, as each side is given it.
 
 use crate::volume::{name_hash, units, Volume};
+use std::cell::RefCell;
+use std::rc::Rc;
+
+/// A volume's bytes. The sides use the same memory, one after the other, so that its place favours none.
+pub type Shared = Rc<RefCell<Vec<u8>>>;
+
+pub fn shared(bytes: &[u8]) -> Shared {
+    Rc::new(RefCell::new(bytes.to_vec()))
+}
 
 /// A file of a workload. Both sides know it by its place in the list of files.
 #[derive(Clone)]

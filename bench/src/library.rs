@@ -1,6 +1,6 @@
 //! The proved library: the calls of include/exfat.h.
 
-use crate::calls::{Call, List, STAMP};
+use crate::calls::{Call, List, Shared, STAMP};
 use crate::limits::now;
 
 mod c {
@@ -38,43 +38,31 @@ mod c {
 pub struct Side<'list> {
     list: &'list List,
     data: &'list [u8],
-    pub volume: Vec<u8>,
+    volume: Shared,
     pub hint: u32,
     pub slots: Vec<u32>,
     pub record: [u32; 4],
 }
 
 impl<'list> Side<'list> {
-    pub fn new(list: &'list List, data: &'list [u8]) -> Self {
-        Side {
-            list,
-            data,
-            volume: list.volume.bytes.clone(),
-            hint: list.hint,
-            slots: list.files.iter().map(|file| file.slot).collect(),
-            record: [0; 4],
-        }
+    pub fn new(list: &'list List, data: &'list [u8], volume: &Shared) -> Self {
+        let slots = list.files.iter().map(|file| file.slot).collect();
+        Side { list, data, volume: volume.clone(), hint: list.hint, slots, record: [0; 4] }
     }
 
     /// Everything as before the first call.
     pub fn restart(&mut self) {
-        self.volume.copy_from_slice(&self.list.volume.bytes);
+        self.volume.borrow_mut().copy_from_slice(&self.list.volume.bytes);
         self.hint = self.list.hint;
         self.record = [0; 4];
     }
 
-    /// The place and length of the volume and the map, and the geometry.
-    fn lent(&mut self) -> (*mut u8, usize, *const u8, usize, *const [u32; 11]) {
-        let given = &self.list.volume;
-        let volume = self.volume.as_mut_slice();
-        (volume.as_mut_ptr(), volume.len(), given.map.as_ptr(), given.map.len(), &given.geometry)
-    }
-
     /// Makes a call, which nothing may refuse.
     #[inline]
-    pub fn call(&mut self, call: &Call) {
+    pub fn call(&mut self, volume: &mut [u8], call: &Call) {
         let mut out = [0; 8];
-        let (v, vl, m, ml, g) = self.lent();
+        let given = &self.list.volume;
+        let (v, vl, m, ml, g) = (volume.as_mut_ptr(), volume.len(), given.map.as_ptr(), given.map.len(), &given.geometry);
         let hint = self.hint;
         // SAFETY: every pointer leads to as many elements as its length or its array says, and what is written overlaps nothing.
         let number = unsafe {
@@ -113,10 +101,11 @@ impl<'list> Side<'list> {
 
     /// Makes all calls. Answers the nanoseconds.
     pub fn run(&mut self) -> u64 {
-        let list = self.list;
+        let (list, shared) = (self.list, self.volume.clone());
+        let mut volume = shared.borrow_mut();
         let start = now();
         for call in &list.calls {
-            self.call(call);
+            self.call(&mut volume, call);
         }
         now() - start
     }

@@ -13,55 +13,49 @@ mod rust;
 mod volume;
 mod workloads;
 
-use measure::{measure, Rounds, Times};
+use measure::{measure, middle, ratio, Rounds, Times};
 use std::process::exit;
 use workloads::{Limit, Workload};
 
 const USAGE: &str = "bench [--quick] [WORDS]: all workloads, or those whose titles hold each of the words";
 
 /// Microseconds for a call, with three digits.
-fn per_call(time: Option<f64>, calls: usize) -> String {
-    let Some(time) = time else { return "-".to_string() };
+fn per_call(times: &[u64], calls: usize) -> String {
+    let Some(time) = middle(times) else { return "-".to_string() };
     let micros = time / 1e3 / calls as f64;
     let digits = if micros < 10.0 { 2 } else { usize::from(micros < 100.0) };
     format!("{micros:.digits$}")
 }
 
-fn ratio(one: f64, other: Option<f64>) -> String {
-    other.map_or("-".to_string(), |other| format!("{:.2}", one / other))
-}
-
-/// The goals that were missed. Appends to a long chain are held to the walk instead of the Rust on one mount.
-fn missed(work: &Workload, times: &Times) -> String {
-    let above = |other: Option<f64>, most: f64| other.is_some_and(|other| times.library > most * other);
-    let mut names = Vec::new();
-    if above(times.fresh, 1.0) {
-        names.push("fresh");
-    }
-    if work.limit != Limit::Walk && above(times.warm, 1.0) {
-        names.push("one mount");
-    }
-    if work.most.is_some_and(|most| above(times.limit, most)) {
-        names.push("limit");
-    }
-    names.join(", ")
+fn shown(ratio: Option<f64>) -> String {
+    ratio.map_or("-".to_string(), |ratio| format!("{ratio:.2}"))
 }
 
 fn row(work: &Workload, caches: &str, times: &Times) -> String {
     let calls = work.list.calls.len();
+    let to = |other: &[u64]| ratio(&times.library, other);
+    let (fresh, warm, limit) = (to(&times.fresh), to(&times.warm), to(&times.limit));
+    // Appends to a long chain are held to the walk instead of the Rust on one mount.
+    let above = |ratio: Option<f64>, most: f64| ratio.is_some_and(|ratio| ratio > most);
+    let goals = [
+        ("fresh", above(fresh, 1.0)),
+        ("one mount", work.limit != Limit::Walk && above(warm, 1.0)),
+        ("limit", work.most.is_some_and(|most| above(limit, most))),
+    ];
+    let missed: Vec<&str> = goals.iter().filter(|goal| goal.1).map(|goal| goal.0).collect();
     let cells = [
         work.title.clone(),
         caches.to_string(),
         calls.to_string(),
-        per_call(Some(times.library), calls),
-        per_call(times.fresh, calls),
-        per_call(times.warm, calls),
-        per_call(times.limit, calls),
-        ratio(times.library, times.fresh),
-        ratio(times.library, times.warm),
-        ratio(times.library, times.limit),
+        per_call(&times.library, calls),
+        per_call(&times.fresh, calls),
+        per_call(&times.warm, calls),
+        per_call(&times.limit, calls),
+        shown(fresh),
+        shown(warm),
+        shown(limit),
         work.most.map_or("-".to_string(), |most| format!("{most}")),
-        missed(work, times),
+        missed.join(", "),
     ];
     format!("| {} |", cells.join(" | "))
 }

@@ -1,6 +1,6 @@
 //! One workload measured on each side.
 
-use crate::calls::{Call, List};
+use crate::calls::{shared, Call, List, Shared};
 use crate::library;
 use crate::limits::{clear, copy, now, walk};
 #[cfg(rust_sources)]
@@ -9,7 +9,7 @@ use crate::rust;
 use crate::volume::same;
 use crate::workloads::{Limit, Workload};
 
-/// How often a workload is run; the median counts. The sides take turns, so that each meets the machine in the same state.
+/// How often a workload is run. The sides take turns, so that each meets the machine in the same state.
 #[derive(Clone, Copy)]
 pub struct Rounds {
     pub all: usize,
@@ -19,59 +19,74 @@ pub struct Rounds {
     pub fresh_long: usize,
 }
 
-/// Nanoseconds for the whole list.
+/// Nanoseconds for the whole list, in each round.
+#[derive(Default)]
 pub struct Times {
-    pub library: f64,
-    pub fresh: Option<f64>,
-    pub warm: Option<f64>,
-    pub limit: Option<f64>,
+    pub library: Vec<u64>,
+    pub fresh: Vec<u64>,
+    pub warm: Vec<u64>,
+    pub limit: Vec<u64>,
 }
 
-pub fn median(mut times: Vec<u64>) -> Option<f64> {
-    times.sort_unstable();
-    let middle = times.len() / 2;
-    match times.len() {
+/// The middle value; none of none.
+pub fn median(values: impl IntoIterator<Item = f64>) -> Option<f64> {
+    let mut values: Vec<f64> = values.into_iter().collect();
+    values.sort_unstable_by(f64::total_cmp);
+    let middle = values.len() / 2;
+    match values.len() {
         0 => None,
-        odd if odd % 2 == 1 => Some(times[middle] as f64),
-        _ => Some((times[middle - 1] + times[middle]) as f64 / 2.0),
+        odd if odd % 2 == 1 => Some(values[middle]),
+        _ => Some((values[middle - 1] + values[middle]) / 2.0),
     }
 }
 
+pub fn middle(times: &[u64]) -> Option<f64> {
+    median(times.iter().map(|time| *time as f64))
+}
+
+/// The median of the rounds' ratios.
+pub fn ratio(one: &[u64], other: &[u64]) -> Option<f64> {
+    median(one.iter().zip(other).map(|(one, other)| *one as f64 / *other as f64))
+}
+
 /// Takes the bytes out of the processor's caches where they are to be cold.
-fn cool(cold: bool, volume: &[u8], data: &[u8]) {
+fn cool(cold: bool, volume: &Shared, data: &[u8]) {
     if cold {
-        clear(volume);
+        clear(&volume.borrow());
         clear(data);
     }
 }
 
-fn run_library(work: &Workload, side: &mut library::Side, data: &[u8], cold: bool) -> u64 {
+fn run_library(work: &Workload, data: &[u8], volume: &Shared, cold: bool) -> u64 {
+    let mut side = library::Side::new(&work.list, data, volume);
     side.restart();
     if work.repeated {
         side.run();
     }
-    cool(cold, &side.volume, data);
+    cool(cold, volume, data);
     side.run()
 }
 
 #[cfg(rust_sources)]
-fn run_warm(work: &Workload, side: &mut rust::Side, data: &[u8], cold: bool) -> u64 {
+fn run_warm(work: &Workload, data: &[u8], volume: &Shared, cold: bool) -> u64 {
+    let mut side = rust::Side::new(&work.list, data, volume);
     side.restart();
     let mut mount = side.mount();
     if work.repeated {
         side.run_on(&mut mount);
     }
-    cool(cold, &side.bytes(), data);
+    cool(cold, volume, data);
     side.run_on(&mut mount)
 }
 
 #[cfg(rust_sources)]
-fn run_fresh(work: &Workload, side: &mut rust::Side, data: &[u8], cold: bool) -> u64 {
+fn run_fresh(work: &Workload, data: &[u8], volume: &Shared, cold: bool) -> u64 {
+    let mut side = rust::Side::new(&work.list, data, volume);
     side.restart();
     if work.repeated {
         side.run_fresh();
     }
-    cool(cold, &side.bytes(), data);
+    cool(cold, volume, data);
     side.run_fresh()
 }
 
@@ -81,27 +96,29 @@ pub fn clock_cost() -> u64 {
         let start = now();
         now() - start
     };
-    median((0..1001).map(cost).collect()).expect("an odd number") as u64
+    let costs: Vec<u64> = (0..1001).map(cost).collect();
+    middle(&costs).expect("some readings") as u64
 }
 
 /// The sum of the walks before the calls: each follows the file's chain as the call finds it. Where the file is empty or a run,
 /// there is no chain to walk.
-fn run_walks(list: &List, side: &mut library::Side) -> u64 {
+fn run_walks(list: &List, data: &[u8], volume: &Shared) -> u64 {
     let clock = clock_cost();
-    let mut sum = 0;
+    let mut side = library::Side::new(list, data, volume);
     side.restart();
+    let bytes = &mut *volume.borrow_mut();
+    let mut sum = 0;
     for call in &list.calls {
         if let Call::Write { file, .. } = call {
-            let (first, chain) = stream_of(list, &side.volume, side.slots[*file]);
-            let fat = &side.volume[list.volume.fat..list.volume.heap];
+            let (first, chain) = stream_of(list, bytes, side.slots[*file]);
             if chain {
                 let start = now();
-                let last = walk(fat, first);
+                let last = walk(&bytes[list.volume.fat..list.volume.heap], first);
                 sum += (now() - start).saturating_sub(clock);
                 assert!(last >= 2);
             }
         }
-        side.call(call);
+        side.call(bytes, call);
     }
     sum
 }
@@ -115,42 +132,41 @@ fn stream_of(list: &List, volume: &[u8], slot: u32) -> (u32, bool) {
 }
 
 /// A copy of the source into the heap, the second of two in a row.
-fn run_copy(volume: &mut [u8], at: usize, data: &[u8], cold: bool) -> u64 {
-    copy(&mut volume[at..], data);
+fn run_copy(at: usize, data: &[u8], volume: &Shared, cold: bool) -> u64 {
+    copy(&mut volume.borrow_mut()[at..], data);
     cool(cold, volume, data);
+    let heap = &mut volume.borrow_mut()[at..];
     let start = now();
-    copy(&mut volume[at..], data);
+    copy(heap, data);
     now() - start
 }
 
 /// All sides of a workload. `cold`: the volume and the source are taken out of the processor's caches before the calls.
 pub fn measure(work: &Workload, data: &[u8], cold: bool, rounds: Rounds) -> Times {
     let list = &work.list;
-    let mut ours = library::Side::new(list, data);
-    let mut other = library::Side::new(list, data);
-    #[cfg(rust_sources)]
-    let mut theirs = rust::Side::new(list, data);
-    let (mut library, mut limit, mut warm, mut fresh) = (Vec::new(), Vec::new(), Vec::new(), Vec::new());
+    let volume = shared(&list.volume.bytes);
+    let mut times = Times::default();
+    let mut ours = list.volume.bytes.clone();
     // One call is short, and its time differs more from round to round.
-    let times = if work.repeated { 7 } else { 1 };
-    let fresh_rounds = times * if work.long { rounds.fresh_long } else { rounds.fresh };
-    for round in 0..rounds.all * times {
-        library.push(run_library(work, &mut ours, data, cold));
+    let more = if work.repeated { 7 } else { 1 };
+    let fresh = more * if work.long { rounds.fresh_long } else { rounds.fresh };
+    for round in 0..more * rounds.all {
+        times.library.push(run_library(work, data, &volume, cold));
+        ours.copy_from_slice(&volume.borrow());
         match work.limit {
             Limit::None => {}
-            Limit::Walk => limit.push(run_walks(list, &mut other)),
-            Limit::Copy { first } => limit.push(run_copy(&mut other.volume, list.volume.cluster_at(first), data, cold)),
+            Limit::Walk => times.limit.push(run_walks(list, data, &volume)),
+            Limit::Copy { first } => times.limit.push(run_copy(list.volume.cluster_at(first), data, &volume, cold)),
         }
         #[cfg(rust_sources)]
         {
-            warm.push(run_warm(work, &mut theirs, data, cold));
-            assert!(same(&ours.volume, &theirs.bytes()), "{}: the Rust on one mount leaves other bytes", work.title);
-            if round < fresh_rounds {
-                fresh.push(run_fresh(work, &mut theirs, data, cold));
-                assert!(same(&ours.volume, &theirs.bytes()), "{}: the Rust, mounted anew, leaves other bytes", work.title);
+            times.warm.push(run_warm(work, data, &volume, cold));
+            assert!(same(&ours, &volume.borrow()), "{}: the Rust on one mount leaves other bytes", work.title);
+            if round < fresh {
+                times.fresh.push(run_fresh(work, data, &volume, cold));
+                assert!(same(&ours, &volume.borrow()), "{}: the Rust, mounted anew, leaves other bytes", work.title);
             }
         }
     }
-    let library = median(library).expect("at least one round");
-    Times { library, fresh: median(fresh), warm: median(warm), limit: median(limit) }
+    times
 }

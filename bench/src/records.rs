@@ -1,10 +1,10 @@
 //! What allocate, extend and shrink cost by themselves: how it grows with the clusters of the volume (C) and of the call (n), on an
 //! empty heap and where no two free clusters follow each other. The library alone.
 
-use crate::calls::{Call, List};
+use crate::calls::{shared, Call, List};
 use crate::library::Side;
 use crate::limits::now;
-use crate::measure::{clock_cost, median};
+use crate::measure::{clock_cost, middle};
 use crate::volume::Volume;
 
 const CALLS: usize = 31;
@@ -21,29 +21,30 @@ fn start(count: usize, fragmented: bool) -> List {
 
 /// The median of some calls, each on the bytes and the record that are there, in microseconds.
 fn time(list: &List, record: [u32; 4], call: Call, clock: u64) -> f64 {
-    let mut side = Side::new(list, &[]);
+    let mut volume = list.volume.bytes.clone();
+    let mut side = Side::new(list, &[], &shared(&[]));
     let one = |_| {
         // These calls write the FAT and the bitmap alone.
         let end = list.volume.cluster_at(list.volume.first_free);
-        side.volume[..end].copy_from_slice(&list.volume.bytes[..end]);
+        volume[..end].copy_from_slice(&list.volume.bytes[..end]);
         side.hint = list.hint;
         side.record = record;
         let start = now();
-        side.call(&call);
+        side.call(&mut volume, &call);
         (now() - start).saturating_sub(clock)
     };
-    median((0..CALLS).map(one).collect()).expect("some calls") / 1e3
+    let times: Vec<u64> = (0..CALLS).map(one).collect();
+    middle(&times).expect("some calls") / 1e3
 }
 
 /// A row: n clusters taken; n added to that record; the record of n cut to 0, and to half.
 fn row(count: usize, fragmented: bool, n: u32, clock: u64) {
     let empty = start(count, fragmented);
     let taken = time(&empty, [0; 4], Call::Allocate { count: n }, clock);
-    let mut side = Side::new(&empty, &[]);
-    side.call(&Call::Allocate { count: n });
-    let record = side.record;
     let mut filled = empty.clone();
-    filled.volume.bytes = side.volume;
+    let mut side = Side::new(&empty, &[], &shared(&[]));
+    side.call(&mut filled.volume.bytes, &Call::Allocate { count: n });
+    let record = side.record;
     let added = time(&filled, record, Call::Extend { more: n }, clock);
     let freed = time(&filled, record, Call::Shrink { keep: 0 }, clock);
     let halved = time(&filled, record, Call::Shrink { keep: n / 2 }, clock);

@@ -1,15 +1,13 @@
 //! The original Rust, over a plain device in memory: the oracle's one keeps what it overwrites, which would count here.
 
-use crate::calls::{Call, List, CLOCK};
+use crate::calls::{Call, List, Shared, CLOCK};
 use crate::limits::now;
 use fs_core::{BlockDevice, BlockRead};
 use original::timestamp::{Timestamp, Timestamps};
 use original::write::{Allocation, NewEntry, WriteVolume};
-use std::cell::RefCell;
-use std::rc::Rc;
 
 #[derive(Clone)]
-pub struct Device(Rc<RefCell<Vec<u8>>>);
+pub struct Device(Shared);
 
 fn place(size: usize, offset: u64, length: usize) -> fs_core::Result<usize> {
     match offset.checked_add(length as u64) {
@@ -56,14 +54,14 @@ pub struct Side<'list> {
 pub type Mount = WriteVolume<Device>;
 
 impl<'list> Side<'list> {
-    pub fn new(list: &'list List, data: &'list [u8]) -> Self {
+    pub fn new(list: &'list List, data: &'list [u8], volume: &Shared) -> Self {
         original::set_clock(CLOCK);
         let now = Timestamp::now().expect("a time within the range");
         let times = Timestamps { created: now, modified: now, accessed: now };
         Side {
             list,
             data,
-            device: Device(Rc::new(RefCell::new(list.volume.bytes.clone()))),
+            device: Device(volume.clone()),
             new: NewEntry { attributes: 0x20, times: Some(times) },
             hint: list.hint,
             record: Allocation::EMPTY,
@@ -74,10 +72,6 @@ impl<'list> Side<'list> {
         self.device.0.borrow_mut().copy_from_slice(&self.list.volume.bytes);
         self.hint = self.list.hint;
         self.record = Allocation::EMPTY;
-    }
-
-    pub fn bytes(&self) -> std::cell::Ref<'_, Vec<u8>> {
-        self.device.0.borrow()
     }
 
     pub fn mount(&self) -> Mount {

@@ -1,6 +1,6 @@
 //! The workloads: each a start and a list of calls.
 
-use crate::calls::{Call, File, List};
+use crate::calls::{shared, Call, File, List};
 use crate::library;
 use crate::volume::Volume;
 
@@ -81,11 +81,12 @@ fn appends(title: &str, volume: Volume, limit: Limit, data: &[u8]) -> Workload {
 
 /// The list's end as the start of another list, with the slots and the hint that its calls gave.
 fn after(list: List, data: &[u8]) -> List {
-    let mut side = library::Side::new(&list, data);
+    let volume = shared(&list.volume.bytes);
+    let mut side = library::Side::new(&list, data, &volume);
     side.run();
-    let (bytes, slots, hint) = (side.volume, side.slots, side.hint);
+    let (slots, hint) = (side.slots, side.hint);
     let mut next = list.clone();
-    next.volume.bytes = bytes;
+    next.volume.bytes = volume.take();
     next.hint = hint;
     next.files.iter_mut().zip(slots).for_each(|(file, slot)| file.slot = slot);
     next.calls = Vec::new();
