@@ -14,7 +14,11 @@ fn run(command: &mut Command) {
 fn version(command: &str) -> String {
     let output = Command::new(command).arg("--version").output();
     let text = output.map(|output| String::from_utf8_lossy(&output.stdout).into_owned());
-    text.unwrap_or_default().lines().next().unwrap_or("unknown").to_string()
+    text.unwrap_or_default()
+        .lines()
+        .next()
+        .unwrap_or("unknown")
+        .to_string()
 }
 
 fn main() {
@@ -24,21 +28,30 @@ fn main() {
     let out = PathBuf::from(env::var_os("OUT_DIR").expect("set by cargo"));
     let (object, archive) = (out.join("limits.o"), out.join("liblimits.a"));
     run(Command::new("gcc")
-        .args(["-std=c11", "-O2", "-Wall", "-Wextra", "-Werror", "-c", "limits.c", "-o"])
+        .args([
+            "-std=c11", "-O2", "-Wall", "-Wextra", "-Werror", "-c", "limits.c", "-o",
+        ])
         .arg(&object));
     let _ = std::fs::remove_file(&archive);
     run(Command::new("ar").arg("rcs").arg(&archive).arg(&object));
     println!("cargo:rustc-link-search=native={}", out.display());
     println!("cargo:rustc-link-lib=static=limits");
 
-    let folder = env::var_os("EXFAT_LIB_DIR").expect("EXFAT_LIB_DIR names the folder of libexfat.a");
+    let folder =
+        env::var_os("EXFAT_LIB_DIR").expect("EXFAT_LIB_DIR names the folder of libexfat.a");
     let library = Path::new(&folder).join("libexfat.a");
     println!("cargo:rerun-if-changed={}", library.display());
-    println!("cargo:rustc-link-search=native={}", Path::new(&folder).display());
+    println!(
+        "cargo:rustc-link-search=native={}",
+        Path::new(&folder).display()
+    );
     println!("cargo:rustc-link-lib=static=exfat");
 
     println!("cargo:rustc-env=GCC_VERSION={}", version("gcc"));
-    println!("cargo:rustc-env=RUSTC_VERSION={}", version(&env::var("RUSTC").expect("set by cargo")));
+    println!(
+        "cargo:rustc-env=RUSTC_VERSION={}",
+        version(&env::var("RUSTC").expect("set by cargo"))
+    );
     if env::var_os("DEP_ORIGINAL_EXFAT_FOUND").is_some() {
         println!("cargo:rustc-cfg=rust_sources");
     }

@@ -29,19 +29,39 @@ impl File {
     pub fn at(text: &str, slot: u32) -> File {
         let name = units(text);
         let hash = name_hash(&name);
-        File { text: text.to_string(), name, hash, slot }
+        File {
+            text: text.to_string(),
+            name,
+            hash,
+            slot,
+        }
     }
 }
 
 /// Data is named by its place in the source buffer. The calls on a record work on one, which is empty at first.
 #[derive(Clone, Copy)]
 pub enum Call {
-    NewFile { file: usize },
-    Write { file: usize, offset: u64, from: usize, length: usize },
-    Remove { file: usize },
-    Allocate { count: u32 },
-    Extend { more: u32 },
-    Shrink { keep: u32 },
+    NewFile {
+        file: usize,
+    },
+    Write {
+        file: usize,
+        offset: u64,
+        from: usize,
+        length: usize,
+    },
+    Remove {
+        file: usize,
+    },
+    Allocate {
+        count: u32,
+    },
+    Extend {
+        more: u32,
+    },
+    Shrink {
+        keep: u32,
+    },
 }
 
 /// A start and the calls on it.

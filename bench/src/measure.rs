@@ -46,7 +46,11 @@ pub fn middle(times: &[u64]) -> Option<f64> {
 
 /// The median of the rounds' ratios.
 pub fn ratio(one: &[u64], other: &[u64]) -> Option<f64> {
-    median(one.iter().zip(other).map(|(one, other)| *one as f64 / *other as f64))
+    median(
+        one.iter()
+            .zip(other)
+            .map(|(one, other)| *one as f64 / *other as f64),
+    )
 }
 
 /// Takes the bytes out of the processor's caches where they are to be cold.
@@ -126,7 +130,10 @@ fn run_walks(list: &List, data: &[u8], volume: &Shared) -> u64 {
 /// The first cluster of the file at a slot of the root's first cluster, and whether the FAT links its clusters.
 fn stream_of(list: &List, volume: &[u8], slot: u32) -> (u32, bool) {
     let at = list.volume.cluster_at(list.volume.geometry[8]) + 32 * (slot as usize + 1);
-    assert_eq!(volume[at], 0xc0, "the slot lies in the root's first cluster");
+    assert_eq!(
+        volume[at], 0xc0,
+        "the slot lies in the root's first cluster"
+    );
     let first = u32::from_le_bytes(volume[at + 20..at + 24].try_into().expect("four bytes"));
     (first, first != 0 && volume[at + 1] & 2 == 0)
 }
@@ -149,22 +156,39 @@ pub fn measure(work: &Workload, data: &[u8], cold: bool, rounds: Rounds) -> Time
     let mut ours = list.volume.bytes.clone();
     // One call is short, and its time differs more from round to round.
     let more = if work.repeated { 7 } else { 1 };
-    let fresh = more * if work.long { rounds.fresh_long } else { rounds.fresh };
+    let fresh = more
+        * if work.long {
+            rounds.fresh_long
+        } else {
+            rounds.fresh
+        };
     for round in 0..more * rounds.all {
         times.library.push(run_library(work, data, &volume, cold));
         ours.copy_from_slice(&volume.borrow());
         match work.limit {
             Limit::None => {}
             Limit::Walk => times.limit.push(run_walks(list, data, &volume)),
-            Limit::Copy { first } => times.limit.push(run_copy(list.volume.cluster_at(first), data, &volume, cold)),
+            Limit::Copy { first } => {
+                times
+                    .limit
+                    .push(run_copy(list.volume.cluster_at(first), data, &volume, cold))
+            }
         }
         #[cfg(rust_sources)]
         {
             times.warm.push(run_warm(work, data, &volume, cold));
-            assert!(same(&ours, &volume.borrow()), "{}: the Rust on one mount leaves other bytes", work.title);
+            assert!(
+                same(&ours, &volume.borrow()),
+                "{}: the Rust on one mount leaves other bytes",
+                work.title
+            );
             if round < fresh {
                 times.fresh.push(run_fresh(work, data, &volume, cold));
-                assert!(same(&ours, &volume.borrow()), "{}: the Rust, mounted anew, leaves other bytes", work.title);
+                assert!(
+                    same(&ours, &volume.borrow()),
+                    "{}: the Rust, mounted anew, leaves other bytes",
+                    work.title
+                );
             }
         }
     }

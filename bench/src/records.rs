@@ -16,7 +16,12 @@ fn start(count: usize, fragmented: bool) -> List {
         volume.take(&others);
     }
     let hint = volume.first_free;
-    List { volume, files: Vec::new(), calls: Vec::new(), hint }
+    List {
+        volume,
+        files: Vec::new(),
+        calls: Vec::new(),
+        hint,
+    }
 }
 
 /// The median of some calls, each on the bytes and the record that are there, in microseconds.

@@ -57,25 +57,36 @@ impl<'list> Side<'list> {
     pub fn new(list: &'list List, data: &'list [u8], volume: &Shared) -> Self {
         original::set_clock(CLOCK);
         let now = Timestamp::now().expect("a time within the range");
-        let times = Timestamps { created: now, modified: now, accessed: now };
+        let times = Timestamps {
+            created: now,
+            modified: now,
+            accessed: now,
+        };
         Side {
             list,
             data,
             device: Device(volume.clone()),
-            new: NewEntry { attributes: 0x20, times: Some(times) },
+            new: NewEntry {
+                attributes: 0x20,
+                times: Some(times),
+            },
             hint: list.hint,
             record: Allocation::EMPTY,
         }
     }
 
     pub fn restart(&mut self) {
-        self.device.0.borrow_mut().copy_from_slice(&self.list.volume.bytes);
+        self.device
+            .0
+            .borrow_mut()
+            .copy_from_slice(&self.list.volume.bytes);
         self.hint = self.list.hint;
         self.record = Allocation::EMPTY;
     }
 
     pub fn mount(&self) -> Mount {
-        let mut mount = WriteVolume::mount(self.device.clone()).expect("the original mounts the volume");
+        let mut mount =
+            WriteVolume::mount(self.device.clone()).expect("the original mounts the volume");
         mount.set_hint(self.hint);
         mount
     }
@@ -85,9 +96,12 @@ impl<'list> Side<'list> {
         let files = &self.list.files;
         let done = match *call {
             Call::NewFile { file } => mount.create_with(&files[file].text, self.new),
-            Call::Write { file, offset, from, length } => {
-                mount.pwrite(&files[file].text, offset, &self.data[from..from + length])
-            }
+            Call::Write {
+                file,
+                offset,
+                from,
+                length,
+            } => mount.pwrite(&files[file].text, offset, &self.data[from..from + length]),
             Call::Remove { file } => mount.unlink(&files[file].text),
             Call::Allocate { count } => mount.allocate(count).map(|record| self.record = record),
             Call::Extend { more } => mount.extend(&mut self.record, more),

@@ -35,11 +35,15 @@ pub fn name_hash(name: &[u16]) -> u16 {
     });
     upcased
         .flat_map(u16::to_le_bytes)
-        .fold(0, |sum: u16, byte| sum.rotate_right(1).wrapping_add(u16::from(byte)))
+        .fold(0, |sum: u16, byte| {
+            sum.rotate_right(1).wrapping_add(u16::from(byte))
+        })
 }
 
 fn sum32(bytes: impl Iterator<Item = u8>) -> u32 {
-    bytes.fold(0, |sum: u32, byte| sum.rotate_right(1).wrapping_add(u32::from(byte)))
+    bytes.fold(0, |sum: u32, byte| {
+        sum.rotate_right(1).wrapping_add(u32::from(byte))
+    })
 }
 
 fn put(bytes: &mut [u8], at: usize, value: &[u8]) {
@@ -69,7 +73,10 @@ impl Volume {
         let sectors = |count: usize| FAT_OFFSET + fat_sectors(count) + (count << shift);
         let most = (VOLUME_BYTES / SECTOR - FAT_OFFSET) >> shift;
         let fits = |count: &usize| sectors(*count) * SECTOR <= VOLUME_BYTES;
-        Volume::with(shift, (1..=most).rev().find(fits).expect("one cluster fits"))
+        Volume::with(
+            shift,
+            (1..=most).rev().find(fits).expect("one cluster fits"),
+        )
     }
 
     /// An empty volume with `count` clusters; what is left of 16 MiB belongs to none.
@@ -107,7 +114,9 @@ impl Volume {
             let clusters: Vec<u32> = (first..=last).collect();
             volume.take(&clusters);
             volume.link(&clusters);
-            clusters.iter().for_each(|cluster| set_bit(&mut volume.map, *cluster));
+            clusters
+                .iter()
+                .for_each(|cluster| set_bit(&mut volume.map, *cluster));
         }
         let table = upcase_table();
         let at = volume.cluster_at(upcase);
@@ -115,11 +124,19 @@ impl Volume {
         let mut bitmap_entry = [0; 32];
         bitmap_entry[0] = 0x81;
         put(&mut bitmap_entry, 20, &2u32.to_le_bytes());
-        put(&mut bitmap_entry, 24, &(volume.map.len() as u64).to_le_bytes());
+        put(
+            &mut bitmap_entry,
+            24,
+            &(volume.map.len() as u64).to_le_bytes(),
+        );
         volume.put_entries(&bitmap_entry);
         let mut upcase_entry = [0; 32];
         upcase_entry[0] = 0x82;
-        put(&mut upcase_entry, 4, &sum32(table.iter().copied()).to_le_bytes());
+        put(
+            &mut upcase_entry,
+            4,
+            &sum32(table.iter().copied()).to_le_bytes(),
+        );
         put(&mut upcase_entry, 20, &upcase.to_le_bytes());
         put(&mut upcase_entry, 24, &(table.len() as u64).to_le_bytes());
         volume.put_entries(&upcase_entry);
@@ -130,17 +147,40 @@ impl Volume {
         let g = self.geometry;
         let mut region = vec![0; SECTOR * 12];
         put(&mut region, 0, b"\xeb\x76\x90EXFAT   ");
-        put(&mut region, 72, &((VOLUME_BYTES / SECTOR) as u64).to_le_bytes());
-        for (at, word) in [(80, g[2]), (84, g[3]), (88, g[6]), (92, g[7]), (96, g[8]), (100, 1)] {
+        put(
+            &mut region,
+            72,
+            &((VOLUME_BYTES / SECTOR) as u64).to_le_bytes(),
+        );
+        for (at, word) in [
+            (80, g[2]),
+            (84, g[3]),
+            (88, g[6]),
+            (92, g[7]),
+            (96, g[8]),
+            (100, 1),
+        ] {
             put(&mut region, at, &word.to_le_bytes());
         }
-        put(&mut region, 104, &[0, 1, 0, 0, g[0] as u8, g[1] as u8, 1, 0x80]);
+        put(
+            &mut region,
+            104,
+            &[0, 1, 0, 0, g[0] as u8, g[1] as u8, 1, 0x80],
+        );
         put(&mut region, 510, &[0x55, 0xaa]);
         for sector in 2..=9 {
-            put(&mut region, sector * SECTOR - 4, &0xaa55_0000u32.to_le_bytes());
+            put(
+                &mut region,
+                sector * SECTOR - 4,
+                &0xaa55_0000u32.to_le_bytes(),
+            );
         }
         let summed = region[..SECTOR * 11].iter().copied().enumerate();
-        let checksum = sum32(summed.filter(|(index, _)| !is_mutable(*index)).map(|(_, byte)| byte));
+        let checksum = sum32(
+            summed
+                .filter(|(index, _)| !is_mutable(*index))
+                .map(|(_, byte)| byte),
+        );
         for word in region[SECTOR * 11..].chunks_exact_mut(4) {
             word.copy_from_slice(&checksum.to_le_bytes());
         }
@@ -159,7 +199,9 @@ impl Volume {
     /// Marks clusters; their FAT entries stay.
     pub fn take(&mut self, clusters: &[u32]) {
         let heap = self.heap;
-        clusters.iter().for_each(|cluster| set_bit(&mut self.bytes[heap..], *cluster));
+        clusters
+            .iter()
+            .for_each(|cluster| set_bit(&mut self.bytes[heap..], *cluster));
     }
 
     fn link(&mut self, clusters: &[u32]) {
@@ -173,7 +215,10 @@ impl Volume {
     /// Puts entries behind those of the root. Answers their slot.
     fn put_entries(&mut self, entries: &[u8]) -> u32 {
         let slot = self.slots;
-        assert!(slot * 32 + entries.len() <= self.cluster_size, "the root has one cluster");
+        assert!(
+            slot * 32 + entries.len() <= self.cluster_size,
+            "the root has one cluster"
+        );
         let at = self.cluster_at(self.geometry[8]) + slot * 32;
         put(&mut self.bytes, at, entries);
         self.slots += entries.len() / 32;
@@ -197,7 +242,11 @@ impl Volume {
             put(&mut set, at, &0x5a21_0000u32.to_le_bytes());
         }
         put(&mut set, 22, &[0x80; 3]);
-        put(&mut set, 32, &[0xc0, if run { 3 } else { 1 }, 0, name.len() as u8]);
+        put(
+            &mut set,
+            32,
+            &[0xc0, if run { 3 } else { 1 }, 0, name.len() as u8],
+        );
         put(&mut set, 36, &name_hash(&name).to_le_bytes());
         put(&mut set, 40, &length);
         put(&mut set, 52, &clusters[0].to_le_bytes());
@@ -208,8 +257,13 @@ impl Volume {
             let bytes: Vec<u8> = part.iter().flat_map(|unit| unit.to_le_bytes()).collect();
             put(&mut set, at + 2, &bytes);
         }
-        let summed = set.iter().enumerate().filter(|(index, _)| *index != 2 && *index != 3);
-        let checksum = summed.fold(0, |sum: u16, (_, byte)| sum.rotate_right(1).wrapping_add(u16::from(*byte)));
+        let summed = set
+            .iter()
+            .enumerate()
+            .filter(|(index, _)| *index != 2 && *index != 3);
+        let checksum = summed.fold(0, |sum: u16, (_, byte)| {
+            sum.rotate_right(1).wrapping_add(u16::from(*byte))
+        });
         put(&mut set, 2, &checksum.to_le_bytes());
         self.put_entries(&set)
     }
@@ -226,6 +280,9 @@ pub fn same(one: &[u8], other: &[u8]) -> bool {
     one.len() == other.len() && {
         let (head, rest) = one.split_at(SECTOR);
         let heads = head.iter().zip(&other[..SECTOR]).enumerate();
-        rest == &other[SECTOR..] && heads.filter(|(index, _)| !is_mutable(*index)).all(|(_, (a, b))| a == b)
+        rest == &other[SECTOR..]
+            && heads
+                .filter(|(index, _)| !is_mutable(*index))
+                .all(|(_, (a, b))| a == b)
     }
 }

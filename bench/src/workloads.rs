@@ -14,7 +14,9 @@ pub enum Limit {
     /// Before each call, a walk of the file's chain as it then is.
     Walk,
     /// A memory copy of the data into the heap, from the file's first cluster on.
-    Copy { first: u32 },
+    Copy {
+        first: u32,
+    },
 }
 
 pub struct Workload {
@@ -30,7 +32,14 @@ pub struct Workload {
 }
 
 fn plain(title: String, list: List) -> Workload {
-    Workload { title, list, limit: Limit::None, most: None, repeated: false, long: false }
+    Workload {
+        title,
+        list,
+        limit: Limit::None,
+        most: None,
+        repeated: false,
+        long: false,
+    }
 }
 
 fn size_text(bytes: usize) -> String {
@@ -43,7 +52,8 @@ fn size_text(bytes: usize) -> String {
 
 /// The clusters from the first free one on, as far as `holes` of each `period` go, and the others.
 fn split(volume: &Volume, holes: u32, period: u32) -> (Vec<u32>, Vec<u32>) {
-    (volume.first_free..volume.end()).partition(|cluster| (cluster - volume.first_free) % period < holes)
+    (volume.first_free..volume.end())
+        .partition(|cluster| (cluster - volume.first_free) % period < holes)
 }
 
 /// Holes of 8 clusters: three files were recorded in turns, 8 clusters, 2 and 2, and the first one was removed.
@@ -66,17 +76,43 @@ fn holes_of_2(shift: u32) -> Volume {
 }
 
 fn list(volume: Volume, files: Vec<File>, calls: Vec<Call>) -> List {
-    List { volume, files, calls, hint: 2 }
+    List {
+        volume,
+        files,
+        calls,
+        hint: 2,
+    }
 }
 
 /// One file, made before, to which 8 MiB are appended by 4 KiB.
 fn appends(title: &str, volume: Volume, limit: Limit, data: &[u8]) -> Workload {
-    let title = format!("append 4 KiB up to 8 MiB, {} clusters, {title}", size_text(volume.cluster_size));
-    let made = after(list(volume, vec![File::new("recording")], vec![Call::NewFile { file: 0 }]), data);
+    let title = format!(
+        "append 4 KiB up to 8 MiB, {} clusters, {title}",
+        size_text(volume.cluster_size)
+    );
+    let made = after(
+        list(
+            volume,
+            vec![File::new("recording")],
+            vec![Call::NewFile { file: 0 }],
+        ),
+        data,
+    );
     let pieces = (0..FILE_BYTES).step_by(PIECE);
-    let calls = pieces.map(|from| Call::Write { file: 0, offset: from as u64, from, length: PIECE }).collect();
+    let calls = pieces
+        .map(|from| Call::Write {
+            file: 0,
+            offset: from as u64,
+            from,
+            length: PIECE,
+        })
+        .collect();
     let most = (limit == Limit::Walk).then_some(3.0);
-    Workload { limit, most, ..plain(title, List { calls, ..made }) }
+    Workload {
+        limit,
+        most,
+        ..plain(title, List { calls, ..made })
+    }
 }
 
 /// The list's end as the start of another list, with the slots and the hint that its calls gave.
@@ -88,7 +124,10 @@ fn after(list: List, data: &[u8]) -> List {
     let mut next = list.clone();
     next.volume.bytes = volume.take();
     next.hint = hint;
-    next.files.iter_mut().zip(slots).for_each(|(file, slot)| file.slot = slot);
+    next.files
+        .iter_mut()
+        .zip(slots)
+        .for_each(|(file, slot)| file.slot = slot);
     next.calls = Vec::new();
     next
 }
@@ -96,7 +135,9 @@ fn after(list: List, data: &[u8]) -> List {
 /// The bytes that are written: 8 MiB of a fixed random sequence.
 pub fn source() -> Vec<u8> {
     let mut random = Random(1);
-    (0..FILE_BYTES / 8).flat_map(|_| random.next().to_le_bytes()).collect()
+    (0..FILE_BYTES / 8)
+        .flat_map(|_| random.next().to_le_bytes())
+        .collect()
 }
 
 /// splitmix64
@@ -120,30 +161,57 @@ impl Random {
 fn overwrite(shift: u32, run: bool) -> Workload {
     let mut volume = Volume::new(shift);
     let count = FILE_BYTES / volume.cluster_size;
-    let (mut own, mut other) = if run { split(&volume, 1, 1) } else { split(&volume, 2, 3) };
+    let (mut own, mut other) = if run {
+        split(&volume, 1, 1)
+    } else {
+        split(&volume, 2, 3)
+    };
     own.truncate(count);
     let slot = volume.add_file("recording", &own);
     if !run {
         other.retain(|cluster| *cluster < own[count - 1]);
         volume.add_file("other", &other);
     }
-    let form = if run { "a run" } else { "a chain, 2 of 3 clusters" };
-    let title = format!("overwrite 8 MiB in one call, {} clusters, {form}", size_text(volume.cluster_size));
-    let calls = vec![Call::Write { file: 0, offset: 0, from: 0, length: FILE_BYTES }];
+    let form = if run {
+        "a run"
+    } else {
+        "a chain, 2 of 3 clusters"
+    };
+    let title = format!(
+        "overwrite 8 MiB in one call, {} clusters, {form}",
+        size_text(volume.cluster_size)
+    );
+    let calls = vec![Call::Write {
+        file: 0,
+        offset: 0,
+        from: 0,
+        length: FILE_BYTES,
+    }];
     let list = list(volume, vec![File::at("recording", slot)], calls);
     let most = match shift {
         0 => Some(2.0),
         3 => Some(1.5),
         _ => None,
     };
-    Workload { limit: Limit::Copy { first: own[0] }, most, repeated: true, ..plain(title, list) }
+    Workload {
+        limit: Limit::Copy { first: own[0] },
+        most,
+        repeated: true,
+        ..plain(title, list)
+    }
 }
 
 const FILES: usize = 1000;
 
 fn names(long: bool) -> Vec<File> {
-    let rest = if long { "x".repeat(251) } else { ".mlt".to_string() };
-    (0..FILES).map(|index| File::new(&format!("{index:04}{rest}"))).collect()
+    let rest = if long {
+        "x".repeat(251)
+    } else {
+        ".mlt".to_string()
+    };
+    (0..FILES)
+        .map(|index| File::new(&format!("{index:04}{rest}")))
+        .collect()
 }
 
 fn create_and_remove(shift: u32, long: bool, data: &[u8]) -> [Workload; 2] {
@@ -155,17 +223,36 @@ fn create_and_remove(shift: u32, long: bool, data: &[u8]) -> [Workload; 2] {
     let create = list(volume, files, all(|file| Call::NewFile { file }));
     let mut remove = after(create.clone(), data);
     remove.calls = all(|file| Call::Remove { file });
-    let title = |verb: &str| format!("{verb} 1,000 files, names of {length} units, {size} clusters");
-    let work = |verb, list| Workload { long, ..plain(title(verb), list) };
+    let title =
+        |verb: &str| format!("{verb} 1,000 files, names of {length} units, {size} clusters");
+    let work = |verb, list| Workload {
+        long,
+        ..plain(title(verb), list)
+    };
     [work("create", create), work("remove", remove)]
 }
 
 /// 10,000 writes of 1 to 512 bytes at any place of 200 files' first 32 KiB. The files begin with 8 KiB each.
 fn random_writes(shift: u32, data: &[u8]) -> Workload {
-    let files: Vec<File> = (0..200).map(|index| File::new(&format!("{index:03}.mlt"))).collect();
+    let files: Vec<File> = (0..200)
+        .map(|index| File::new(&format!("{index:03}.mlt")))
+        .collect();
     let volume = Volume::new(shift);
-    let title = format!("10,000 random small writes over 200 files, {} clusters", size_text(volume.cluster_size));
-    let fill = |file| [Call::NewFile { file }, Call::Write { file, offset: 0, from: 0, length: 8192 }];
+    let title = format!(
+        "10,000 random small writes over 200 files, {} clusters",
+        size_text(volume.cluster_size)
+    );
+    let fill = |file| {
+        [
+            Call::NewFile { file },
+            Call::Write {
+                file,
+                offset: 0,
+                from: 0,
+                length: 8192,
+            },
+        ]
+    };
     let made = after(list(volume, files, (0..200).flat_map(fill).collect()), data);
     let mut random = Random(2);
     let mut write = || Call::Write {
@@ -175,7 +262,10 @@ fn random_writes(shift: u32, data: &[u8]) -> Workload {
         length: 1 + random.below(512) as usize,
     };
     let calls = (0..10_000).map(|_| write()).collect();
-    Workload { long: true, ..plain(title, List { calls, ..made }) }
+    Workload {
+        long: true,
+        ..plain(title, List { calls, ..made })
+    }
 }
 
 /// Every hundredth cluster is free.
@@ -187,13 +277,35 @@ fn nearly_full() -> Volume {
 }
 
 fn full_heap(data: &[u8]) -> [Workload; 2] {
-    let turn = [Call::Allocate { count: 4 }, Call::Extend { more: 4 }, Call::Shrink { keep: 0 }];
+    let turn = [
+        Call::Allocate { count: 4 },
+        Call::Extend { more: 4 },
+        Call::Shrink { keep: 0 },
+    ];
     let records = list(nearly_full(), Vec::new(), turn.repeat(500));
-    let made = after(list(nearly_full(), vec![File::new("recording")], vec![Call::NewFile { file: 0 }]), data);
-    let write = |index: usize| Call::Write { file: 0, offset: 512 * index as u64, from: 512 * index, length: 512 };
-    let writes = List { calls: (0..300).map(write).collect(), ..made };
+    let made = after(
+        list(
+            nearly_full(),
+            vec![File::new("recording")],
+            vec![Call::NewFile { file: 0 }],
+        ),
+        data,
+    );
+    let write = |index: usize| Call::Write {
+        file: 0,
+        offset: 512 * index as u64,
+        from: 512 * index,
+        length: 512,
+    };
+    let writes = List {
+        calls: (0..300).map(write).collect(),
+        ..made
+    };
     let title = |text: &str| format!("heap nearly full, 512 B clusters: {text}");
-    [plain(title("allocate 4, extend by 4, shrink to 0"), records), plain(title("append 512 B"), writes)]
+    [
+        plain(title("allocate 4, extend by 4, shrink to 0"), records),
+        plain(title("append 512 B"), writes),
+    ]
 }
 
 /// Every workload in turn. Each is made only when its turn comes.
@@ -208,7 +320,9 @@ pub fn all(data: &[u8], mut take: impl FnMut(Workload)) {
         take(overwrite(shift, false));
     }
     for long in [false, true] {
-        create_and_remove(3, long, data).into_iter().for_each(&mut take);
+        create_and_remove(3, long, data)
+            .into_iter()
+            .for_each(&mut take);
     }
     take(random_writes(0, data));
     take(random_writes(3, data));
