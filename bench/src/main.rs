@@ -93,6 +93,11 @@ fn print_machine() {
         kernel.trim(),
         system("/proc/meminfo", "MemTotal")
     );
+    let load = std::fs::read_to_string("/proc/loadavg").unwrap_or_default();
+    println!(
+        "- Load of the machine before the run: {}",
+        load.split(' ').next().unwrap_or("unknown")
+    );
     println!(
         "- Compilers: {}; {} for the limits",
         env!("RUSTC_VERSION"),
