@@ -1,10 +1,12 @@
-# test     everything: the other tests first, the proofs and programs last; the last line is 'N passed, 0 failed'
-# demo     what can be shown today
+# test     every proof and every test; the last line is 'N passed, 0 failed'
+# demo     three melts on a fresh volume: the map before and after, the contents, fsck.exfat's verdict
 # vectors  make the vectors anew and compare them with the stored ones
 # lib      the static library and its header, into dist/
+# tool     the host tool, tools/target/release/bittsalak
+# readers  volumes after random calls, read by fsck.exfat, exfat-fuse, fls and icat
 # oracle   compare the library with the original Rust: CALLS= SEED= KINDS= MODE= (see tests/oracle)
-# bench    what allocate, extend and shrink cost
-.PHONY: test demo vectors write-vectors lib oracle bench
+# bench    what the calls cost, beside the original Rust and limits in C (docs/BENCHMARKS.md)
+.PHONY: test demo vectors write-vectors lib tool readers oracle bench
 MAKEFLAGS += --no-print-directory
 
 test:
@@ -23,6 +25,12 @@ write-vectors:
 
 lib:
 	@bash tests/lib
+
+tool: lib
+	@bash tests/tool-build
+
+readers: lib
+	@bash tests/readers
 
 oracle: lib
 	@bash tests/oracle

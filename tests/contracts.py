@@ -61,6 +61,12 @@ def module_of(path):
     return "::".join([crate] + inner)
 
 
+def says_result(promise):
+    """Whether an `ensures` has an equation for the result, or for a field of it."""
+    result = re.search(r"λ \(?(\w+)", promise)
+    return result and re.search(r"(?<!λ )\b%s\b(?: \.\w+)* ≡|≡ %s\b" % (result[1], result[1]), promise)
+
+
 def main():
     faults, seen, giving, public = [], 0, 0, set()
     for path in sorted(pathlib.Path("crates").glob("*/src/**/*.rt")):
@@ -76,11 +82,17 @@ def main():
             signature = re.split(r"\b(?:requires|ensures)\b", head)[0]
             asks = re.search(r"\brequires\b", head)
             says = re.search(r"\bensures\b", head)
+            promise = "".join(re.findall(r"\bensures\b[^{;]*(\{.*?)(?=\bensures\b|\brequires\b|\Z)", head, re.S))
             exported = 'extern "C"' in visibility
             if re.search(r"\)\s*->", signature) or "&mut " in signature:
                 giving += 1
                 if not says:
                     faults.append(where + " does not say its result (no `ensures`)")
+            if re.search(r"\)\s*->", signature) and says and not says_result(promise):
+                faults.append(where + " does not say what its result equals")
+            for lent in re.findall(r"(\w+): &(?:'\w+ )?mut ", signature):
+                if says and "now (%s .exit) ≡" % lent not in promise:
+                    faults.append(where + " does not say what `%s` equals afterwards" % lent)
             if exported or full in PUBLIC_CALLS:
                 public.add(full)
                 if asks:

@@ -5,7 +5,7 @@ A line of TRACE.md is  - "BEGINNING": `FILE: NAME`, `FILE`, ..  or  - "BEGINNING
 a line for a clause inside a sentence is indented. Every file must be there and define the name, every must-fail edit and every
 public call must be cited, and the beginnings must be those of all sentences of 01, in its order. 01 is ../shared/docs/01-scope.md,
 or the file that EXFAT_SCOPE names. The certificate's crates and edits, and their sum, which is the gate's last line, must be those
-that are there.
+that are there, and the C code of README.md a part of examples/firmware.c.
 """
 
 import functools
@@ -167,10 +167,19 @@ def check_certificate():
         faults.append("CERTIFICATE.md does not say `%d passed, 0 failed`: %d crates .. %d wrong edits" % there)
 
 
+def check_readme():
+    """The C code of README.md is a part of the firmware example, which the tests compile."""
+    blocks = re.findall(r"^```c\n(.*?)^```$", pathlib.Path("README.md").read_text(encoding="utf-8"), re.M | re.S)
+    example = pathlib.Path("examples/firmware.c").read_text(encoding="utf-8")
+    if len(blocks) != 1 or blocks[0] not in example:
+        faults.append("README.md does not quote examples/firmware.c")
+
+
 def main():
     lines = read_trace()
     cited = check_names(lines)
     check_certificate()
+    check_readme()
     count = sum(quote is not None and not inside for _, _, inside, quote, _ in lines)
     if count == 0:
         faults.append("TRACE.md has no sentence")
