@@ -2,6 +2,7 @@
 use mathlib.Core.Bool.{Bool, cond}
 use mathlib.Core.List.{List}
 use Prim.Native.Nat.{ℕ, zero, suc, _+_, _-_, _*_, _/_, _%_, _^_}
+use lib.Dec.{eqb}
 use lib.ListN.{getD}
 
 -- bit j of b, 0 or 1
@@ -28,3 +29,8 @@ bitAt l i = bitOf (getD l (i / 8) 0) (i % 8)
 unfoldable pub countBits : List ℕ → ℕ → ℕ
 countBits l zero = 0
 countBits l (suc i) = countBits l i + bitAt l i
+
+-- the first of the n bit numbers from k whose byte of a bitmap is not b; k + n where there is none
+unfoldable pub pastBytes : List ℕ → ℕ → ℕ → ℕ → ℕ
+pastBytes l b k zero = k
+pastBytes l b k (suc n) = cond (eqb (getD l (k / 8) 0) b) (pastBytes l b (k + 1) n) k

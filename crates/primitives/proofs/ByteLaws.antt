@@ -1,0 +1,104 @@
+-- Bits of a bitmap that are skipped by the byte. Assumes nothing.
+use mathlib.Core.Path.{_≡_, refl, sym, _∙_, ap, ap₂}
+use mathlib.Core.Bool.{cond}
+use mathlib.Core.List.{List}
+use Prim.Native.Nat.{ℕ, zero, suc, _+_, _-_, _*_, _/_, _≤_, _<_}
+use native.Mathlib.Decide.{decLt, ℕ-discrete}
+use native.Mathlib.Omega.{arith}
+use lib.Dec.{eqb, ltb, eqb→eq}
+use lib.ListN.{getD, take}
+use lib.Seq.{getD-take}
+use borrow.Author.Tests.{eq-eqb, ne-eqb, lt-ltb, le-ltb}
+use Rattle.primitives.specs.Bits.{bitOf, pastBytes}
+use Rattle.primitives.proofs.Every.{at}
+
+module _ (l : List ℕ) (b : ℕ) where
+  -- one step
+  past-step : (k n : ℕ) → getD l (k / 8) 0 ≡ b → pastBytes l b k (suc n) ≡ pastBytes l b (k + 1) n
+  unfolding pastBytes
+  past-step k n e = rw (eq-eqb (getD l (k / 8) 0) b e) refl
+
+  past-stop : (k n : ℕ) → 0 < n → (getD l (k / 8) 0 ≡ b → ⊥) → pastBytes l b k n ≡ k
+  unfolding pastBytes
+  past-stop k zero h e = absurd (omega arith)
+  past-stop k (suc n) h e = rw (ne-eqb (getD l (k / 8) 0) b e) refl
+
+  past-none : (k n : ℕ) → n ≤ 0 → pastBytes l b k n ≡ k
+  unfolding pastBytes
+  past-none k zero h = refl
+  past-none k (suc n) h = absurd (omega arith)
+
+  -- m steps inside byte i
+  past-inside : (i m k n : ℕ) → getD l i 0 ≡ b → 8 * i ≤ k → k + m ≤ 8 * i + 8 → pastBytes l b k (m + n) ≡ pastBytes l b (k + m) n
+  past-inside i zero k n e h t = ap₂ (pastBytes l b) (omega arith) (omega arith)
+  past-inside i (suc m) k n e h t =
+      let q : k / 8 ≡ i = omega arith in
+      ap (pastBytes l b k) (omega arith) ∙ past-step k (m + n) (ap (λ (x : ℕ). getD l x 0) q ∙ e)
+      ∙ past-inside i m (k + 1) n e (omega arith) (omega arith) ∙ ap (λ (x : ℕ). pastBytes l b x n) (omega arith)
+
+  -- the search from k on, of numbers below end; k may lie past it
+  unfoldable pub pastTo : ℕ → ℕ → ℕ
+  pastTo k end = cond (ltb k end) (pastBytes l b k (end - k)) end
+
+  pub to-end : (k end : ℕ) → end ≤ k → pastTo k end ≡ end
+  unfolding pastTo
+  to-end k end h = rw (le-ltb k end h) refl
+
+  to-below : (k end : ℕ) → k < end → pastTo k end ≡ pastBytes l b k (end - k)
+  unfolding pastTo
+  to-below k end h = rw (lt-ltb k end h) refl
+
+  pub to-all : (k n end : ℕ) → end ≡ k + n → pastTo k end ≡ pastBytes l b k n
+  to-all k n end e =
+      elim (decLt k end) [
+        | yes h ↦ to-below k end h ∙ ap (pastBytes l b k) (omega arith)
+        | no h ↦ to-end k end (omega arith) ∙ sym (past-none k n (omega arith) ∙ omega arith)
+      ]
+
+  pub to-stop : (k end : ℕ) → k < end → (getD l (k / 8) 0 ≡ b → ⊥) → pastTo k end ≡ k
+  to-stop k end h e = to-below k end h ∙ past-stop k (end - k) (omega arith) e
+
+  pub to-byte : (k end : ℕ) → k < end → getD l (k / 8) 0 ≡ b → pastTo k end ≡ pastTo (8 * (k / 8) + 8) end
+  to-byte k end h e =
+      let next : ℕ = 8 * (k / 8) + 8 in
+      elim (decLt next end) [
+        | yes t ↦ to-below k end h ∙ ap (pastBytes l b k) (omega arith)
+            ∙ past-inside (k / 8) (next - k) k (end - next) e (omega arith) (omega arith)
+            ∙ ap (λ (x : ℕ). pastBytes l b x (end - next)) (omega arith) ∙ sym (to-below next end t)
+        | no t ↦ to-below k end h ∙ ap (pastBytes l b k) (omega arith)
+            ∙ past-inside (k / 8) (end - k) k 0 e (omega arith) (omega arith) ∙ past-none (k + (end - k)) 0 (omega arith)
+            ∙ sym (to-end next end (omega arith) ∙ omega arith)
+      ]
+
+  -- ---- for callers
+
+  pub past-bounds : (k n : ℕ) → (k ≤ pastBytes l b k n) × (pastBytes l b k n ≤ k + n)
+  past-bounds k zero = omega (arith, past-none k 0 (omega arith))
+  past-bounds k (suc n) =
+      elim (ℕ-discrete (getD l (k / 8) 0) b) [
+        | yes e ↦ omega (arith, past-step k n e, past-bounds (k + 1) n)
+        | no e ↦ omega (arith, past-stop k (suc n) (omega arith) e)
+      ]
+
+  -- each number that is passed has byte b
+  pub past-each : (k n j : ℕ) → k ≤ j → j < pastBytes l b k n → getD l (j / 8) 0 ≡ b
+  past-each k zero j h t = absurd (omega (arith, past-none k 0 (omega arith)))
+  past-each k (suc n) j h t =
+      elim (ℕ-discrete (getD l (k / 8) 0) b) [
+        | yes e ↦ (elim (ℕ-discrete j k) [
+          | yes q ↦ ap (λ (x : ℕ). getD l (x / 8) 0) q ∙ e
+          | no q ↦ past-each (k + 1) n j (omega arith) (omega (arith, past-step k n e))
+        ])
+        | no e ↦ absurd (omega (arith, past-stop k (suc n) (omega arith) e))
+      ]
+
+-- only the bytes of the numbers matter
+pub past-take : (l : List ℕ) (m b k n : ℕ) → k + n ≤ 8 * m → pastBytes (take m l) b k n ≡ pastBytes l b k n
+unfolding pastBytes
+past-take l m b k zero h = refl
+past-take l m b k (suc n) h = rw (getD-take m l (k / 8) 0 (omega arith), past-take l m b (k + 1) n (omega arith)) refl
+
+-- each bit of 255 is set
+pub full-byte : (j : ℕ) → j < 8 → bitOf 255 j ≡ 1
+unfolding bitOf
+full-byte j h = eqb→eq _ _ (at 8 (λ j. eqb (bitOf 255 j) 1) tt j h)
