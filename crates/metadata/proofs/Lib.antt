@@ -1,4 +1,5 @@
 pub mod Stores
 pub mod Frame
+pub mod FullLaws
 pub mod View
 pub mod Counting

@@ -4,7 +4,7 @@ ghost use Prim.Native.Nat.{_+_, _≤_, _<_};
 ghost use lib.ListN.{length};
 ghost use Rattle.boot.specs.Geometry.{bitmapBytes};
 ghost use Rattle.boot.specs.Layout.{Laid};
-ghost use Rattle.metadata.specs.Marks.{marked, putByte, setMark, allocatedCount, freeCount};
+ghost use Rattle.metadata.specs.Marks.{marked, putByte, setMark, allocatedCount, freeCount, pastFull};
 use boot::layout::Layout;
 
 // Whether cluster k is marked.
@@ -56,4 +56,14 @@ pub fn free_count(vol: &[u8], y: Layout) -> u32
     ensures { λ r. ⌜ r ≡ freeCount y (now (vol .entry)) ⌝ }
 {
     y.count - allocated_count(vol, y)
+}
+
+// The first of the n clusters from k whose byte of the active FAT's bitmap is not 0xFF; k + n where there is none.
+pub fn past_full(vol: &[u8], y: Layout, k: u32, n: u32) -> u32
+    requires { ⌜ Laid y × ((length (now vol) ≡ y .len) × ((2 ≤ k) × (k + n ≤ y .count + 2))) ⌝ }
+    ensures { λ r. ⌜ (r ≡ pastFull y (now (vol .entry)) k n) × ((k ≤ r) × (r ≤ k + n)) ⌝ }
+{
+    let a = y.bitmap;
+    let e = a + ((y.count + 7) / 8) as usize;
+    primitives::bits::past_bytes(&vol[a..e], 0xFF, k - 2, n) + 2
 }
