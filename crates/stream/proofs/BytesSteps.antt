@@ -13,7 +13,7 @@ use lib.Seq.{length-take-le, take-all, take-nil, drop-nil, take-append-le, drop-
 use borrow.Author.Tests.{le-leb, lt-leb}
 use Rattle.primitives.specs.Splice.{splice}
 use Rattle.primitives.proofs.SpliceLaws.{splice-nil}
-use Rattle.tables.specs.Lists.{every}
+use Rattle.tables.specs.Lists.{every, lastOr}
 use Rattle.tables.proofs.Cases.{cond-case}
 use Rattle.tables.proofs.ListLaws.{every-cons, every-head, every-tail}
 use Rattle.boot.specs.declared.layout.Layout.{Layout}
@@ -23,8 +23,10 @@ use Rattle.boot.proofs.Clusters.{cluster-in}
 use Rattle.metadata.specs.Fat.{fatEntry}
 use Rattle.metadata.specs.Cluster.{putBytes}
 use Rattle.metadata.proofs.Frame.{Fits, fat-bytes}
+use Rattle.stream.specs.declared.allocation.Allocation.{Allocation}
+use Rattle.stream.specs.declared.bytes.Place.{Place}
 use Rattle.stream.specs.Along.{after, along}
-use Rattle.stream.specs.Bytes.{clusterBytes, bytesOf, storeAt, reached}
+use Rattle.stream.specs.Bytes.{clusterBytes, bytesOf, storeAt, reached, Known}
 use Rattle.stream.proofs.StreamLaws.{along-step, along-head, along-rest, length-along}
 
 -- ---- parts of lists
@@ -110,6 +112,21 @@ module _ (fat : ℕ → ℕ) (run : Bool) where
   reach-step k zero h = absurd (omega arith)
   reach-step k (suc n) h = rw sub-one refl
 
+  -- steps after steps
+  pub reach-sum : (m k n : ℕ) → m ≤ n → reached fat run (reached fat run k m) (n - m) ≡ reached fat run k n
+  unfolding reached
+  reach-sum zero k n h = rw sub-zero refl
+  reach-sum (suc m) k zero h = absurd (omega arith)
+  reach-sum (suc m) k (suc n) h =
+      let e : suc n - suc m ≡ n - m = omega arith in
+      rw e (reach-sum m (after fat run k) n (omega arith))
+
+  -- the last of the clusters on the way
+  pub reach-last : (z k n : ℕ) → lastOr z (along fat run k (suc n)) ≡ reached fat run k n
+  unfolding reached along lastOr
+  reach-last z k zero = refl
+  reach-last z k (suc n) = reach-last k (after fat run k) n
+
   -- the clusters from there on
   pub drop-along : (m k n : ℕ) → drop m (along fat run k n) ≡ along fat run (reached fat run k m) (n - m)
   unfolding along reached
@@ -155,6 +172,45 @@ module _ (C : ℕ) (f g : ℕ → ℕ) (same : (k : ℕ) → inHeap C k ≡ true
       let h = every-head (inHeap C) k (along f run (cond run (k + 1) (f k)) n) e in
       let t = every-tail (inHeap C) k (along f run (cond run (k + 1) (f k)) n) e in
       ap (λ (l : List ℕ). k ∷ l) (along-same (cond run (k + 1) (f k)) n t ∙ ap (λ (x : ℕ). along g run (cond run (k + 1) x) n) (same k h))
+
+-- the same clusters have the same places
+pub reach-same : (f g : ℕ → ℕ) (run : Bool) (k m n : ℕ) → m ≤ n - 1 → along f run k n ≡ along g run k n → reached f run k m ≡ reached g run k m
+reach-same f g run k m n h e =
+    elim (decLe (suc m) n) [
+      | yes b ↦
+          sym (reach-last f run 0 k m) ∙ ap (lastOr 0) (sym (take-along f run (suc m) k n b) ∙ ap (take (suc m)) e ∙ take-along g run (suc m) k n b)
+          ∙ reach-last g run 0 k m
+      | no b ↦ reach-none f run k m (omega arith) ∙ sym (reach-none g run k m (omega arith))
+    ]
+
+-- ---- a place that is known
+
+module _ (y : Layout) (d : List ℕ) (a : Allocation) where
+  pub known-first : Known y d a (record { cluster = a .first; steps = 0 })
+  known-first = record { reaches = reach-none (fatEntry y d) (a .«no_fat_chain») (a .first) 0 (omega arith); inside = omega arith }
+
+  module _ (p : Place) (w : Known y d a p) where
+    -- it stays where the clusters are the same
+    pub known-same : (e : List ℕ)
+        → along (fatEntry y d) (a .«no_fat_chain») (a .first) (a .count) ≡ along (fatEntry y e) (a .«no_fat_chain») (a .first) (a .count)
+        → Known y e a p
+    known-same e q = record {
+      reaches = sym (reach-same (fatEntry y d) (fatEntry y e) (a .«no_fat_chain») (a .first) (p .steps) (a .count) (w .inside) q) ∙ w .reaches;
+      inside = w .inside;
+    }
+
+    -- from there on
+    module _ (n : ℕ) (h : p .steps ≤ n) where
+      pub known-reach : reached (fatEntry y d) (a .«no_fat_chain») (p .cluster) (n - p .steps) ≡ reached (fatEntry y d) (a .«no_fat_chain») (a .first) n
+      known-reach =
+          ap (λ (k : ℕ). reached (fatEntry y d) (a .«no_fat_chain») k (n - p .steps)) (sym (w .reaches))
+          ∙ reach-sum (fatEntry y d) (a .«no_fat_chain») (p .steps) (a .first) n h
+
+      pub known-heap : every (inHeap (y .count)) (along (fatEntry y d) (a .«no_fat_chain») (a .first) n) ≡ true
+          → every (inHeap (y .count)) (along (fatEntry y d) (a .«no_fat_chain») (p .cluster) (n - p .steps)) ≡ true
+      known-heap e =
+          ap (λ (k : ℕ). every (inHeap (y .count)) (along (fatEntry y d) (a .«no_fat_chain») k (n - p .steps))) (sym (w .reaches))
+          ∙ every-from (fatEntry y d) (a .«no_fat_chain») (inHeap (y .count)) (p .steps) (a .first) n h e
 
 -- ---- places in a stream
 

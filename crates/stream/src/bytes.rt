@@ -9,9 +9,15 @@ ghost use Rattle.boot.specs.Layout.{Laid, inHeap, Apart};
 ghost use Rattle.metadata.specs.Fat.{fatEntry};
 ghost use Rattle.metadata.specs.Cluster.{putBytes};
 ghost use Rattle.stream.specs.Along.{after, along};
-ghost use Rattle.stream.specs.Bytes.{clusterBytes, bytesOf, storeAt, reached};
+ghost use Rattle.stream.specs.Bytes.{clusterBytes, bytesOf, storeAt, reached, Known};
 use crate::allocation::Allocation;
 use boot::layout::Layout;
+
+// A cluster of a stream that is known, and how many steps from the first one lead to it.
+pub struct Place {
+    pub cluster: u32,
+    pub steps: u32,
+}
 
 // The lesser of two numbers.
 fn lesser(a: usize, b: usize) -> usize
@@ -38,6 +44,17 @@ pub fn seek(vol: &[u8], y: Layout, run: bool, first: u32, steps: u32) -> u32
         left -= 1;
     }
     k
+}
+
+// The same from a place that is known, where that is not past the goal.
+fn seek_from(vol: &[u8], y: Layout, a: Allocation, known: Place, steps: u32) -> u32
+    requires { ⌜ Laid y × ((length (now vol) ≡ y .len) × ((every (inHeap (y .count)) (along (fatEntry y (now vol)) (a .«no_fat_chain») (a .first) steps) ≡ true) × Known y (now vol) a known)) ⌝ }
+    ensures { λ r. ⌜ r ≡ reached (fatEntry y (now (vol .entry))) (a .«no_fat_chain») (a .first) steps ⌝ }
+{
+    if known.steps <= steps {
+        return seek(vol, y, a.no_fat_chain, known.cluster, steps - known.steps);
+    }
+    seek(vol, y, a.no_fat_chain, a.first, steps)
 }
 
 // Stores n bytes of src, from `from` on, in cluster k, from its byte `at` on.
@@ -141,22 +158,22 @@ fn read_from(
 }
 
 // Stores src in a stream, from its byte `at` on.
-pub fn store(vol: &mut [u8], y: Layout, a: Allocation, at: usize, src: &[u8])
-    requires { ⌜ Laid y × ((length (now vol) ≡ y .len) × ((every (inHeap (y .count)) (along (fatEntry y (now vol)) (a .«no_fat_chain») (a .first) (a .count)) ≡ true) × ((at + length (now src) ≤ a .count * y .size) × Apart y))) ⌝ }
+pub fn store(vol: &mut [u8], y: Layout, a: Allocation, known: Place, at: usize, src: &[u8])
+    requires { ⌜ Laid y × ((length (now vol) ≡ y .len) × ((every (inHeap (y .count)) (along (fatEntry y (now vol)) (a .«no_fat_chain») (a .first) (a .count)) ≡ true) × ((at + length (now src) ≤ a .count * y .size) × (Apart y × Known y (now vol) a known)))) ⌝ }
     ensures { λ _. ⌜ now (vol .exit) ≡ storeAt y (now (vol .entry)) (along (fatEntry y (now (vol .entry))) (a .«no_fat_chain») (a .first) (a .count)) at (now (src .entry)) ⌝ }
 {
     let steps = (at / y.size) as u32;
-    let k = seek(vol, y, a.no_fat_chain, a.first, steps);
+    let k = seek_from(vol, y, a, known, steps);
     store_from(vol, y, a.no_fat_chain, k, a.count - steps, at % y.size, src);
 }
 
 // Fills n bytes of a stream with zeros, from its byte `at` on.
-pub fn fill(vol: &mut [u8], y: Layout, a: Allocation, at: usize, n: usize)
-    requires { ⌜ Laid y × ((length (now vol) ≡ y .len) × ((every (inHeap (y .count)) (along (fatEntry y (now vol)) (a .«no_fat_chain») (a .first) (a .count)) ≡ true) × ((at + n ≤ a .count * y .size) × Apart y))) ⌝ }
+pub fn fill(vol: &mut [u8], y: Layout, a: Allocation, known: Place, at: usize, n: usize)
+    requires { ⌜ Laid y × ((length (now vol) ≡ y .len) × ((every (inHeap (y .count)) (along (fatEntry y (now vol)) (a .«no_fat_chain») (a .first) (a .count)) ≡ true) × ((at + n ≤ a .count * y .size) × (Apart y × Known y (now vol) a known)))) ⌝ }
     ensures { λ _. ⌜ now (vol .exit) ≡ storeAt y (now (vol .entry)) (along (fatEntry y (now (vol .entry))) (a .«no_fat_chain») (a .first) (a .count)) at (replicate n 0) ⌝ }
 {
     let steps = (at / y.size) as u32;
-    let k = seek(vol, y, a.no_fat_chain, a.first, steps);
+    let k = seek_from(vol, y, a, known, steps);
     fill_from(vol, y, a.no_fat_chain, k, a.count - steps, at % y.size, n);
 }
 

@@ -1,5 +1,9 @@
-use mathlib.Core.Path.{_∙_}
+use mathlib.Core.Path.{_∙_, ap}
+use Prim.Native.Nat.{ℕ, _-_, _/_, _%_}
 use lib.ListN.{length}
+use Rattle.metadata.specs.Fat.{fatEntry}
+use Rattle.stream.specs.Along.{along}
+use Rattle.stream.specs.Bytes.{storeAt}
 use Rattle.stream.proofs.BytesSteps.{sought}
 use borrow.Author.Needs.{needs}
 use Rattle.stream.proofs.bytes.store.Statement.{statement}
@@ -14,11 +18,11 @@ cast-steps c =
     let s = sought _ _ _ _ _ (c .before .before .before .args .at) (length (c .before .before .before .args .src .now)) (p .0) (p .1 .0) (p .1 .1 .0) (p .1 .1 .1 .0) in
     search needs
 
-seek-requires : tie.Need-seek-requires
-seek-requires c κs =
+seek-from-requires : tie.Need-seek-from-requires
+seek-from-requires c κs =
     let p = c .before .before .before .before .pre in
     let s = sought _ _ _ _ _ (c .before .before .before .before .args .at) (length (c .before .before .before .before .args .src .now)) (p .0) (p .1 .0) (p .1 .1 .0) (p .1 .1 .1 .0) in
-    (p .0, (p .1 .0, s .before))
+    (p .0, (p .1 .0, (s .before, p .1 .1 .1 .1 .1)))
 
 sub-store-from : tie.Need-sub-store-from
 sub-store-from c =
@@ -33,7 +37,7 @@ store-from-requires : tie.Need-store-from-requires
 store-from-requires c κs =
     let p = c .before .before .before .before .before .before .before .before .pre in
     let s = sought _ _ _ _ _ (c .before .before .before .before .before .before .before .before .args .at) (length (c .before .before .before .before .before .before .before .before .args .src .now)) (p .0) (p .1 .0) (p .1 .1 .0) (p .1 .1 .1 .0) in
-    (p .0, (p .1 .0, (rw (c .before .before .before .seek .ensures) (s .heap), (s .place, (s .room, p .1 .1 .1 .1)))))
+    (p .0, (p .1 .0, (rw (c .before .before .before .seek-from .ensures) (s .heap), (s .place, (s .room, p .1 .1 .1 .1 .0)))))
 
 same-length : tie.Need-same-length
 same-length c = search needs
@@ -42,7 +46,11 @@ returns : tie.Need-returns
 returns c =
     let p = c .before .before .before .before .before .before .before .before .before .before .before .pre in
     let s = sought _ _ _ _ _ (c .before .before .before .before .before .before .before .before .before .before .before .args .at) (length (c .before .before .before .before .before .before .before .before .before .before .before .args .src .now)) (p .0) (p .1 .0) (p .1 .1 .0) (p .1 .1 .1 .0) in
-    (cc) ∙ s .stores _
+    let a = c .before .before .before .before .before .before .before .before .before .before .before .args in
+    c .before .before .store-from .ensures
+    ∙ ap (λ (k : ℕ). storeAt (a .y) (a .vol .now) (along (fatEntry (a .y) (a .vol .now)) (a .a .«no_fat_chain») k (a .a .count - a .at / a .y .size)) (a .at % a .y .size) (a .src .now))
+    (c .before .before .before .before .before .before .seek-from .ensures)
+    ∙ s .stores _
 
 pub store-spec : {M : Type 1} → statement M
 store-spec =
@@ -50,7 +58,7 @@ store-spec =
     (tie.spec
     div-steps
     cast-steps
-    seek-requires
+    seek-from-requires
     sub-store-from
     rem-store-from
     store-from-requires
