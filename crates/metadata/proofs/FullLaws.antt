@@ -27,10 +27,12 @@ module _ (y : Layout) (d : List ℕ) where
   unfolding marked
   marked-full k e = rw (e, full-byte ((k - 2) % 8) (omega arith)) refl
 
-  pub full-unusable : (m : List ℕ) (k n j : ℕ) → 2 ≤ k → k ≤ j → j < pastFull y d k n → isUsable y d m j ≡ false
+  -- each of them is marked
+  pub full-marked : (k n j : ℕ) → 2 ≤ k → k ≤ j → j < pastFull y d k n → marked y d j ≡ true
   unfolding pastFull markByte
-  full-unusable m k n j l h t =
-      usable-not-free y d m j
-      (free-marked y d m j
-      (marked-full j
-      (sym (getD-drop (y .bitmap) d ((j - 2) / 8) 0) ∙ past-each (drop (y .bitmap) d) 255 (k - 2) n (j - 2) (omega arith) (omega arith))))
+  full-marked k n j l h t =
+      marked-full j
+      (sym (getD-drop (y .bitmap) d ((j - 2) / 8) 0) ∙ past-each (drop (y .bitmap) d) 255 (k - 2) n (j - 2) (omega arith) (omega arith))
+
+  pub full-unusable : (m : List ℕ) (k n j : ℕ) → 2 ≤ k → k ≤ j → j < pastFull y d k n → isUsable y d m j ≡ false
+  full-unusable m k n j l h t = usable-not-free y d m j (free-marked y d m j (full-marked k n j l h t))

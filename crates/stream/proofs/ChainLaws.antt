@@ -126,6 +126,15 @@ module _ (C : ℕ) (mark : ℕ → Bool) where
   run-step k zero h e f = absurd (omega arith)
   run-step k (suc n) h e f = rw (e, f, sub-one) refl
 
+  -- m clusters that are in the heap and marked
+  pub run-jump : (m k n : ℕ) → m ≤ n → ((j : ℕ) → k ≤ j → j < k + m → (inHeap C j ≡ true) × (mark j ≡ true))
+      → runCause C mark k n ≡ runCause C mark (k + m) (n - m)
+  run-jump zero k n h f = ap₂ (runCause C mark) (omega arith) (omega arith)
+  run-jump (suc m) k n h f =
+      let q = f k (omega arith) (omega arith) in
+      run-step k n (omega arith) (q .0) (q .1) ∙ run-jump m (k + 1) (n - 1) (omega arith) (λ j a b. f j (omega arith) (omega arith))
+      ∙ ap₂ (runCause C mark) (omega arith) (omega arith)
+
   pub run-wrong : (first last count : ℕ) → (last + 1 ≡ first + count → ⊥) → numberOf (readRun C mark first last count) ≡ 5
   unfolding readRun numberOf
   run-wrong first last count n = rw (ne-eqb (last + 1) (first + count) n) refl

@@ -1,11 +1,11 @@
 // A record's clusters walked and tested: what refuses it.
 ghost use mathlib.Core.Path.{_≡_};
 ghost use mathlib.Core.Bool.{_&&_};
-ghost use Prim.Native.Nat.{_+_, _≤_, _<_};
+ghost use Prim.Native.Nat.{_+_, _-_, _≤_, _<_};
 ghost use lib.ListN.{length};
 ghost use Rattle.boot.specs.Layout.{Laid, inHeap};
 ghost use Rattle.metadata.specs.Fat.{fatEntry};
-ghost use Rattle.metadata.specs.Marks.{marked};
+ghost use Rattle.metadata.specs.Marks.{marked, pastFull};
 ghost use Rattle.stream.specs.Chain.{nextOf, readChain};
 ghost use Rattle.stream.specs.Stream.{runCause, readRun, checkChain, streamOf, numberOf, walked, walkCause};
 use crate::allocation::Allocation;
@@ -96,7 +96,19 @@ pub fn fat_chain(vol: &[u8], y: Layout, first: u32) -> Walked
     }
 }
 
-// What refuses the n clusters from first as a run: the earliest outside the heap or unmarked.
+// The first of the clusters from k on, so many being left, that is outside the heap or not in a byte of marks alone.
+fn past_marked(vol: &[u8], y: Layout, k: u32, left: u32) -> u32
+    requires { ⌜ Laid y × ((length (now vol) ≡ y .len) × ((2 ≤ k) × (k ≤ y .count + 2))) ⌝ }
+    ensures { λ r. ⌜ (r ≡ pastFull y (now (vol .entry)) k (left - (left - (y .count + 2 - k)))) × ((k ≤ r) × (r ≤ k + (left - (left - (y .count + 2 - k))))) ⌝ }
+{
+    let room = y.count + 2 - k;
+    if left < room {
+        return metadata::bitmap::past_full(vol, y, k, left);
+    }
+    metadata::bitmap::past_full(vol, y, k, room)
+}
+
+// What refuses the n clusters from first as a run: the earliest outside the heap or unmarked. Bytes of marks alone are one test.
 fn run_cause(vol: &[u8], y: Layout, first: u32, n: u32) -> u32
     requires { ⌜ Laid y × (length (now vol) ≡ y .len) ⌝ }
     ensures { λ r. ⌜ r ≡ runCause (y .count) (marked y (now (vol .entry))) first n ⌝ }
@@ -106,8 +118,9 @@ fn run_cause(vol: &[u8], y: Layout, first: u32, n: u32) -> u32
     while 0 < left {
         if boot::layout::in_heap(y.count, k) {
             if metadata::bitmap::allocated(vol, y, k) {
-                k += 1;
-                left -= 1;
+                let next = past_marked(vol, y, k + 1, left - 1);
+                left -= next - k;
+                k = next;
             } else {
                 return 6;
             }

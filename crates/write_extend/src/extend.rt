@@ -11,11 +11,11 @@ ghost use Rattle.write_alloc.specs.Choice.{chosen, beginOf};
 ghost use Rattle.write_alloc.specs.Outcome.{wrap};
 ghost use Rattle.write_extend.specs.Extend.{moreCause, inPlace, longerRun, linkOld, longerChain, longer, extendIn, extendClusters, orGiven, Allowed};
 ghost use Rattle.write_alloc.specs.Allocate.{allocateIn};
-use write_alloc::answer::Answer;
-use write_alloc::choice::Choice;
 use boot::geometry::Geometry;
 use boot::layout::Layout;
 use stream::allocation::Allocation;
+use write_alloc::answer::Answer;
+use write_alloc::choice::Choice;
 
 // What refuses n more clusters for a record that has some.
 fn more_cause(vol: &[u8], map: &[u8], y: Layout, a: Allocation, n: u32) -> u32
