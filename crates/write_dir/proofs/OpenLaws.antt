@@ -1,18 +1,19 @@
 -- A file opened by its slot, as the code meets its causes. Assumes nothing.
 use mathlib.Core.Path.{_≡_, refl, sym, _∙_, ap, ap₂}
 use mathlib.Core.Logic.{_≢_}
-use mathlib.Core.Bool.{Bool, true, false, _&&_, cond, false≢true}
+use mathlib.Core.Bool.{Bool, true, false, _&&_, not, cond, false≢true}
 use mathlib.Core.List.{List, [], _∷_}
 use Prim.Native.Nat.{ℕ, zero, suc, _+_, _-_, _*_, _/_, _%_, _≤_, _<_}
 use native.Mathlib.Nat.{mul-left-comm, div-add-mod', mod-lt, div-eq-of-lt}
 use native.Mathlib.Omega.{arith}
-use lib.Dec.{leb}
-use lib.ListN.{getD, take, drop, replicate}
+use lib.Dec.{eqb, leb}
+use lib.ListN.{length, getD, take, drop, replicate}
 use borrow.Author.Tests.{eq-eqb, ne-eqb, leb-true, le-leb}
 use Rattle.primitives.specs.Splice.{splice}
-use Rattle.tables.specs.Lists.{lastOr}
+use Rattle.tables.specs.Lists.{every, lastOr}
 use Rattle.tables.proofs.Cases.{not-so}
 use Rattle.boot.specs.declared.layout.Layout.{Layout}
+use Rattle.boot.specs.Limits.{inMap}
 use Rattle.boot.specs.Layout.{inHeap}
 use Rattle.boot.specs.Causes.{firstCause}
 use Rattle.boot.proofs.Tests.{and-left, and-right, and-both}
@@ -27,10 +28,10 @@ use Rattle.stream.specs.declared.walk.Walked.{Walked}
 use Rattle.stream.specs.Along.{along}
 use Rattle.stream.specs.Bytes.{bytesOf, reached}
 use Rattle.stream.specs.Chain.{Clusters, listed, refused, readChain}
-use Rattle.stream.specs.Stream.{numberOf, streamOf, walked, walkCause}
+use Rattle.stream.specs.Stream.{numberOf, streamOf, checkChain, walked, walkCause}
 use Rattle.stream.specs.Listing.{clustersOf}
 use Rattle.stream.proofs.StreamLaws.{length-along, along-head}
-use Rattle.stream.proofs.ChainLaws.{chain-number, stream-empty, stream-chain}
+use Rattle.stream.proofs.ChainLaws.{chain-number, stream-empty, stream-chain, stream-not-zero}
 use Rattle.stream.proofs.ListingLaws.{stream-read}
 use Rattle.stream.proofs.BytesSteps.{some-left, drop-along, Sought, sought}
 use Rattle.stream.proofs.BytesLaws.{byte-of}
@@ -42,7 +43,7 @@ use Rattle.write_dir.specs.declared.place.Spot.{Spot}
 use Rattle.write_dir.specs.Directory.{clustersIn, bytesIn}
 use Rattle.write_dir.specs.Entries.{entryCount, typeAt, isFile, entriesAt, wholeSet, setAt, isSound}
 use Rattle.write_dir.specs.Place.{spotOf}
-use Rattle.write_dir.specs.Open.{fileRecord, entryCause, attributeCause, streamCause, setIn, fileCause, opened, openFile}
+use Rattle.write_dir.specs.Open.{fileRecord, entryCause, attributeCause, streamCause, setIn, fileCause, opened, openedStream, openFile}
 use Rattle.write_dir.proofs.EntryLaws.{sound-file, sound-few, sound-room, sound-formed, sound-of}
 use Rattle.write_dir.proofs.CursorLaws.{bytes-along, dir-heap, slot-bytes, along-at}
 use Rattle.write_dir.proofs.PlaceLaws.{clusters-along}
@@ -216,16 +217,46 @@ unfolding walked lastOr
 walked-last mark (listed ks) = refl
 walked-last mark (refused n) = refl
 
+-- the clusters of a chain that its record does not refuse are the walk's, and so is the flag of any test of them
+check-flag : (mark free : ℕ → Bool) (last n : ℕ) (c : Clusters) → ((k : ℕ) → c ≡ refused k → k ≡ 0 → ⊥) → numberOf (checkChain mark last n c) ≡ 0
+    → walked free c .marked ≡ every free (clustersOf (checkChain mark last n c))
+unfolding walked checkChain numberOf
+check-flag mark free last n (refused k) h e = absurd (h k refl e)
+check-flag mark free last n (listed ks) h e = by (eqb (length ks) n && eqb (lastOr 0 ks) last) (every mark ks) e
+  where
+    by : (p q : Bool) → numberOf (cond p (cond q (listed ks) (refused 6)) (refused 5)) ≡ 0
+        → every free ks ≡ every free (clustersOf (cond p (cond q (listed ks) (refused 6)) (refused 5)))
+    by true true r = refl
+    by true false r = absurd (omega arith)
+    by false q r = absurd (omega arith)
+
 module _ (y : Layout) (d : List ℕ) (first n : ℕ) (v : Walked) (e : v ≡ walked (marked y d) (readChain (y .count) (fatEntry y d) first)) where
+  abbrev chainRec : Allocation
+  chainRec = record { first = first; last = v .last; count = n; «no_fat_chain» = false }
+
   pub chain-last : v .last ≡ lastOr 0 (clustersOf (readChain (y .count) (fatEntry y d) first))
   chain-last = ap (λ (x : Walked). x .last) e ∙ walked-last (marked y d) (readChain (y .count) (fatEntry y d) first)
 
-  pub chain-read : inHeap (y .count) first ≡ true → 1 ≤ n
-      → walkCause v (v .last) n ≡ numberOf (streamOf y d (record { first = first; last = v .last; count = n; «no_fat_chain» = false }))
-  unfolding streamOf
-  chain-read h l =
-      chain-number (y .count) (fatEntry y d) (marked y d) first (v .last) n v h e
-      ∙ ap numberOf (sym (stream-chain (y .count) (fatEntry y d) (marked y d) (record { first = first; last = v .last; count = n; «no_fat_chain» = false }) (λ z. omega arith) refl))
+  module _ (h : inHeap (y .count) first ≡ true) (l : 1 ≤ n) where
+    chain-stream : streamOf y d chainRec ≡ checkChain (marked y d) (v .last) n (readChain (y .count) (fatEntry y d) first)
+    unfolding streamOf
+    chain-stream = stream-chain (y .count) (fatEntry y d) (marked y d) chainRec (λ z. omega arith) refl
+
+    pub chain-read : walkCause v (v .last) n ≡ numberOf (streamOf y d chainRec)
+    chain-read = chain-number (y .count) (fatEntry y d) (marked y d) first (v .last) n v h e ∙ ap numberOf (sym chain-stream)
+
+    -- 9 by the flag that the walk gives
+    pub chain-system : (m : List ℕ) (f : Bool) → numberOf (streamOf y d chainRec) ≡ 0
+        → f ≡ walked (λ k. not (inMap m k)) (readChain (y .count) (fatEntry y d) first) .marked → cond f 0 9 ≡ systemCause m (along (fatEntry y d) false first n)
+    unfolding systemCause
+    chain-system m f z q =
+        let c = readChain (y .count) (fatEntry y d) first in
+        let t : (k : ℕ) → c ≡ refused k → k ≡ 0 → ⊥ =
+        λ k r. stream-not-zero (y .count) (fatEntry y d) (marked y d) chainRec k (unfold streamOf in (chain-stream ∙ ap (checkChain (marked y d) (v .last) n) r ∙ (unfold checkChain in refl))) in
+        let b : f ≡ every (λ k. not (inMap m k)) (along (fatEntry y d) false first n) =
+        q ∙ check-flag (marked y d) (λ k. not (inMap m k)) (v .last) n c t (ap numberOf (sym chain-stream) ∙ z)
+        ∙ ap (λ (x : Clusters). every (λ k. not (inMap m k)) (clustersOf x)) (sym chain-stream) ∙ ap (every (λ k. not (inMap m k))) (stream-read y d chainRec z .goes) in
+        ap (λ (x : Bool). cond x 0 9) b
 
 -- a length takes clusters
 pub takes-none : (size len : ℕ) → 1 ≤ size → len ≡ 0 → clustersFor size len ≡ 0
@@ -244,10 +275,6 @@ module _ (y : Layout) (d s : List ℕ) where
   pub record-none : clustersFor (y .size) (dataLength s) ≡ 0 → empty ≡ fileRecord y d s
   unfolding fileRecord
   record-none e = rw (eq-eqb (clustersFor (y .size) (dataLength s)) 0 e) refl
-
-  pub record-zero : clustersFor (y .size) (dataLength s) ≡ 0 → 0 ≡ numberOf (streamOf y d (fileRecord y d s))
-  unfolding streamOf numberOf
-  record-zero e = sym (ap (λ (a : Allocation). numberOf (streamOf y d a)) (sym (record-none e)) ∙ ap numberOf (stream-empty (y .count) (fatEntry y d) (marked y d) empty refl))
 
   module _ (first n : ℕ) (f : first ≡ firstCluster s) (e : n ≡ clustersFor (y .size) (dataLength s)) (some : 1 ≤ n) where
     pub record-run : noFatChain s ≡ true → record { first = first; last = first + n - 1; count = n; «no_fat_chain» = true } ≡ fileRecord y d s
@@ -269,6 +296,10 @@ module _ (n : ℕ) (a : Allocation) where
   pub opened-yes : n ≡ 0 → record { number = 0; allocation = a } ≡ opened n a
   unfolding opened
   opened-yes z = rw (eq-eqb n 0 z) refl
+
+no-clusters : (m : List ℕ) (c : Clusters) → c ≡ listed [] → (numberOf c ≡ 0) × (systemCause m (clustersOf c) ≡ 0)
+unfolding numberOf systemCause every
+no-clusters m c e = (rw e refl, rw e refl)
 
 module _ (y : Layout) (d m : List ℕ) (a : Allocation) where
   stream-cause-is : streamCause y d m a ≡ firstCause (numberOf (streamOf y d a) ∷ systemCause m (clustersIn y d a) ∷ [])
@@ -292,6 +323,45 @@ module _ (y : Layout) (d m : List ℕ) (a : Allocation) where
 
     pub stream-done : c ≡ 0 → record { number = 0; allocation = a } ≡ opened (streamCause y d m a) a
     stream-done z = opened-yes c a z ∙ ap (λ (x : ℕ). opened x a) system-is
+
+  -- a record with no clusters
+  pub stream-none : empty ≡ a → record { number = 0; allocation = empty } ≡ opened (streamCause y d m a) a
+  stream-none e =
+      let s : streamOf y d a ≡ listed [] = unfold streamOf in (stream-empty (y .count) (fatEntry y d) (marked y d) a (ap (λ (x : Allocation). x .count) (sym e))) in
+      let n = no-clusters m (streamOf y d a) s in
+      let z : systemCause m (clustersIn y d a) ≡ 0 = unfold clustersIn in (n .1) in
+      ap (λ (x : Allocation). record { number = 0; allocation = x }) e
+      ∙ opened-yes (streamCause y d m a) a
+      (stream-cause-is ∙ cause-skip (numberOf (streamOf y d a)) (systemCause m (clustersIn y d a) ∷ []) (n .0) ∙ cause-last (systemCause m (clustersIn y d a)) ∙ z)
+
+-- ---- a chain opened by its walk
+
+module _ (y : Layout) (d m : List ℕ) (first n : ℕ) (v : Walked) (e : v ≡ walked (marked y d) (readChain (y .count) (fatEntry y d) first))
+    (h : inHeap (y .count) first ≡ true) (l : 1 ≤ n) (c : ℕ) (q : c ≡ walkCause v (v .last) n) where
+  abbrev rec : ℕ → Allocation
+  rec last = record { first = first; last = last; count = n; «no_fat_chain» = false }
+
+  abbrev end : ℕ
+  end = lastOr 0 (clustersOf (readChain (y .count) (fatEntry y d) first))
+
+  last-is : openedStream y d m (rec (v .last)) ≡ openedStream y d m (rec end)
+  last-is = ap (λ (x : ℕ). openedStream y d m (rec x)) (chain-last y d first n v e)
+
+  pub chain-not : c ≢ 0 → record { number = c; allocation = empty } ≡ openedStream y d m (rec end)
+  chain-not z = stream-not y d m (rec (v .last)) c (q ∙ chain-read y d first n v e h l) z ∙ last-is
+
+  module _ (z : c ≡ 0) (f : Bool) (g : f ≡ walked (λ k. not (inMap m k)) (readChain (y .count) (fatEntry y d) first) .marked) where
+    reads : numberOf (streamOf y d (rec (v .last))) ≡ 0
+    reads = sym (q ∙ chain-read y d first n v e h l) ∙ z
+
+    by-flag : cond f 0 9 ≡ systemCause m (along (fatEntry y d) false first n)
+    by-flag = chain-system y d first n v e h l m f reads g
+
+    pub chain-nine : f ≡ false → record { number = 9; allocation = empty } ≡ openedStream y d m (rec end)
+    chain-nine b = stream-system y d m (rec (v .last)) reads 9 (sym (cond-no f 0 9 b) ∙ by-flag) (λ t. omega arith) ∙ last-is
+
+    pub chain-done : f ≡ true → record { number = 0; allocation = rec (v .last) } ≡ openedStream y d m (rec end)
+    chain-done b = stream-done y d m (rec (v .last)) reads 0 (sym (cond-yes f 0 9 b) ∙ by-flag) refl ∙ last-is
 
 -- ---- the bytes of a set
 

@@ -57,6 +57,10 @@ fileCause y d m a slot =
 unfoldable pub opened : ℕ → Allocation → Opened
 opened n a = cond (eqb n 0) (record { number = 0; allocation = a }) (record { number = n; allocation = empty })
 
+-- a stream's record, or the number of what refuses it
+abbrev pub openedStream : Layout → List ℕ → List ℕ → Allocation → Opened
+openedStream y d m a = opened (streamCause y d m a) a
+
 -- the file at a slot of directory a opened: its record, or the number
 unfoldable pub openFile : Layout → List ℕ → List ℕ → Allocation → ℕ → Opened
 openFile y d m a slot = opened (fileCause y d m a slot) (fileRecord y d (setIn y d a slot))

@@ -14,7 +14,7 @@ ghost use Rattle.entry_set.specs.Sound.{wellFormed};
 ghost use Rattle.write_alloc.specs.Outcome.{empty};
 ghost use Rattle.write_dir.specs.Directory.{bytesIn};
 ghost use Rattle.write_dir.specs.Entries.{entryCount, beforeEnd, entriesAt, wholeSet, isSound};
-ghost use Rattle.write_dir.specs.Open.{fileRecord, attributeCause, streamCause, setIn, opened, openFile};
+ghost use Rattle.write_dir.specs.Open.{fileRecord, attributeCause, setIn, openedStream, openFile};
 use crate::place::Spot;
 use boot::layout::Layout;
 use stream::allocation::Allocation;
@@ -124,43 +124,6 @@ fn walk_number(w: Walked, n: u32) -> u32
     6
 }
 
-// The record of a chain of n clusters, and its number.
-fn chain_allocation(vol: &[u8], y: Layout, first: u32, n: u32) -> Opened
-    requires { ⌜ Laid y × ((length (now vol) ≡ y .len) × ((inHeap (y .count) first ≡ true) × (1 ≤ n))) ⌝ }
-    ensures { λ r. ⌜ (r .allocation ≡ record { first = first; last = lastOr 0 (clustersOf (readChain (y .count) (fatEntry y (now (vol .entry))) first)); count = n; «no_fat_chain» = false }) × (r .number ≡ numberOf (streamOf y (now (vol .entry)) (r .allocation))) ⌝ }
-{
-    let w = stream::walk::fat_chain(vol, y, first);
-    let number = walk_number(w, n);
-    let a = Allocation {
-        first: first,
-        last: w.last,
-        count: n,
-        no_fat_chain: false,
-    };
-    Opened {
-        number: number,
-        allocation: a,
-    }
-}
-
-// The record of a run of n clusters, and its number.
-fn run_allocation(vol: &[u8], y: Layout, first: u32, n: u32) -> Opened
-    requires { ⌜ Laid y × ((length (now vol) ≡ y .len) × ((first + n ≤ y .count + 2) × (1 ≤ n))) ⌝ }
-    ensures { λ r. ⌜ (r .allocation ≡ record { first = first; last = first + n - 1; count = n; «no_fat_chain» = true }) × (r .number ≡ numberOf (streamOf y (now (vol .entry)) (r .allocation))) ⌝ }
-{
-    let a = Allocation {
-        first: first,
-        last: first + n - 1,
-        count: n,
-        no_fat_chain: true,
-    };
-    let number = stream::walk::stream_cause(vol, y, a);
-    Opened {
-        number: number,
-        allocation: a,
-    }
-}
-
 // A number with the empty record.
 fn not_opened(number: u32) -> Opened
     ensures { λ r. ⌜ r ≡ record { number = number; allocation = empty } ⌝ }
@@ -177,10 +140,61 @@ fn not_opened(number: u32) -> Opened
     }
 }
 
-// The record of a set's stream, and the number of what refuses its clusters: a chain is walked once.
-fn stream_allocation(vol: &[u8], y: Layout, set: &[u8; 608]) -> Opened
-    requires { ⌜ Laid y × ((length (now vol) ≡ y .len) × (wellFormed (y .count) (y .size) (now set) ≡ true)) ⌝ }
-    ensures { λ r. ⌜ (r .allocation ≡ fileRecord y (now (vol .entry)) (now (set .entry))) × (r .number ≡ numberOf (streamOf y (now (vol .entry)) (fileRecord y (now (vol .entry)) (now (set .entry))))) ⌝ }
+// A chain of n clusters opened: one walk gives its record and what refuses it.
+fn open_chain(vol: &[u8], map: &[u8], y: Layout, first: u32, n: u32) -> Opened
+    requires { ⌜ Laid y × ((length (now vol) ≡ y .len) × ((y .count ≤ 8 * length (now map)) × ((inHeap (y .count) first ≡ true) × (1 ≤ n)))) ⌝ }
+    ensures { λ r. ⌜ r ≡ openedStream y (now (vol .entry)) (now (map .entry)) (record { first = first; last = lastOr 0 (clustersOf (readChain (y .count) (fatEntry y (now (vol .entry))) first)); count = n; «no_fat_chain» = false }) ⌝ }
+{
+    let c = crate::chain::file_chain(vol, map, y, first);
+    let w = c.walk;
+    let number = walk_number(w, n);
+    if number != 0 {
+        return not_opened(number);
+    }
+    if c.clear {
+        let a = Allocation {
+            first: first,
+            last: w.last,
+            count: n,
+            no_fat_chain: false,
+        };
+        return Opened {
+            number: 0,
+            allocation: a,
+        };
+    }
+    not_opened(9)
+}
+
+// A run of n clusters opened: its marks, then the system map; no FAT entry is read.
+fn open_run(vol: &[u8], map: &[u8], y: Layout, first: u32, n: u32) -> Opened
+    requires { ⌜ Laid y × ((length (now vol) ≡ y .len) × ((y .count ≤ 8 * length (now map)) × ((first + n ≤ y .count + 2) × (1 ≤ n)))) ⌝ }
+    ensures { λ r. ⌜ r ≡ openedStream y (now (vol .entry)) (now (map .entry)) (record { first = first; last = first + n - 1; count = n; «no_fat_chain» = true }) ⌝ }
+{
+    let a = Allocation {
+        first: first,
+        last: first + n - 1,
+        count: n,
+        no_fat_chain: true,
+    };
+    let number = stream::walk::stream_cause(vol, y, a);
+    if number != 0 {
+        return not_opened(number);
+    }
+    let system = write_shrink::shrink::system_cause(vol, map, y, true, first, n);
+    if system != 0 {
+        return not_opened(system);
+    }
+    Opened {
+        number: 0,
+        allocation: a,
+    }
+}
+
+// The record of a set's stream, or what refuses it: its clusters' number, then 9.
+fn open_stream(vol: &[u8], map: &[u8], y: Layout, set: &[u8; 608]) -> Opened
+    requires { ⌜ Laid y × ((length (now vol) ≡ y .len) × ((y .count ≤ 8 * length (now map)) × (wellFormed (y .count) (y .size) (now set) ≡ true))) ⌝ }
+    ensures { λ r. ⌜ r ≡ openedStream y (now (vol .entry)) (now (map .entry)) (fileRecord y (now (vol .entry)) (now (set .entry))) ⌝ }
 {
     let len = entry_set::entry::data_length(set);
     if len == 0 {
@@ -189,29 +203,9 @@ fn stream_allocation(vol: &[u8], y: Layout, set: &[u8; 608]) -> Opened
     let n = entry_set::entry::clusters_for(y.size, len) as u32;
     let first = entry_set::entry::first_cluster(set);
     if entry_set::entry::no_fat_chain(set) {
-        return run_allocation(vol, y, first, n);
+        return open_run(vol, map, y, first, n);
     }
-    chain_allocation(vol, y, first, n)
-}
-
-// The record of a set's stream, or what refuses it: its clusters' number, then 9.
-fn open_stream(vol: &[u8], map: &[u8], y: Layout, set: &[u8; 608]) -> Opened
-    requires { ⌜ Laid y × ((length (now vol) ≡ y .len) × ((y .count ≤ 8 * length (now map)) × (wellFormed (y .count) (y .size) (now set) ≡ true))) ⌝ }
-    ensures { λ r. ⌜ r ≡ opened (streamCause y (now (vol .entry)) (now (map .entry)) (fileRecord y (now (vol .entry)) (now (set .entry)))) (fileRecord y (now (vol .entry)) (now (set .entry))) ⌝ }
-{
-    let r = stream_allocation(vol, y, set);
-    if r.number != 0 {
-        return not_opened(r.number);
-    }
-    let a = r.allocation;
-    let number = write_shrink::shrink::system_cause(vol, map, y, a.no_fat_chain, a.first, a.count);
-    if number != 0 {
-        return not_opened(number);
-    }
-    Opened {
-        number: 0,
-        allocation: a,
-    }
+    open_chain(vol, map, y, first, n)
 }
 
 // What refuses a set's bytes: 10 where they are not well formed, else 11 for a directory.

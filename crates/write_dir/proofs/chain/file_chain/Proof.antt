@@ -1,0 +1,130 @@
+use Prim.Native.Nat.{_+_, _≤_, _<_}
+use mathlib.Core.Bool.{not}
+use mathlib.Core.Path.{_≡_, sym, _∙_, ap}
+use native.Mathlib.Omega.{arith}
+use borrow.Author.Needs.{needs}
+use Rattle.boot.specs.Limits.{inMap}
+use Rattle.boot.proofs.Apart.{in-heap, heap-in}
+use Rattle.metadata.specs.Fat.{fatEntry}
+use Rattle.metadata.specs.Marks.{marked}
+use Rattle.stream.specs.Chain.{chainFrom, readChain}
+use Rattle.stream.specs.Stream.{walked}
+use Rattle.stream.specs.declared.walk.Walked.{Walked}
+use Rattle.write_dir.specs.declared.chain.FileChain.{FileChain}
+use Rattle.stream.proofs.ChainLaws.{next-end, next-more, next-wrong, walkAt, walk-end, walk-wrong, walk-over, walk-more, walk-start}
+use Rattle.write_dir.proofs.chain.file_chain.Statement.{statement}
+use Rattle.write_dir.proofs.chain.file_chain.Tie as tie
+
+abbrev Inv-loop : tie.InvT-loop
+Inv-loop vol map y first k₀ before₀ all₀ clear₀ left₀ k before all clear left = (2 ≤ k) × ((k < y .count + 2) × ((before + left < y .count) × ((walkAt (marked y vol) 0 before all (chainFrom (y .count) (fatEntry y vol) left k) ≡ walked (marked y vol) (readChain (y .count) (fatEntry y vol) first)) × (walkAt (λ j. not (inMap map j)) 0 before clear (chainFrom (y .count) (fatEntry y vol) left k) ≡ walked (λ j. not (inMap map j)) (readChain (y .count) (fatEntry y vol) first)))))
+
+abbrev μ-loop : tie.MeasureT-loop
+μ-loop vol map y first k₀ before₀ all₀ clear₀ left₀ k before all clear left = left
+
+sub-left : tie.Need-sub-left Inv-loop μ-loop
+sub-left c = search needs
+
+loop-holds : tie.Need-loop-holds Inv-loop μ-loop
+loop-holds c =
+    (omega arith, (omega arith, (omega arith, (walk-start _ _ _ _ (heap-in _ _ (omega arith) (omega arith)), walk-start _ _ _ _ (heap-in _ _ (omega arith) (omega arith))))))
+
+fat-entry-requires : tie.Need-fat-entry-requires Inv-loop μ-loop
+fat-entry-requires c κs = search needs
+
+allocated-requires : tie.Need-allocated-requires Inv-loop μ-loop
+allocated-requires c κs = search needs
+
+both-requires : tie.Need-both-requires Inv-loop μ-loop
+both-requires c κs = search needs
+
+in-map-requires : tie.Need-in-map-requires Inv-loop μ-loop
+in-map-requires c κs = (omega arith, omega arith)
+
+both-requires-2 : tie.Need-both-requires-2 Inv-loop μ-loop
+both-requires-2 c κs = search needs
+
+add-t14 : tie.Need-add-t14 Inv-loop μ-loop
+add-t14 c = omega arith
+
+returns : tie.Need-returns Inv-loop μ-loop
+returns c =
+    let i = c .before .before .before .before .before .before .loop .inv .1 .1 .1 in
+    ((cc) ∙ (sym (walk-end _ _ _ _ _ _ _ (next-end _ _ (omega arith))) ∙ i .0), (cc) ∙ ap (λ (w : Walked). w .marked) (sym (walk-end _ _ _ _ _ _ _ (next-end _ _ (omega arith))) ∙ i .1))
+
+in-heap-requires : tie.Need-in-heap-requires Inv-loop μ-loop
+in-heap-requires c κs = search needs
+
+no-chain-requires : tie.Need-no-chain-requires Inv-loop μ-loop
+no-chain-requires c κs = search needs
+
+returns-2 : tie.Need-returns-2 Inv-loop μ-loop
+returns-2 c =
+    let i = c .before .before .before .before .before .before .before .before .before .before .loop .inv .1 .1 .1 in
+    let r = c .no-chain .ensures in (
+      ap (λ (x : FileChain). x .walk) r ∙ (sym (walk-over _ _ _ _ _ _ _ (omega arith) (next-more _ _ (λ z. omega arith) (cc))) ∙ i .0),
+      ap (λ (x : FileChain). x .clear) r ∙ ap (λ (w : Walked). w .marked) (sym (walk-over _ _ _ _ _ _ _ (omega arith) (next-more _ _ (λ z. omega arith) (cc))) ∙ i .1),
+    )
+
+add-before : tie.Need-add-before Inv-loop μ-loop
+add-before c = omega arith
+
+sub-left-2 : tie.Need-sub-left-2 Inv-loop μ-loop
+sub-left-2 c = omega arith
+
+loop-less : tie.Need-loop-less Inv-loop μ-loop
+loop-less c = omega arith
+
+loop-again : tie.Need-loop-again Inv-loop μ-loop
+loop-again c =
+    let y = c .before .before .before .before .before .before .before .before .before .before .before .before .before .args .y in
+    let v = c .before .before .before .before .before .before .before .before .fat-entry .result in
+    let h = in-heap (y .count) v (cc) in
+    let i = c .before .before .before .before .before .before .before .before .before .loop .inv .1 .1 .1 in (
+      h .0,
+      (
+        h .1,
+        (
+          omega arith,
+          (
+            (cc) ∙ (sym (walk-more _ _ _ _ _ _ _ (λ z. omega arith) (next-more _ _ (λ z. omega arith) (cc))) ∙ i .0),
+            (cc) ∙ (sym (walk-more _ _ _ _ _ _ _ (λ z. omega arith) (next-more _ _ (λ z. omega arith) (cc))) ∙ i .1),
+          ),
+        ),
+      ),
+    )
+
+no-chain-requires-2 : tie.Need-no-chain-requires-2 Inv-loop μ-loop
+no-chain-requires-2 c κs = search needs
+
+returns-3 : tie.Need-returns-3 Inv-loop μ-loop
+returns-3 c =
+    let i = c .before .before .before .before .before .before .before .before .before .loop .inv .1 .1 .1 in
+    let r = c .no-chain2 .ensures in (
+      ap (λ (x : FileChain). x .walk) r ∙ (sym (walk-wrong _ _ _ _ _ _ _ (next-wrong _ _ (λ z. omega arith) (cc))) ∙ i .0),
+      ap (λ (x : FileChain). x .clear) r ∙ ap (λ (w : Walked). w .marked) (sym (walk-wrong _ _ _ _ _ _ _ (next-wrong _ _ (λ z. omega arith) (cc))) ∙ i .1),
+    )
+
+pub file-chain-spec : {M : Type 1} → statement M
+file-chain-spec =
+    tie.close
+    (tie.spec
+    Inv-loop
+    μ-loop
+    sub-left
+    loop-holds
+    fat-entry-requires
+    allocated-requires
+    both-requires
+    in-map-requires
+    both-requires-2
+    add-t14
+    returns
+    in-heap-requires
+    no-chain-requires
+    returns-2
+    add-before
+    sub-left-2
+    loop-less
+    loop-again
+    no-chain-requires-2
+    returns-3)
