@@ -2,12 +2,14 @@
 use mathlib.Core.Path.{_≡_, refl, sym, _∙_, ap, ap₂}
 use mathlib.Core.Bool.{true}
 use mathlib.Core.List.{List, _++_}
-use Prim.Native.Nat.{ℕ, _+_, _-_, _*_, _/_, _%_, _≤_, _<_}
+use Prim.Native.Nat.{ℕ, suc, _+_, _-_, _*_, _/_, _%_, _≤_, _<_}
 use native.Mathlib.Decide.{ℕ-discrete, decLt}
 use native.Mathlib.Nat.{div-add-mod', add-mul, one-mul, mod-lt, mul-le-mul-right}
 use native.Mathlib.Omega.{arith}
-use lib.ListN.{length, replicate, length-append}
-use Rattle.tables.specs.Lists.{every}
+use lib.ListN.{length, take, replicate, length-append}
+use lib.Seq.{take-at}
+use borrow.Author.Tests.{eq-eqb, ne-eqb}
+use Rattle.tables.specs.Lists.{every, lastOr}
 use Rattle.tables.specs.Count.{count}
 use Rattle.tables.proofs.CountLaws.{count-le}
 use Rattle.boot.specs.declared.layout.Layout.{Layout}
@@ -17,12 +19,13 @@ use Rattle.metadata.specs.Marks.{marked}
 use Rattle.metadata.specs.Usable.{isUsable}
 use Rattle.metadata.proofs.Frame.{Fits}
 use Rattle.stream.specs.declared.allocation.Allocation.{Allocation}
+use Rattle.stream.specs.declared.bytes.Place.{Place}
 use Rattle.stream.specs.Chain.{listed}
 use Rattle.stream.specs.Listing.{clustersOf}
 use Rattle.stream.specs.Along.{along}
 use Rattle.stream.specs.Stream.{numberOf, streamOf}
-use Rattle.stream.specs.Bytes.{storeAt}
-use Rattle.stream.proofs.BytesSteps.{store-nothing}
+use Rattle.stream.specs.Bytes.{storeAt, Known}
+use Rattle.stream.proofs.BytesSteps.{store-nothing, reach-last, take-along, known-first, known-same}
 use Rattle.stream.proofs.ListingLaws.{stream-read, along-heap}
 use Rattle.stream.proofs.ChainLaws.{stream-listed}
 use Rattle.stream.proofs.Distinct.{read-length}
@@ -35,7 +38,7 @@ use Rattle.write_extend.specs.Extend.{extendIn}
 use Rattle.write_extend.proofs.EnoughLaws.{Took, extend-done}
 use Rattle.write_alloc.proofs.AllocateLaws.{space-met, space-kept}
 use Rattle.write_dir.specs.Directory.{clustersIn}
-use Rattle.write_file.specs.Refresh.{entriesOf, missing, lengthCause}
+use Rattle.write_file.specs.Refresh.{entriesOf, missing, lengthCause, knownPlace}
 
 -- whole clusters hold the length that they are for
 pub clusters-hold : (size len : ℕ) → 1 ≤ size → len ≤ clustersFor size len * size
@@ -99,7 +102,19 @@ module _ (y : Layout) (d : List ℕ) (w : Fits y d) (b : Allocation) (e : number
   pub stored-heap : every (inHeap (y .count)) (along (fatEntry y d′) (b .«no_fat_chain») (b .first) (b .count)) ≡ true
   stored-heap = ap (every (inHeap (y .count))) stored-along ∙ heap-in
 
+  pub stored-known : (p : Place) → Known y d b p → Known y d′ b p
+  stored-known p k = known-same y d b p k d′ (clusters-along y d b e ∙ sym stored-along)
+
 -- ---- a stream that grew
+
+module _ (b a : Allocation) where
+  pub known-none : b .count ≡ 0 → knownPlace b a ≡ record { cluster = a .first; steps = 0 }
+  unfolding knownPlace
+  known-none e = rw (eq-eqb (b .count) 0 e) refl
+
+  pub known-last : (b .count ≡ 0 → ⊥) → knownPlace b a ≡ record { cluster = b .last; steps = b .count - 1 }
+  unfolding knownPlace
+  known-last e = rw (ne-eqb (b .count) 0 e) refl
 
 pub stream-is : (y : Layout) (d : List ℕ) (b : Allocation) → numberOf (streamOf y d b) ≡ 0 → streamOf y d b ≡ listed (clustersOf (streamOf y d b))
 unfolding streamOf
@@ -116,19 +131,50 @@ module _ (y : Layout) (d m : List ℕ) (w : Fits y d) (b : Allocation) (n hint :
   pub grown-reads : numberOf (streamOf y (out .volume) (out .answer .allocation)) ≡ 0
   grown-reads = ap numberOf (took .grows .reads) ∙ (unfold numberOf in refl)
 
+  grown-clusters : clustersOf (streamOf y (out .volume) (out .answer .allocation)) ≡ clustersOf (streamOf y d b) ++ took .new
+  grown-clusters = ap clustersOf (took .grows .reads)
+
+  old-length : length (clustersOf (streamOf y d b)) ≡ b .count
+  old-length = read-length (y .count) (fatEntry y d) (marked y d) b (clustersOf (streamOf y d b)) (stream-read y d b reads)
+
   pub grown-count : out .answer .allocation .count ≡ b .count + n
   grown-count =
       let e = out .volume in
       let c = out .answer .allocation in
-      let q : clustersOf (streamOf y e c) ≡ clustersOf (streamOf y d b) ++ took .new = ap clustersOf (took .grows .reads) in
       omega (
         arith,
         read-length (y .count) (fatEntry y e) (marked y e) c (clustersOf (streamOf y e c)) (stream-read y e c grown-reads),
-        read-length (y .count) (fatEntry y d) (marked y d) b (clustersOf (streamOf y d b)) (stream-read y d b reads),
-        ap length q,
+        old-length,
+        ap length grown-clusters,
         length-append (clustersOf (streamOf y d b)) (took .new),
         took .many,
       )
+
+  abbrev grown : Allocation
+  grown = out .answer .allocation
+
+  -- its first clusters are those that it had
+  grown-front : along (fatEntry y (out .volume)) (grown .«no_fat_chain») (grown .first) (b .count) ≡ clustersOf (streamOf y d b)
+  grown-front =
+      sym (take-along (fatEntry y (out .volume)) (grown .«no_fat_chain») (b .count) (grown .first) (grown .count) (omega (arith, grown-count)))
+      ∙ ap (take (b .count)) (sym (stream-read y (out .volume) grown grown-reads .goes) ∙ grown-clusters)
+      ∙ take-at (clustersOf (streamOf y d b)) (took .new) (b .count) old-length
+
+  -- so its known place is right
+  pub grown-known : Known y (out .volume) grown (knownPlace b grown)
+  grown-known =
+      elim (ℕ-discrete (b .count) 0) [
+        | yes z ↦ rw (known-none b grown z) (known-first y (out .volume) grown)
+        | no z ↦
+            let n : suc (b .count - 1) ≡ b .count = omega arith in
+            rw (known-last b grown z)
+            (record {
+              reaches = sym (reach-last (fatEntry y (out .volume)) (grown .«no_fat_chain») 0 (grown .first) (b .count - 1))
+                  ∙ ap (λ (i : ℕ). lastOr 0 (along (fatEntry y (out .volume)) (grown .«no_fat_chain») (grown .first) i)) n ∙ ap (lastOr 0) grown-front
+                  ∙ stream-read y d b reads .last z 0;
+              inside = omega (arith, grown-count);
+            })
+      ]
 
 -- what it must add for a length makes it long enough
 pub grown-holds : (y : Layout) (b : Allocation) (len k : ℕ) → Laid y → k ≡ b .count + missing y b len → len ≤ k * y .size
@@ -149,7 +195,8 @@ module _ (y : Layout) (d m : List ℕ) (w : Fits y d) (b : Allocation) (len n hi
   there = extendIn y d m b (missing y b len) hint
 
   pub grow-shown : (r : Answer) (e : List ℕ) → (r ≡ extendIn y d m b n hint .answer) × (e ≡ extendIn y d m b n hint .volume)
-      → (r ≡ there .answer) × ((e ≡ there .volume) × ((numberOf (streamOf y e (r .allocation)) ≡ 0) × (len ≤ r .allocation .count * y .size)))
+      → (r ≡ there .answer) × ((e ≡ there .volume) × ((numberOf (streamOf y e (r .allocation)) ≡ 0)
+      × ((len ≤ r .allocation .count * y .size) × Known y e (r .allocation) (knownPlace b (r .allocation)))))
   grow-shown r e p =
       let f = length-enough y b len d m enough in
       let q : r ≡ there .answer = p .0 ∙ ap (λ (x : ℕ). extendIn y d m b x hint .answer) z in
@@ -161,7 +208,10 @@ module _ (y : Layout) (d m : List ℕ) (w : Fits y d) (b : Allocation) (len n hi
           v,
           (
             ap₂ (λ (u : List ℕ) (x : Answer). numberOf (streamOf y u (x .allocation))) v q ∙ grown-reads y d m w b (missing y b len) hint reads hint-in f,
-            grown-holds y b len (r .allocation .count) (w .laid) c,
+            (
+              grown-holds y b len (r .allocation .count) (w .laid) c,
+              rw (v, q) (grown-known y d m w b (missing y b len) hint reads hint-in f),
+            ),
           ),
         ),
       )

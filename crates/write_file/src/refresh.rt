@@ -5,17 +5,18 @@ ghost use Prim.Native.Nat.{_+_, _-_, _*_, _≤_, _<_};
 ghost use lib.ListN.{length, take, replicate};
 ghost use Rattle.boot.specs.Layout.{Laid, Apart, inHeap};
 ghost use Rattle.stream.specs.Stream.{numberOf, streamOf};
-ghost use Rattle.stream.specs.Bytes.{storeAt};
+ghost use Rattle.stream.specs.Bytes.{storeAt, Known};
 ghost use Rattle.write_extend.specs.Extend.{extendIn};
 ghost use Rattle.write_dir.specs.Directory.{clustersIn};
 ghost use Rattle.write_dir.specs.Place.{spotClusters, Reaches};
 ghost use Rattle.write_dir.specs.Open.{fileRecord};
-ghost use Rattle.write_file.specs.Refresh.{entriesOf, recorded, missing, lengthCause};
+ghost use Rattle.write_file.specs.Refresh.{entriesOf, recorded, missing, lengthCause, knownPlace};
 ghost use Rattle.write_file.specs.Opens.{Stands};
 ghost use Rattle.write_file.specs.Write.{refreshedOnly};
 use boot::layout::Layout;
 use entry_set::stamp::Stamp;
 use stream::allocation::Allocation;
+use stream::bytes::Place;
 use write_alloc::answer::Answer;
 use write_dir::answer::FileAnswer;
 use write_dir::place::Spot;
@@ -58,19 +59,35 @@ pub fn missing(y: Layout, b: Allocation, len: u64) -> u32
 }
 
 // Fills a stream with zeros from one byte up to another; nothing where that is not above it (Rust: `zero_range`).
-pub fn zero_range(vol: &mut [u8], y: Layout, b: Allocation, from: u64, to: u64)
-    requires { ⌜ Laid y × ((length (now vol) ≡ y .len) × (Apart y × ((numberOf (streamOf y (now vol) b) ≡ 0) × (to ≤ b .count * y .size)))) ⌝ }
+pub fn zero_range(vol: &mut [u8], y: Layout, b: Allocation, known: Place, from: u64, to: u64)
+    requires { ⌜ Laid y × ((length (now vol) ≡ y .len) × (Apart y × ((numberOf (streamOf y (now vol) b) ≡ 0) × ((to ≤ b .count * y .size) × Known y (now vol) b known)))) ⌝ }
     ensures { λ _. ⌜ now (vol .exit) ≡ storeAt y (now (vol .entry)) (clustersIn y (now (vol .entry)) b) from (replicate (to - from) 0) ⌝ }
 {
     if from < to {
-        stream::bytes::fill(vol, y, b, from as usize, (to - from) as usize);
+        stream::bytes::fill(vol, y, b, known, from as usize, (to - from) as usize);
     }
 }
 
-// Adds the clusters that a stream misses for a length; then it reads, and holds the length.
+// The place that is known in stream a, grown from stream b: b's last cluster, or a's first one where b is empty.
+pub fn known_place(b: Allocation, a: Allocation) -> Place
+    ensures { λ r. ⌜ r ≡ knownPlace b a ⌝ }
+{
+    if b.count == 0 {
+        return Place {
+            cluster: a.first,
+            steps: 0,
+        };
+    }
+    Place {
+        cluster: b.last,
+        steps: b.count - 1,
+    }
+}
+
+// Adds the clusters that a stream misses for a length; then it reads, holds the length, and has the known place.
 pub fn grow_to(vol: &mut [u8], map: &[u8], y: Layout, b: Allocation, len: u64, hint: u32) -> Answer
     requires { ⌜ Laid y × ((length (now vol) ≡ y .len) × ((y .count ≤ 8 * length (now map)) × (Apart y × ((inHeap (y .count) hint ≡ true) × ((numberOf (streamOf y (now vol) b) ≡ 0) × (lengthCause y (now vol) (now map) b len ≡ 0)))))) ⌝ }
-    ensures { λ r. ⌜ (r ≡ extendIn y (now (vol .entry)) (now (map .entry)) b (missing y b len) hint .answer) × ((now (vol .exit) ≡ extendIn y (now (vol .entry)) (now (map .entry)) b (missing y b len) hint .volume) × ((numberOf (streamOf y (now (vol .exit)) (r .allocation)) ≡ 0) × (len ≤ r .allocation .count * y .size))) ⌝ }
+    ensures { λ r. ⌜ (r ≡ extendIn y (now (vol .entry)) (now (map .entry)) b (missing y b len) hint .answer) × ((now (vol .exit) ≡ extendIn y (now (vol .entry)) (now (map .entry)) b (missing y b len) hint .volume) × ((numberOf (streamOf y (now (vol .exit)) (r .allocation)) ≡ 0) × ((len ≤ r .allocation .count * y .size) × Known y (now (vol .exit)) (r .allocation) (knownPlace b (r .allocation))))) ⌝ }
 {
     let n = missing(y, b, len);
     write_extend::extend::grow_in(vol, map, y, b, n, hint)

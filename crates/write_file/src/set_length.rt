@@ -97,7 +97,8 @@ fn grow_zeroed(
 {
     let to = zero_end(y, valid, len);
     let r = crate::refresh::grow_to(vol, map, y, b, len, hint);
-    crate::refresh::zero_range(vol, y, r.allocation, valid, to);
+    let known = crate::refresh::known_place(b, r.allocation);
+    crate::refresh::zero_range(vol, y, r.allocation, known, valid, to);
     r
 }
 

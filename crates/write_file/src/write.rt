@@ -5,6 +5,7 @@ ghost use Prim.Native.Nat.{_+_, _-_, _*_, _≤_, _<_};
 ghost use lib.ListN.{length};
 ghost use Rattle.boot.specs.Layout.{Laid, Apart, inHeap};
 ghost use Rattle.stream.specs.Stream.{numberOf, streamOf};
+ghost use Rattle.stream.specs.Bytes.{Known};
 ghost use Rattle.entry_set.specs.Fields.{dataLength};
 ghost use Rattle.write_extend.specs.Extend.{extendIn};
 ghost use Rattle.write_dir.specs.Directory.{rootRecord, clustersIn};
@@ -16,6 +17,7 @@ use boot::geometry::Geometry;
 use boot::layout::Layout;
 use entry_set::stamp::Stamp;
 use stream::allocation::Allocation;
+use stream::bytes::Place;
 use write_alloc::answer::Answer;
 use write_dir::answer::FileAnswer;
 
@@ -50,12 +52,20 @@ fn data_cause(
 }
 
 // Puts data into a stream: zeros from valid up to the offset where it passes valid, then the data.
-fn put_data(vol: &mut [u8], y: Layout, b: Allocation, valid: u64, offset: u64, src: &[u8])
-    requires { ⌜ Laid y × ((length (now vol) ≡ y .len) × (Apart y × ((numberOf (streamOf y (now vol) b) ≡ 0) × (offset + length (now src) ≤ b .count * y .size)))) ⌝ }
+fn put_data(
+    vol: &mut [u8],
+    y: Layout,
+    b: Allocation,
+    known: Place,
+    valid: u64,
+    offset: u64,
+    src: &[u8],
+)
+    requires { ⌜ Laid y × ((length (now vol) ≡ y .len) × (Apart y × ((numberOf (streamOf y (now vol) b) ≡ 0) × ((offset + length (now src) ≤ b .count * y .size) × Known y (now vol) b known)))) ⌝ }
     ensures { λ _. ⌜ now (vol .exit) ≡ withData y (now (vol .entry)) (clustersIn y (now (vol .entry)) b) valid offset (now (src .entry)) ⌝ }
 {
-    crate::refresh::zero_range(vol, y, b, valid, offset);
-    stream::bytes::store(vol, y, b, offset as usize, src);
+    crate::refresh::zero_range(vol, y, b, known, valid, offset);
+    stream::bytes::store(vol, y, b, known, offset as usize, src);
 }
 
 // Grows a stream to a length, and puts data into it.
@@ -74,7 +84,8 @@ fn put_grown(
     ensures { λ r. ⌜ (r ≡ extendIn y (now (vol .entry)) (now (map .entry)) b (missing y b len) hint .answer) × (now (vol .exit) ≡ withData y (extendIn y (now (vol .entry)) (now (map .entry)) b (missing y b len) hint .volume) (clustersIn y (extendIn y (now (vol .entry)) (now (map .entry)) b (missing y b len) hint .volume) (r .allocation)) valid offset (now (src .entry))) ⌝ }
 {
     let r = crate::refresh::grow_to(vol, map, y, b, len, hint);
-    put_data(vol, y, r.allocation, valid, offset, src);
+    let known = crate::refresh::known_place(b, r.allocation);
+    put_data(vol, y, r.allocation, known, valid, offset, src);
     r
 }
 

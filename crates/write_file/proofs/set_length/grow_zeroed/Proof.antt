@@ -19,25 +19,29 @@ grow-to-requires c κs =
     let p = c .before .before .before .before .pre in
     (p .0, (p .1 .0, (p .1 .1 .0, (p .1 .1 .1 .0, (p .1 .1 .1 .1 .0, (p .1 .1 .1 .1 .1 .0, p .1 .1 .1 .1 .1 .1 .0))))))
 
+known-place-requires : tie.Need-known-place-requires
+known-place-requires c κs = search needs
+
 zero-range-requires : tie.Need-zero-range-requires
 zero-range-requires c κs =
-    let a = c .before .before .before .before .before .before .before .before .args in
-    let p = c .before .before .before .before .before .before .before .before .pre in
-    let g = c .before .before .before .grow-to in
+    let a = c .before .before .before .before .before .before .before .before .before .args in
+    let p = c .before .before .before .before .before .before .before .before .before .pre in
+    let g = c .before .before .before .before .grow-to in
+    let k = c .before .known-place in
     let l = p .0 in
     let h : 1 ≤ a .y .size = omega (arith, l .size-low) in
-    (l, (omega arith, (p .1 .1 .1 .0, (g .ensures .1 .1 .0, omega (arith, g .ensures .1 .1 .1, c .before .before .before .before .before .zero-end .ensures, end-le (a .y .size) (a .valid) (a .len) h)))))
+    (l, (omega arith, (p .1 .1 .1 .0, (g .ensures .1 .1 .0, (omega (arith, g .ensures .1 .1 .1 .0, c .before .before .before .before .before .before .zero-end .ensures, end-le (a .y .size) (a .valid) (a .len) h), rw (k .ensures) (g .ensures .1 .1 .1 .1))))))
 
 same-length : tie.Need-same-length
 same-length c = search needs
 
 returns : tie.Need-returns
 returns c =
-    let a = c .before .before .before .before .before .before .before .before .before .before .before .args in
-    let g = c .before .before .before .before .before .before .grow-to in
-    let z = c .before .before .before .before .before .before .before .before .zero-end in
+    let a = c .before .before .before .before .before .before .before .before .before .before .before .before .args in
+    let g = c .before .before .before .before .before .before .before .grow-to in
+    let z = c .before .before .before .before .before .before .before .before .before .zero-end in
     (g .ensures .0, c .before .before .zero-range .ensures ∙ ap (λ (l : List ℕ). storeAt (a .y) l (clustersIn (a .y) l (g .result .allocation)) (a .valid) (replicate (z .result - a .valid) 0)) (g .ensures .1 .0) ∙ (cc))
 
 pub grow-zeroed-spec : {M : Type 1} → statement M
 grow-zeroed-spec =
-    tie.close (tie.spec zero-end-requires grow-to-requires zero-range-requires same-length returns)
+    tie.close (tie.spec zero-end-requires grow-to-requires known-place-requires zero-range-requires same-length returns)
