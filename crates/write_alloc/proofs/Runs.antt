@@ -1,16 +1,26 @@
 -- Runs of clusters that pass a test, and the choice, as the code meets them. Assumes nothing.
-use mathlib.Core.Path.{_≡_, refl, sym, _∙_, ap}
+use mathlib.Core.Path.{_≡_, refl, sym, _∙_, ap, ap₂}
+use mathlib.Core.Logic.{_≢_}
 use mathlib.Core.Bool.{Bool, true, false, and-false}
 use Prim.Native.Nat.{ℕ, zero, suc, _+_, _-_, _≤_, _<_}
-use native.Mathlib.Decide.{decLt}
+use native.Mathlib.Decide.{decLt, ℕ-discrete}
 use native.Mathlib.Numerals.{sub-one, add-one}
 use native.Mathlib.Omega.{arith}
-use borrow.Author.Tests.{lt-ltb, le-ltb}
-use Rattle.tables.specs.Count.{count}
-use Rattle.boot.proofs.Tests.{and-both}
+use lib.Dec.{eqb, leb}
+use borrow.Author.Tests.{lt-ltb, le-ltb, le-leb, lt-leb, eq-eqb, ne-eqb}
+use Rattle.tables.specs.Count.{count, one}
+use Rattle.boot.proofs.Tests.{and-both, and-left, and-right}
 use Rattle.metadata.specs.declared.usable.Found.the-variants.{At, Nothing}
 use Rattle.write_alloc.specs.declared.choice.Choice.the-variants.{Run, Scattered, TooFew}
-use Rattle.write_alloc.specs.Choice.{allFrom, firstRun, runFrom, choose}
+use Rattle.write_alloc.specs.Choice.{allFrom, usableTail, firstRun, runFrom, choose}
+
+-- what is left of n where `found` are found
+pub enough-left : (n left found : ℕ) → left + found ≡ n → eqb left 0 ≡ leb n found
+enough-left n left found e =
+    elim (ℕ-discrete left 0) [
+      | yes z ↦ eq-eqb left 0 z ∙ sym (le-leb n found (omega arith))
+      | no z ↦ ne-eqb left 0 z ∙ sym (lt-leb n found (omega arith))
+    ]
 
 module _ (u : ℕ → Bool) where
   -- ---- all of a run
@@ -28,6 +38,17 @@ module _ (u : ℕ → Bool) where
       let t : s + (k - s) ≡ k = omega arith in
       rw r (and-both (allFrom u s (k - s)) (u (s + (k - s))) e (ap u t ∙ f))
 
+  -- a run and one right after it
+  all-join : (s k n m : ℕ) → s ≤ k → n + s ≡ k + m → allFrom u s (k - s) ≡ true → allFrom u k m ≡ true → allFrom u s n ≡ true
+  unfolding allFrom
+  all-join s k n zero h q e f = let r : n ≡ k - s = omega arith in rw r e
+  all-join s k n (suc m) h q e f =
+      let r : n ≡ suc (n - 1) = omega arith in
+      let t : k + m ≡ s + (n - 1) = omega arith in
+      rw r
+      (and-both (allFrom u s (n - 1)) (u (s + (n - 1))) (all-join s k (n - 1) m h (omega arith) e (and-left (allFrom u k m) (u (k + m)) f))
+      (ap u (sym t) ∙ and-right (allFrom u k m) (u (k + m)) f))
+
   -- a number of the run that fails
   pub all-not : (s n k : ℕ) → s ≤ k → k < s + n → u k ≡ false → allFrom u s n ≡ false
   unfolding allFrom
@@ -37,6 +58,67 @@ module _ (u : ℕ → Bool) where
         | yes w ↦ rw (all-not s n k h w e) refl
         | no w ↦ (let q : s + n ≡ k = omega arith in rw (q, e) (and-false (allFrom u s n)))
       ]
+
+  -- ---- the last number that fails
+
+  pub tail-none : (low n : ℕ) → n ≤ 0 → usableTail u low n ≡ low
+  unfolding usableTail
+  tail-none low zero h = refl
+  tail-none low (suc n) h = absurd (omega arith)
+
+  tail-yes : (low n : ℕ) → u (low + n) ≡ true → usableTail u low (suc n) ≡ usableTail u low n
+  unfolding usableTail
+  tail-yes low n e = rw e refl
+
+  tail-no : (low n : ℕ) → u (low + n) ≡ false → usableTail u low (suc n) ≡ low + n + 1
+  unfolding usableTail
+  tail-no low n e = rw e refl
+
+  -- by the number k after the last one
+  pub tail-whole : (low n k : ℕ) → k ≡ low + n → usableTail u low (k - low) ≡ usableTail u low n
+  tail-whole low n k e = ap (usableTail u low) (omega arith)
+
+  pub tail-pass : (low k : ℕ) → low < k → u (k - 1) ≡ true → usableTail u low (k - 1 - low) ≡ usableTail u low (k - low)
+  tail-pass low k h e =
+      let t : low + (k - 1 - low) ≡ k - 1 = omega arith in
+      sym (ap (usableTail u low) (omega arith) ∙ tail-yes low (k - 1 - low) (ap u t ∙ e))
+
+  pub tail-fail : (low k : ℕ) → low < k → u (k - 1) ≡ false → usableTail u low (k - low) ≡ k
+  tail-fail low k h e =
+      let t : low + (k - 1 - low) ≡ k - 1 = omega arith in
+      ap (usableTail u low) (omega arith) ∙ tail-no low (k - 1 - low) (ap u t ∙ e) ∙ omega arith
+
+  tail-bounds : (low n : ℕ) → (low ≤ usableTail u low n) × (usableTail u low n ≤ low + n)
+  tail-bounds low zero = omega (arith, tail-none low 0 (omega arith))
+  tail-bounds low (suc n) = by (u (low + n)) refl (tail-bounds low n)
+    where
+      by : (b : Bool) → u (low + n) ≡ b → (low ≤ usableTail u low n) × (usableTail u low n ≤ low + n)
+          → (low ≤ usableTail u low (suc n)) × (usableTail u low (suc n) ≤ low + suc n)
+      by true e r = omega (arith, tail-yes low n e)
+      by false e r = omega (arith, tail-no low n e)
+
+  -- all pass from there on
+  tail-rest : (low n : ℕ) → allFrom u (usableTail u low n) (low + n - usableTail u low n) ≡ true
+  tail-rest low zero = all-none _ _ (omega (arith, tail-none low 0 (omega arith)))
+  tail-rest low (suc n) = by (u (low + n)) refl (tail-rest low n) (tail-bounds low n)
+    where
+      by : (b : Bool) → u (low + n) ≡ b → allFrom u (usableTail u low n) (low + n - usableTail u low n) ≡ true
+          → (low ≤ usableTail u low n) × (usableTail u low n ≤ low + n)
+          → allFrom u (usableTail u low (suc n)) (low + suc n - usableTail u low (suc n)) ≡ true
+      by true e f r =
+          let q = tail-yes low n e in
+          ap (λ (x : ℕ). allFrom u x (low + suc n - x)) q
+          ∙ all-next (usableTail u low n) (low + n) (low + suc n - usableTail u low n) (omega arith) (omega arith) f e
+      by false e f r = all-none _ _ (omega (arith, tail-no low n e))
+
+  -- and the one before fails
+  tail-last : (low n : ℕ) → low < usableTail u low n → u (usableTail u low n - 1) ≡ false
+  tail-last low zero h = absurd (omega (arith, tail-none low 0 (omega arith)))
+  tail-last low (suc n) h = by (u (low + n)) refl (tail-last low n)
+    where
+      by : (b : Bool) → u (low + n) ≡ b → (low < usableTail u low n → u (usableTail u low n - 1) ≡ false) → u (usableTail u low (suc n) - 1) ≡ false
+      by true e f = let q = tail-yes low n e in ap (λ (x : ℕ). u (x - 1)) q ∙ f (omega arith)
+      by false e f = let q : usableTail u low (suc n) - 1 ≡ low + n = omega (arith, tail-no low n e) in ap u q ∙ e
 
   -- ---- the lowest run
 
@@ -76,6 +158,42 @@ module _ (u : ℕ → Bool) where
         let q : s + (k + 1 - s) ≡ k + 1 = omega arith in
         sym (run-past (k + 1 - s) s k q l e ∙ ap (runFrom u end n) q)
 
+    -- numbers that all fail
+    run-over : (d s : ℕ) → 1 ≤ n → ((j : ℕ) → s ≤ j → j < s + d → u j ≡ false) → runFrom u end n (s + d) ≡ runFrom u end n s
+    run-over zero s h f = ap (runFrom u end n) (omega arith)
+    run-over (suc d) s h f =
+        ap (runFrom u end n) (omega arith) ∙ run-over d (s + 1) h (λ j a b. f j (omega arith) (omega arith))
+        ∙ run-skip s s (omega arith) (omega arith) (f s (omega arith) (omega arith))
+
+    -- a window from base whose numbers below good pass, tested from its end: t is one past the last that fails
+    module _ (base good t : ℕ) (h : base ≤ good) (g : good ≤ base + n) (e : allFrom u base (good - base) ≡ true)
+        (q : t ≡ usableTail u good (base + n - good)) where
+      pub window-hit : base + n ≤ end → t ≡ good → runFrom u end n base ≡ At base
+      window-hit i z =
+          let m = base + n - good in
+          let f : allFrom u good m ≡ true =
+          ap₂ (allFrom u) (sym (sym q ∙ z)) (omega arith) ∙ tail-rest good m in
+          run-hit base i (all-join base good n m h (omega arith) e f)
+
+      pub window-skip : t ≢ good → runFrom u end n t ≡ runFrom u end n base
+      window-skip z =
+          let m = base + n - good in
+          let b = tail-bounds good m in
+          let l : u (t - 1) ≡ false = ap (λ (x : ℕ). u (x - 1)) q ∙ tail-last good m (omega arith) in
+          ap (runFrom u end n) (omega arith) ∙ run-skip base (t - 1) (omega arith) (omega arith) l
+
+      pub window-rest : allFrom u t (base + n - t) ≡ true
+      window-rest =
+          let m = base + n - good in
+          ap₂ (allFrom u) q (omega arith) ∙ tail-rest good m
+
+      -- the whole window lies before t, and numbers that all fail after it
+      pub window-beyond : (e : ℕ) → 1 ≤ n → t ≢ good → t ≡ base + n → base + n ≤ e → ((j : ℕ) → base + n ≤ j → j < e → u j ≡ false)
+          → runFrom u end n e ≡ runFrom u end n base
+      window-beyond e o z w i f =
+          ap (runFrom u end n) (omega arith) ∙ run-over (e - (base + n)) (base + n) o (λ j a b. f j a (omega arith))
+          ∙ ap (runFrom u end n) (sym w) ∙ window-skip z
+
   -- ---- the count from the front
 
   pub count-none : (lo n : ℕ) → n ≤ 0 → count u lo n ≡ 0
@@ -83,15 +201,36 @@ module _ (u : ℕ → Bool) where
   count-none lo zero h = refl
   count-none lo (suc n) h = absurd (omega arith)
 
-  pub count-yes : (lo n : ℕ) → 0 < n → u lo ≡ true → count u lo n ≡ 1 + count u (lo + 1) (n - 1)
+  count-first : (lo n : ℕ) → count u lo (suc n) ≡ one (u lo) + count u (lo + 1) n
   unfolding count
-  count-yes lo zero h e = absurd (omega arith)
-  count-yes lo (suc n) h e = rw (e, sub-one, add-one lo) refl
+  count-first lo n = rw add-one refl
 
-  pub count-no : (lo n : ℕ) → 0 < n → u lo ≡ false → count u lo n ≡ count u (lo + 1) (n - 1)
-  unfolding count
-  count-no lo zero h e = absurd (omega arith)
-  count-no lo (suc n) h e = rw (e, sub-one, add-one lo) (omega arith)
+  pub count-yes : (lo hi : ℕ) → lo < hi → u lo ≡ true → count u lo (hi - lo) ≡ 1 + count u (lo + 1) (hi - (lo + 1))
+  count-yes lo hi h e =
+      ap (count u lo) (omega arith) ∙ count-first lo (hi - (lo + 1)) ∙ ap (λ (b : Bool). one b + count u (lo + 1) (hi - (lo + 1))) e
+
+  count-over : (d lo n : ℕ) → ((j : ℕ) → lo ≤ j → j < lo + d → u j ≡ false) → count u lo (d + n) ≡ count u (lo + d) n
+  count-over zero lo n f = ap₂ (count u) (omega arith) (omega arith)
+  count-over (suc d) lo n f =
+      ap (count u lo) (omega arith) ∙ count-first lo (d + n)
+      ∙ (ap (λ (b : Bool). one b + count u (lo + 1) (d + n)) (f lo (omega arith) (omega arith))
+      ∙ (omega (arith, count-over d (lo + 1) n (λ j a b. f j (omega arith) (omega arith)), ap (λ (x : ℕ). count u x n) (plus d))))
+    where
+      plus : (d : ℕ) → lo + 1 + d ≡ lo + suc d
+      plus d = omega arith
+
+  -- numbers that fail do not count: lo, and those from there to e
+  pub count-beyond : (lo e hi : ℕ) → lo < e → e ≤ hi → u lo ≡ false → ((j : ℕ) → lo + 1 ≤ j → j < e → u j ≡ false)
+      → count u lo (hi - lo) ≡ count u e (hi - e)
+  count-beyond lo e hi h i z f =
+      ap (count u lo) (omega arith) ∙ count-over (e - lo) lo (hi - e) (λ j a b. at j a (omega arith)) ∙ ap (λ (x : ℕ). count u x (hi - e)) (omega arith)
+    where
+      at : (j : ℕ) → lo ≤ j → j < e → u j ≡ false
+      at j a b =
+          elim (ℕ-discrete j lo) [
+            | yes q ↦ ap u q ∙ z
+            | no q ↦ f j (omega arith) b
+          ]
 
   -- ---- the choice
 

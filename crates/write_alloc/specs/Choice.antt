@@ -15,6 +15,11 @@ unfoldable pub allFrom : (ℕ → Bool) → ℕ → ℕ → Bool
 allFrom u k zero = true
 allFrom u k (suc n) = allFrom u k n && u (k + n)
 
+-- one past the last of the n clusters from low that is not usable; low where all are
+unfoldable pub usableTail : (ℕ → Bool) → ℕ → ℕ → ℕ
+usableTail u low zero = low
+usableTail u low (suc n) = cond (u (low + n)) (usableTail u low n) (low + n + 1)
+
 -- the lowest of the starts s, .. , s + tries - 1 from which n clusters are usable
 unfoldable pub firstRun : (ℕ → Bool) → ℕ → ℕ → ℕ → Found
 firstRun u n zero s = Nothing

@@ -1,11 +1,12 @@
 // Which clusters are taken: the lowest run that fits, else usable clusters one by one.
 ghost use mathlib.Core.Path.{_≡_};
 ghost use Prim.Native.Nat.{_+_, _-_, _*_, _≤_, _<_};
+ghost use lib.Dec.{leb};
 ghost use lib.ListN.{length};
 ghost use Rattle.tables.specs.Count.{count};
 ghost use Rattle.boot.specs.Layout.{Laid};
 ghost use Rattle.metadata.specs.Usable.{isUsable};
-ghost use Rattle.write_alloc.specs.Choice.{allFrom, runFrom, choose, firstUsable};
+ghost use Rattle.write_alloc.specs.Choice.{allFrom, usableTail, runFrom, choose, firstUsable};
 use boot::layout::Layout;
 use metadata::usable::Found;
 
@@ -34,49 +35,73 @@ pub fn run_is_free(vol: &[u8], map: &[u8], y: Layout, first: u32, n: u32) -> boo
     true
 }
 
+// One past the last of the n clusters from low that is not usable; low where all are.
+fn usable_tail(vol: &[u8], map: &[u8], y: Layout, low: u32, n: u32) -> u32
+    requires { ⌜ Laid y × ((length (now vol) ≡ y .len) × ((y .count ≤ 8 * length (now map)) × ((2 ≤ low) × (low + n ≤ y .count + 2)))) ⌝ }
+    ensures { λ r. ⌜ (r ≡ usableTail (isUsable y (now (vol .entry)) (now (map .entry))) low n) × ((low ≤ r) × (r ≤ low + n)) ⌝ }
+{
+    let mut k = low + n;
+    while low < k {
+        let last = k - 1;
+        if metadata::usable::usable(vol, map, y, last) {
+            k = last;
+        } else {
+            return k;
+        }
+    }
+    low
+}
+
 // The lowest run of n usable clusters that starts at or after start (Rust: the closure `scan` of `free_run`).
+// Each window of n clusters is tested from its end, and no cluster twice: no run starts before base, and those from base to good are usable.
 fn scan(vol: &[u8], map: &[u8], y: Layout, start: u32, n: u32) -> Found
     requires { ⌜ Laid y × ((length (now vol) ≡ y .len) × ((y .count ≤ 8 * length (now map)) × ((2 ≤ start) × (1 ≤ n)))) ⌝ }
     ensures { λ r. ⌜ r ≡ runFrom (isUsable y (now (vol .entry)) (now (map .entry))) (y .count + 2) n start ⌝ }
 {
     let end = y.count + 2;
+    if end < start {
+        return Found::Nothing;
+    }
     let mut base = start;
-    let mut k = start;
-    while k < end {
-        let next = k + 1;
-        if metadata::usable::usable(vol, map, y, k) {
-            if next - base == n {
-                return Found::At(base);
-            }
-            k = next;
+    let mut good = start;
+    while n <= end - base {
+        let high = base + n;
+        let next = usable_tail(vol, map, y, good, high - good);
+        if next == good {
+            return Found::At(base);
+        }
+        if next == high {
+            base = metadata::bitmap::past_full(vol, y, high, end - high);
+            good = base;
         } else {
             base = next;
-            k = next;
+            good = high;
         }
     }
     Found::Nothing
 }
 
-// How many clusters are usable.
-pub fn usable_count(vol: &[u8], map: &[u8], y: Layout) -> u32
+// Whether n clusters or more are usable.
+pub fn enough(vol: &[u8], map: &[u8], y: Layout, n: u64) -> bool
     requires { ⌜ Laid y × ((length (now vol) ≡ y .len) × (y .count ≤ 8 * length (now map))) ⌝ }
-    ensures { λ r. ⌜ r ≡ count (isUsable y (now (vol .entry)) (now (map .entry))) 2 (y .count) ⌝ }
+    ensures { λ r. ⌜ r ≡ leb n (count (isUsable y (now (vol .entry)) (now (map .entry))) 2 (y .count)) ⌝ }
 {
-    let mut sum: u32 = 0;
+    let end = y.count + 2;
     let mut k: u32 = 2;
-    let mut left = y.count;
-    while 0 < left {
+    let mut left = n;
+    while k < end {
+        if left == 0 {
+            return true;
+        }
         let next = k + 1;
         if metadata::usable::usable(vol, map, y, k) {
-            sum += 1;
             k = next;
             left -= 1;
         } else {
-            k = next;
-            left -= 1;
+            k = metadata::bitmap::past_full(vol, y, next, end - next);
         }
     }
-    sum
+    left == 0
 }
 
 // The choice of n clusters for a search that starts at start (Rust: `free_run`, `free_list`).
@@ -98,10 +123,10 @@ pub fn choose_clusters(vol: &[u8], map: &[u8], y: Layout, start: u32, n: u32) ->
         }
         Found::Nothing => {}
     }
-    if usable_count(vol, map, y) < n {
-        return Choice::TooFew;
+    if enough(vol, map, y, n as u64) {
+        return Choice::Scattered;
     }
-    Choice::Scattered
+    Choice::TooFew
 }
 
 // The first usable cluster from start on, then from 2; 0 where there is none.

@@ -32,10 +32,10 @@ fn more_cause(vol: &[u8], map: &[u8], y: Layout, a: Allocation, n: u32) -> u32
     if number != 0 {
         return number;
     }
-    if write_alloc::choice::usable_count(vol, map, y) < n {
-        return 7;
+    if write_alloc::choice::enough(vol, map, y, n as u64) {
+        return 0;
     }
-    0
+    7
 }
 
 // Whether the next n clusters of a run are usable (Rust: `run_is_free`).

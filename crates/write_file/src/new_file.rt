@@ -16,7 +16,7 @@ use stream::allocation::Allocation;
 use write_dir::answer::FileAnswer;
 use write_dir::entries::Room;
 
-// What refuses n more clusters: 7. The usable ones are counted only where some are wanted.
+// What refuses n more clusters: 7. The usable ones are searched only where some are wanted.
 fn space_cause(vol: &[u8], map: &[u8], y: Layout, n: u32) -> u32
     requires { ⌜ Laid y × ((length (now vol) ≡ y .len) × (y .count ≤ 8 * length (now map))) ⌝ }
     ensures { λ r. ⌜ r ≡ spaceCause n (count (isUsable y (now (vol .entry)) (now (map .entry))) 2 (y .count)) ⌝ }
@@ -24,10 +24,10 @@ fn space_cause(vol: &[u8], map: &[u8], y: Layout, n: u32) -> u32
     if n == 0 {
         return 0;
     }
-    if write_alloc::choice::usable_count(vol, map, y) < n {
-        return 7;
+    if write_alloc::choice::enough(vol, map, y, n as u64) {
+        return 0;
     }
-    0
+    7
 }
 
 // Stores a set of n entries in a directory where there is room for it, the directory grown first (Rust: `insert`).

@@ -28,7 +28,7 @@ pub fn entries_of(set: &[u8; 608]) -> usize
     1 + entry_set::entry::secondary_count(set)
 }
 
-// What refuses a length: more clusters are missing than are usable. They are counted only where some are missing.
+// What refuses a length: more clusters are missing than are usable. They are searched only where some are missing.
 pub fn length_cause(vol: &[u8], map: &[u8], y: Layout, b: Allocation, len: u64) -> u32
     requires { ⌜ Laid y × ((length (now vol) ≡ y .len) × (y .count ≤ 8 * length (now map))) ⌝ }
     ensures { λ r. ⌜ r ≡ lengthCause y (now (vol .entry)) (now (map .entry)) b len ⌝ }
@@ -38,11 +38,10 @@ pub fn length_cause(vol: &[u8], map: &[u8], y: Layout, b: Allocation, len: u64) 
     if needed <= there {
         return 0;
     }
-    let usable = write_alloc::choice::usable_count(vol, map, y);
-    if (usable as u64) < needed - there {
-        return 7;
+    if write_alloc::choice::enough(vol, map, y, needed - there) {
+        return 0;
     }
-    0
+    7
 }
 
 // The clusters that a stream must add for a length.

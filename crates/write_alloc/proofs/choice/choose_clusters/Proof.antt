@@ -1,7 +1,7 @@
 use mathlib.Core.Path.{sym}
-use native.Mathlib.Omega.{arith}
 use Rattle.write_alloc.proofs.Runs.{choose-after, choose-lowest, choose-few, choose-scattered}
 use borrow.Author.Needs.{needs}
+use borrow.Author.Tests.{leb-true, leb-false}
 use Rattle.write_alloc.proofs.choice.choose_clusters.Statement.{statement}
 use Rattle.write_alloc.proofs.choice.choose_clusters.Tie as tie
 
@@ -29,14 +29,14 @@ returns-2 c = sym (choose-lowest _ _ _ _ _ (cc) (cc))
 enum-told-2 : tie.Need-enum-told-2
 enum-told-2 c = search needs
 
-usable-count-requires : tie.Need-usable-count-requires
-usable-count-requires c κs = search needs
+enough-requires : tie.Need-enough-requires
+enough-requires c κs = search needs
 
 returns-3 : tie.Need-returns-3
-returns-3 c = sym (choose-few _ _ _ _ (cc) (cc) (omega arith))
+returns-3 c = sym (choose-scattered _ _ _ _ (cc) (cc) (leb-true _ _ (cc)))
 
 returns-4 : tie.Need-returns-4
-returns-4 c = sym (choose-scattered _ _ _ _ (cc) (cc) (omega arith))
+returns-4 c = sym (choose-few _ _ _ _ (cc) (cc) (leb-false _ _ (cc)))
 
 pub choose-clusters-spec : {M : Type 1} → statement M
 choose-clusters-spec =
@@ -50,6 +50,6 @@ choose-clusters-spec =
     enum-known-lowest
     returns-2
     enum-told-2
-    usable-count-requires
+    enough-requires
     returns-3
     returns-4)

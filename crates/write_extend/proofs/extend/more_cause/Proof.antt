@@ -2,6 +2,7 @@ use mathlib.Core.Path.{sym, _∙_}
 use native.Mathlib.Omega.{arith}
 use Rattle.write_extend.proofs.ExtendLaws.{more-heap, more-free, more-record, more-few, more-none}
 use borrow.Author.Needs.{needs}
+use borrow.Author.Tests.{leb-true, leb-false}
 use Rattle.write_extend.proofs.extend.more_cause.Statement.{statement}
 use Rattle.write_extend.proofs.extend.more_cause.Tie as tie
 
@@ -29,14 +30,14 @@ stream-cause-requires c κs = search needs
 returns-3 : tie.Need-returns-3
 returns-3 c = sym (more-record _ _ _ _ _ _ (omega arith) (omega arith) (c .before .stream-cause .ensures) (λ z. omega arith))
 
-usable-count-requires : tie.Need-usable-count-requires
-usable-count-requires c κs = search needs
+enough-requires : tie.Need-enough-requires
+enough-requires c κs = search needs
 
 returns-4 : tie.Need-returns-4
-returns-4 c = sym (more-few _ _ _ _ _ (c .before .before .before .stream-cause .result) (omega arith) (omega arith) (c .before .before .before .stream-cause .ensures) (omega arith) (omega arith))
+returns-4 c = sym (more-none _ _ _ _ _ (c .before .before .before .stream-cause .result) (omega arith) (omega arith) (c .before .before .before .stream-cause .ensures) (omega arith) (leb-true _ _ (cc)))
 
 returns-5 : tie.Need-returns-5
-returns-5 c = sym (more-none _ _ _ _ _ (c .before .before .before .stream-cause .result) (omega arith) (omega arith) (c .before .before .before .stream-cause .ensures) (omega arith) (omega arith))
+returns-5 c = sym (more-few _ _ _ _ _ (c .before .before .before .stream-cause .result) (omega arith) (omega arith) (c .before .before .before .stream-cause .ensures) (omega arith) (leb-false _ _ (cc)))
 
 pub more-cause-spec : {M : Type 1} → statement M
 more-cause-spec =
@@ -50,6 +51,6 @@ more-cause-spec =
     returns-2
     stream-cause-requires
     returns-3
-    usable-count-requires
+    enough-requires
     returns-4
     returns-5)

@@ -2,6 +2,7 @@ use mathlib.Core.Path.{_≡_, sym, _∙_, refl, ap}
 use native.Mathlib.Omega.{arith}
 use Rattle.write_file.proofs.RefreshLaws.{length-met, length-kept}
 use borrow.Author.Needs.{needs}
+use borrow.Author.Tests.{leb-true, leb-false}
 use Rattle.write_file.proofs.refresh.length_cause.Statement.{statement}
 use Rattle.write_file.proofs.refresh.length_cause.Tie as tie
 
@@ -14,20 +15,17 @@ cast-there c = search needs
 returns : tie.Need-returns
 returns c = sym (length-kept _ _ _ _ _ (omega arith))
 
-usable-count-requires : tie.Need-usable-count-requires
-usable-count-requires c κs = search needs
+sub-enough : tie.Need-sub-enough
+sub-enough c = search needs
 
-cast-if2 : tie.Need-cast-if2
-cast-if2 c = search needs
-
-sub-if2 : tie.Need-sub-if2
-sub-if2 c = search needs
+enough-requires : tie.Need-enough-requires
+enough-requires c κs = search needs
 
 returns-2 : tie.Need-returns-2
-returns-2 c = sym (length-met _ _ _ _ _ (omega arith))
+returns-2 c = sym (length-kept _ _ _ _ _ (omega (arith, leb-true _ _ (sym (c .before .enough .ensures) ∙ c .if2 .taken))))
 
 returns-3 : tie.Need-returns-3
-returns-3 c = sym (length-kept _ _ _ _ _ (omega arith))
+returns-3 c = sym (length-met _ _ _ _ _ (omega (arith, leb-false _ _ (sym (c .before .enough .ensures) ∙ c .if2 .left))))
 
 pub length-cause-spec : {M : Type 1} → statement M
 length-cause-spec =
@@ -36,8 +34,7 @@ length-cause-spec =
     clusters-for-requires
     cast-there
     returns
-    usable-count-requires
-    cast-if2
-    sub-if2
+    sub-enough
+    enough-requires
     returns-2
     returns-3)
