@@ -22,6 +22,22 @@ enough-left n left found e =
       | no z ↦ ne-eqb left 0 z ∙ sym (lt-leb n found (omega arith))
     ]
 
+lesser-left : (a b : ℕ) → a ≤ b → a - (a - b) ≡ a
+lesser-left a b h = omega arith
+
+lesser-right : (a b : ℕ) → b ≤ a → a - (a - b) ≡ b
+lesser-right a b h = omega arith
+
+-- the starts from 2 on are those before s and those from s on
+starts : (end n s : ℕ) → 2 ≤ s → s + n ≤ end + 1 → end + 1 - (n + 2) ≡ s - 2 + (end + 1 - (n + s))
+starts end n s l h = omega arith
+
+starts-from : (s : ℕ) → 2 ≤ s → 2 + (s - 2) ≡ s
+starts-from s l = omega arith
+
+starts-below : (n s : ℕ) → 2 ≤ s → 1 ≤ n → s + n - 1 + 1 - (n + 2) ≡ s - 2
+starts-below n s l h = omega arith
+
 module _ (u : ℕ → Bool) where
   -- ---- all of a run
 
@@ -131,6 +147,18 @@ module _ (u : ℕ → Bool) where
   first-step n zero s e = refl
   first-step n (suc tries) s e = rw (e, sub-one) refl
 
+  -- where no start of the last b tries is found, the first a decide
+  first-cut : (n a b s : ℕ) → firstRun u n b (s + a) ≡ Nothing → firstRun u n (a + b) s ≡ firstRun u n a s
+  unfolding firstRun
+  first-cut n zero b s e =
+      let p : zero + b ≡ b = omega arith in
+      let q : s ≡ s + zero = omega arith in
+      rw p (ap (firstRun u n b) q ∙ e)
+  first-cut n (suc a) b s e =
+      let p : suc a + b ≡ suc (a + b) = omega arith in
+      let q : s + 1 + a ≡ s + suc a = omega arith in
+      rw (p, first-cut n a b (s + 1) (ap (firstRun u n b) q ∙ e)) refl
+
   module _ (end n : ℕ) where
     pub run-hit : (s : ℕ) → s + n ≤ end → allFrom u s n ≡ true → runFrom u end n s ≡ At s
     unfolding runFrom
@@ -141,6 +169,22 @@ module _ (u : ℕ → Bool) where
     pub run-none : (s : ℕ) → end < s + n → runFrom u end n s ≡ Nothing
     unfolding runFrom firstRun
     run-none s h = let q : end + 1 - (n + s) ≡ zero = omega arith in rw q refl
+
+    run-low : (s : ℕ) → 2 ≤ s → 1 ≤ n → s + n ≤ end + 1 → runFrom u end n s ≡ Nothing → runFrom u (s + n - 1) n 2 ≡ runFrom u end n 2
+    unfolding runFrom
+    run-low s l h w e =
+        ap (λ (x : ℕ). firstRun u n x 2) (starts-below n s l h)
+        ∙ sym
+        (ap (λ (x : ℕ). firstRun u n x 2) (starts end n s l w)
+        ∙ first-cut n (s - 2) (end + 1 - (n + s)) 2 (ap (firstRun u n (end + 1 - (n + s))) (starts-from s l) ∙ e))
+
+    -- no run starts at or after s: the search of the whole may end where one that starts before s does
+    pub run-before : (s : ℕ) → 2 ≤ s → 1 ≤ n → runFrom u end n s ≡ Nothing → runFrom u (end - (end - (s + n - 1))) n 2 ≡ runFrom u end n 2
+    run-before s l h e =
+        elim (decLt end (s + n - 1)) [
+          | yes w ↦ ap (λ (x : ℕ). runFrom u x n 2) (lesser-left end (s + n - 1) (omega arith))
+          | no w ↦ ap (λ (x : ℕ). runFrom u x n 2) (lesser-right end (s + n - 1) (omega arith)) ∙ run-low s l h (omega arith) e
+        ]
 
     run-step : (s : ℕ) → allFrom u s n ≡ false → runFrom u end n s ≡ runFrom u end n (s + 1)
     unfolding runFrom

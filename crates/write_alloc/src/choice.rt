@@ -5,6 +5,7 @@ ghost use lib.Dec.{leb};
 ghost use lib.ListN.{length};
 ghost use Rattle.tables.specs.Count.{count};
 ghost use Rattle.boot.specs.Layout.{Laid};
+ghost use Rattle.metadata.specs.declared.usable.Found.the-variants.{Nothing};
 ghost use Rattle.metadata.specs.Usable.{isUsable};
 ghost use Rattle.write_alloc.specs.Choice.{allFrom, usableTail, runFrom, choose, firstUsable};
 use boot::layout::Layout;
@@ -52,13 +53,12 @@ fn usable_tail(vol: &[u8], map: &[u8], y: Layout, low: u32, n: u32) -> u32
     low
 }
 
-// The lowest run of n usable clusters that starts at or after start (Rust: the closure `scan` of `free_run`).
+// The lowest run of n usable clusters from start to end (Rust: the closure `scan` of `free_run`).
 // Each window of n clusters is tested from its end, and no cluster twice: no run starts before base, and those from base to good are usable.
-fn scan(vol: &[u8], map: &[u8], y: Layout, start: u32, n: u32) -> Found
-    requires { ⌜ Laid y × ((length (now vol) ≡ y .len) × ((y .count ≤ 8 * length (now map)) × ((2 ≤ start) × (1 ≤ n)))) ⌝ }
-    ensures { λ r. ⌜ r ≡ runFrom (isUsable y (now (vol .entry)) (now (map .entry))) (y .count + 2) n start ⌝ }
+fn scan(vol: &[u8], map: &[u8], y: Layout, start: u32, end: u32, n: u32) -> Found
+    requires { ⌜ Laid y × ((length (now vol) ≡ y .len) × ((y .count ≤ 8 * length (now map)) × ((2 ≤ start) × ((end ≤ y .count + 2) × (1 ≤ n))))) ⌝ }
+    ensures { λ r. ⌜ r ≡ runFrom (isUsable y (now (vol .entry)) (now (map .entry))) end n start ⌝ }
 {
-    let end = y.count + 2;
     if end < start {
         return Found::Nothing;
     }
@@ -104,19 +104,42 @@ pub fn enough(vol: &[u8], map: &[u8], y: Layout, n: u64) -> bool
     left == 0
 }
 
+// Where the search of the whole heap may end: a run that starts at or after start was looked for.
+fn wrap_end(start: u32, end: u32, n: u32) -> u32
+    requires { ⌜ (1 ≤ n) × (end ≤ 65536) ⌝ }
+    ensures { λ r. ⌜ r ≡ end - (end - (start + n - 1)) ⌝ }
+{
+    if end <= start {
+        return end;
+    }
+    if end - start < n {
+        return end;
+    }
+    start + (n - 1)
+}
+
+// The lowest run of n usable clusters where none starts at or after start: those that start there are not tested again.
+fn scan_before(vol: &[u8], map: &[u8], y: Layout, start: u32, n: u32) -> Found
+    requires { ⌜ Laid y × ((length (now vol) ≡ y .len) × ((y .count ≤ 8 * length (now map)) × ((2 ≤ start) × ((1 ≤ n) × (runFrom (isUsable y (now vol) (now map)) (y .count + 2) n start ≡ Nothing))))) ⌝ }
+    ensures { λ r. ⌜ r ≡ runFrom (isUsable y (now (vol .entry)) (now (map .entry))) (y .count + 2) n 2 ⌝ }
+{
+    let end = wrap_end(start, y.count + 2, n);
+    scan(vol, map, y, 2, end, n)
+}
+
 // The choice of n clusters for a search that starts at start (Rust: `free_run`, `free_list`).
 pub fn choose_clusters(vol: &[u8], map: &[u8], y: Layout, start: u32, n: u32) -> Choice
     requires { ⌜ Laid y × ((length (now vol) ≡ y .len) × ((y .count ≤ 8 * length (now map)) × ((2 ≤ start) × (1 ≤ n)))) ⌝ }
     ensures { λ r. ⌜ r ≡ choose (isUsable y (now (vol .entry)) (now (map .entry))) (y .count) n start ⌝ }
 {
-    let after = scan(vol, map, y, start, n);
+    let after = scan(vol, map, y, start, y.count + 2, n);
     match after {
         Found::At(k) => {
             return Choice::Run(k);
         }
         Found::Nothing => {}
     }
-    let lowest = scan(vol, map, y, 2, n);
+    let lowest = scan_before(vol, map, y, start, n);
     match lowest {
         Found::At(k) => {
             return Choice::Run(k);

@@ -5,6 +5,9 @@ use borrow.Author.Tests.{leb-true, leb-false}
 use Rattle.write_alloc.proofs.choice.choose_clusters.Statement.{statement}
 use Rattle.write_alloc.proofs.choice.choose_clusters.Tie as tie
 
+add-scan : tie.Need-add-scan
+add-scan c = search needs
+
 scan-requires : tie.Need-scan-requires
 scan-requires c κs = search needs
 
@@ -17,8 +20,10 @@ returns c = sym (choose-after _ _ _ _ _ (cc))
 enum-told : tie.Need-enum-told
 enum-told c = search needs
 
-scan-requires-2 : tie.Need-scan-requires-2
-scan-requires-2 c κs = search needs
+scan-before-requires : tie.Need-scan-before-requires
+scan-before-requires c κs =
+    let p = c .before .before .before .before .before .before .pre in
+    (p .0, (p .1 .0, (p .1 .1 .0, (p .1 .1 .1 .0, (p .1 .1 .1 .1, cc)))))
 
 enum-known-lowest : tie.Need-enum-known-lowest
 enum-known-lowest c = search needs
@@ -42,11 +47,12 @@ pub choose-clusters-spec : {M : Type 1} → statement M
 choose-clusters-spec =
     tie.close
     (tie.spec
+    add-scan
     scan-requires
     enum-known-after
     returns
     enum-told
-    scan-requires-2
+    scan-before-requires
     enum-known-lowest
     returns-2
     enum-told-2

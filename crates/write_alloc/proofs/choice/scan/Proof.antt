@@ -11,13 +11,10 @@ use Rattle.write_alloc.proofs.choice.scan.Statement.{statement}
 use Rattle.write_alloc.proofs.choice.scan.Tie as tie
 
 abbrev Inv-loop : tie.InvT-loop
-Inv-loop vol map y start n end base₀ good₀ base good = (2 ≤ base) × ((base ≤ good) × ((good < base + n) × ((good ≤ end) × ((allFrom (isUsable y vol map) base (good - base) ≡ true) × (runFrom (isUsable y vol map) end n base ≡ runFrom (isUsable y vol map) end n start)))))
+Inv-loop vol map y start end n base₀ good₀ base good = (2 ≤ base) × ((base ≤ good) × ((good < base + n) × ((good ≤ end) × ((allFrom (isUsable y vol map) base (good - base) ≡ true) × (runFrom (isUsable y vol map) end n base ≡ runFrom (isUsable y vol map) end n start)))))
 
 abbrev μ-loop : tie.MeasureT-loop
-μ-loop vol map y start n end base₀ good₀ base good = end - base
-
-add-end : tie.Need-add-end Inv-loop μ-loop
-add-end c = search needs
+μ-loop vol map y start end n base₀ good₀ base good = end - base
 
 returns : tie.Need-returns Inv-loop μ-loop
 returns c = sym (run-none _ _ _ _ (omega arith))
@@ -54,7 +51,7 @@ loop-less c = search needs
 
 loop-again : tie.Need-loop-again Inv-loop μ-loop
 loop-again c =
-    let a = c .before .before .before .before .before .before .before .before .before .before .args in
+    let a = c .before .before .before .before .before .before .before .before .before .args in
     let l = c .before .before .before .before .before .loop in
     let t = c .before .before .before .usable-tail in (
       omega arith,
@@ -68,7 +65,7 @@ loop-again c =
               all-none _ _ _ (omega arith),
               window-beyond _ _ _ (l .base) (l .good) (t .result) (omega arith) (omega arith) (l .inv .1 .1 .1 .1 .0) (t .ensures .0)
                   (c .past-full .result) (omega arith) (λ z. omega arith) (omega arith) (omega arith)
-                  (λ j i b. full-unusable (a .y) (a .vol .now) (a .map .now) (l .base + a .n) (a .y .count + 2 - (l .base + a .n)) j (omega arith) i (omega arith))
+                  (λ j i b. full-unusable (a .y) (a .vol .now) (a .map .now) (l .base + a .n) (a .end - (l .base + a .n)) j (omega arith) i (omega arith))
                   ∙ l .inv .1 .1 .1 .1 .1,
             ),
           ),
@@ -109,7 +106,6 @@ scan-spec =
     (tie.spec
     Inv-loop
     μ-loop
-    add-end
     returns
     loop-holds
     sub-loop
