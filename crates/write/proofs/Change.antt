@@ -34,9 +34,10 @@ use Rattle.write_dir.proofs.StoreLaws.{sets-file, sets-none}
 use Rattle.write.specs.Consistent.{Consistent, lay, root, rootClusters, rootBytes, fileAt, setOf, streamAt, fileClusters}
 use Rattle.write.specs.Contents.{shown, hasFile, contents}
 use Rattle.write.specs.Space.{lengthTakes, sum, clustersTaken}
-use Rattle.write.proofs.Family.{Family}
+use Rattle.write.specs.Demand.{Lost}
+use Rattle.write.proofs.Family.{Family, Outside, Untouched}
 use Rattle.write.proofs.Records.{record-same}
-use Rattle.write.proofs.Scene.{clear-stream, clear-directory, lay-same, ordered, slot-number, slot-off}
+use Rattle.write.proofs.Scene.{clear-stream, clear-directory, lay-same, members, ordered, slot-number, slot-off, lost-outside}
 
 -- the clusters that the length of a slot's set takes, and the contents that the set shows
 unfoldable pub takes : Layout → Option (List ℕ) → ℕ
@@ -66,6 +67,9 @@ pub record Change (g : Geometry) (m d d′ : List ℕ) (i : ℕ) (o : Option (Li
   pub others-bytes : (j : ℕ) (s : List ℕ) → j ≢ i → sets (rootBytes g d) j ≡ some s
       → bytesIn (lay g d) d′ (fileRecord (lay g d) d s) ≡ bytesIn (lay g d) d (fileRecord (lay g d) d s)
   pub own-off-map : (s : List ℕ) → o ≡ some s → (k : ℕ) → Mem k (clustersIn (lay g d) d′ (fileRecord (lay g d) d′ s)) → inMap m k ≡ false
+  -- marked clusters of no stream
+  pub untouched : (k : ℕ) → Outside (lay g d) d (members g d) k → Untouched (lay g d) d d′ k
+  pub outside : (k : ℕ) → Outside (lay g d) d (members g d) k → Outside (lay g d) d′ S′ k
   pub marks : markedCount (lay g d) d′ + (takes (lay g d) (sets (rootBytes g d) i) + length (rootClusters g d))
       ≡ markedCount (lay g d) d + (takes (lay g d) o + length (clustersIn (lay g d) d′ after))
 
@@ -135,6 +139,18 @@ standing-consistent g m d S l w = record {
 
     member : (i : ℕ) → isFile bs i ≡ true → S (suc i) ≡ some (file i)
     member i e = w .others i (setAt bs i) (sets-file bs i e)
+
+-- and a marked cluster of none of them is of no stream
+standing-lost : (g : Geometry) (m d : List ℕ) (S : ℕ → Option Allocation) → Standing g m d S (lay g d) → (k : ℕ) → Outside (lay g d) d S k → Lost g d k
+unfolding root rootClusters rootBytes fileAt setOf streamAt fileClusters
+standing-lost g m d S w k l = record {
+  heap = l .heap;
+  mark = l .mark;
+  off-root = l .off 0 (rootRecord (lay g d) d (rootCluster g)) (w .first);
+  off-files = λ i e.
+      let bs = bytesIn (lay g d) d (rootRecord (lay g d) d (rootCluster g)) in
+      l .off (suc i) (fileRecord (lay g d) d (setAt bs i)) (w .others i (setAt bs i) (sets-file bs i e));
+}
 
 -- ---- contents and lengths, by the table of sets
 
@@ -232,10 +248,20 @@ module _ (g : Geometry) (m d d′ : List ℕ) (i : ℕ) (o : Option (List ℕ)) 
     off-map = λ j s e. each (λ _ a k. (x : ℕ) → Mem x (clustersIn (lay g d) d′ a) → inMap m x ≡ false) (h .own-off-map) others-off j s (sym (back j) ∙ e);
   }
 
+  stands-there : Standing g m d′ (h .S′) (lay g d′)
+  stands-there = subst (Standing g m d′ (h .S′)) (sym same-lay) stands
+
   pub change-consistent : Consistent g m d′
-  change-consistent =
-      standing-consistent g m d′ (h .S′) (ap (λ (x : ℕ). limits g x m) (h .long) ∙ c .limits-hold)
-      (subst (Standing g m d′ (h .S′)) (sym same-lay) stands)
+  change-consistent = standing-consistent g m d′ (h .S′) (ap (λ (x : ℕ). limits g x m) (h .long) ∙ c .limits-hold) stands-there
+
+  -- marked clusters of no stream
+  pub change-untouched : (k : ℕ) → Lost g d k → Untouched (lay g d) d d′ k
+  change-untouched k l = h .untouched k (lost-outside g m d c k l)
+
+  pub change-lost : (k : ℕ) → Lost g d k → Lost g d′ k
+  change-lost k l =
+      standing-lost g m d′ (h .S′) stands-there k
+      (subst (λ (y : Layout). Outside y d′ (h .S′) k) (sym same-lay) (h .outside k (lost-outside g m d c k l)))
 
   -- the root afterwards
   pub change-root : root g d′ ≡ h .after

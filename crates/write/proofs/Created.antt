@@ -43,7 +43,7 @@ use Rattle.write.specs.Model.{accepted}
 use Rattle.write.specs.Demand as demand
 use Rattle.write.proofs.Shown.{shown-empty}
 use Rattle.write.proofs.Reading.{reads-as, bytes-length, clusters-length, root-back}
-use Rattle.write.proofs.Family.{Moved, Stored, same-clusters, out-of-empty, empty-clusters, empty-bytes, family-add, moved-again, store-member}
+use Rattle.write.proofs.Family.{Moved, Stored, untouched-same, same-clusters, out-of-empty, empty-clusters, empty-bytes, family-add, outside-add, moved-again, store-member}
 use Rattle.write.proofs.Zeroed.{Wider, grow-member}
 use Rattle.write.proofs.Scene.{first-clear, both-clear, if-clear, mapped, root-first, root-chain, root-some, members, member-root, fits, size-per, per-low, root-count, ordered, family}
 use Rattle.write.proofs.Change.{Change, takes, contentsOf, contents-is}
@@ -207,6 +207,8 @@ module _ (g : Geometry) (m d : List ℕ) (c : Consistent g m d) (name : List ℕ
       family = family-add y d₂ T (suc at) empty refl (moved₂ .family);
       streams = λ _ _ _ _. refl;
       bytes = λ _ _ _ _. refl;
+      untouched = λ k _. untouched-same y d₂ k;
+      outside = outside-add y d₂ T (suc at) empty refl;
     }
 
     change : Change g m d d₂ at (some x)

@@ -2,7 +2,7 @@
 -- others. Assumes nothing.
 use mathlib.Core.Path.{_≡_, refl, sym, _∙_, ap, subst}
 use mathlib.Core.Logic.{_≢_, _⊎_, inl, inr, ⊎-elim}
-use mathlib.Core.Bool.{true}
+use mathlib.Core.Bool.{true, false, not}
 use mathlib.Core.List.{[], List, _∷_}
 use mathlib.Core.Option.{Option, none, some}
 use Prim.Native.Nat.{ℕ, _+_, _-_, _*_, _≤_}
@@ -18,7 +18,8 @@ use Rattle.tables.proofs.TableLaws.{upd-same, upd-other}
 use Rattle.tables.proofs.ListLaws.{every-mem}
 use Rattle.tables.proofs.CountLaws.{count-cong}
 use Rattle.boot.specs.declared.layout.Layout.{Layout}
-use Rattle.boot.specs.Layout.{inHeap}
+use Rattle.boot.specs.Layout.{inHeap, isBitmapCluster}
+use Rattle.boot.proofs.Tests.{and-both}
 use Rattle.boot.proofs.Apart.{in-heap, heap-in}
 use Rattle.metadata.specs.Fat.{fatEntry}
 use Rattle.metadata.specs.Marks.{marked}
@@ -30,9 +31,9 @@ use Rattle.stream.specs.declared.allocation.Allocation.{Allocation}
 use Rattle.stream.specs.Chain.{listed}
 use Rattle.stream.specs.Stream.{numberOf, streamOf}
 use Rattle.stream.specs.Listing.{clustersOf}
-use Rattle.stream.specs.Bytes.{bytesOf, storeAt}
+use Rattle.stream.specs.Bytes.{clusterBytes, bytesOf, storeAt}
 use Rattle.stream.proofs.Distinct.{stream-frame}
-use Rattle.stream.proofs.BytesLaws.{length-store, fat-store, mark-store, bytes-store-apart, bytes-store}
+use Rattle.stream.proofs.BytesLaws.{length-store, fat-store, mark-store, cluster-store, bytes-store-apart, bytes-store}
 use Rattle.write_alloc.proofs.GrowLaws.{small}
 use Rattle.write_dir.specs.Directory.{clustersIn, bytesIn}
 use Rattle.write.proofs.Reading.{clusters-of, number-of, reads-as, empty-reads, clusters-heap, clusters-distinct}
@@ -43,12 +44,26 @@ pub record Family (y : Layout) (d : List ℕ) (S : ℕ → Option Allocation) : 
   pub plains : (i : ℕ) (a : Allocation) → S i ≡ some a → every (plain y) (clustersIn y d a) ≡ true
   pub apart : (i j : ℕ) (a b : Allocation) → i ≢ j → S i ≡ some a → S j ≡ some b → (k : ℕ) → Mem k (clustersIn y d a) → Mem k (clustersIn y d b) → ⊥
 
--- d′ is d with member i changed to o, the others as they were
+-- cluster k is marked and of no member
+pub record Outside (y : Layout) (d : List ℕ) (S : ℕ → Option Allocation) (k : ℕ) : Type 0 where
+  pub heap : inHeap (y .count) k ≡ true
+  pub mark : marked y d k ≡ true
+  pub off : (j : ℕ) (a : Allocation) → S j ≡ some a → Mem k (clustersIn y d a) → ⊥
+
+-- cluster k is as it was: its mark, its FAT entry and, unless it is a bitmap's, its bytes
+pub record Untouched (y : Layout) (d d′ : List ℕ) (k : ℕ) : Type 0 where
+  pub mark : marked y d′ k ≡ marked y d k
+  pub entry : fatEntry y d′ k ≡ fatEntry y d k
+  pub bytes : isBitmapCluster y k ≡ false → clusterBytes y d′ k ≡ clusterBytes y d k
+
+-- d′ is d with member i changed to o, the others as they were, and marked clusters of none too
 pub record Moved (y : Layout) (d d′ : List ℕ) (S : ℕ → Option Allocation) (i : ℕ) (o : Option Allocation) : Type 0 where
   pub long : length d′ ≡ length d
   pub family : Family y d′ (upd S i o)
   pub streams : (j : ℕ) (a : Allocation) → j ≢ i → S j ≡ some a → streamOf y d′ a ≡ streamOf y d a
   pub bytes : (j : ℕ) (a : Allocation) → j ≢ i → S j ≡ some a → bytesIn y d′ a ≡ bytesIn y d a
+  pub untouched : (k : ℕ) → Outside y d S k → Untouched y d d′ k
+  pub outside : (k : ℕ) → Outside y d S k → Outside y d′ (upd S i o) k
 
 -- the clusters depend on what the record reads as alone
 pub same-clusters : (y : Layout) (d d′ : List ℕ) (a : Allocation) → streamOf y d′ a ≡ streamOf y d a → clustersIn y d′ a ≡ clustersIn y d a
@@ -59,6 +74,28 @@ same-clusters y d d′ a e = ap clustersOf e
 pub moved-clusters : (y : Layout) (d d′ : List ℕ) (S : ℕ → Option Allocation) (i : ℕ) (o : Option Allocation) → Moved y d d′ S i o
     → (j : ℕ) (a : Allocation) → j ≢ i → S j ≡ some a → clustersIn y d′ a ≡ clustersIn y d a
 moved-clusters y d d′ S i o v j a n s = same-clusters y d d′ a (v .streams j a n s)
+
+-- ---- marked clusters of no member
+
+pub untouched-same : (y : Layout) (d : List ℕ) (k : ℕ) → Untouched y d d k
+untouched-same y d k = record { mark = refl; entry = refl; bytes = λ _. refl }
+
+pub untouched-again : (y : Layout) (d e d′ : List ℕ) (k : ℕ) → Untouched y d e k → Untouched y e d′ k → Untouched y d d′ k
+untouched-again y d e d′ k v u = record {
+  mark = u .mark ∙ v .mark;
+  entry = u .entry ∙ v .entry;
+  bytes = λ o. u .bytes o ∙ v .bytes o;
+}
+
+-- a cluster of the heap that is no bitmap's
+pub plain-at : (y : Layout) (k : ℕ) → inHeap (y .count) k ≡ true → isBitmapCluster y k ≡ false → plain y k ≡ true
+unfolding plain
+plain-at y k h o = and-both (inHeap (y .count) k) (not (isBitmapCluster y k)) h (ap not o)
+
+-- a table with no other members
+pub outside-less : (y : Layout) (d : List ℕ) (S T : ℕ → Option Allocation) (k : ℕ) → ((j : ℕ) (a : Allocation) → T j ≡ some a → S j ≡ some a)
+    → Outside y d S k → Outside y d T k
+outside-less y d S T k h l = record { heap = l .heap; mark = l .mark; off = λ j a e. l .off j a (h j a e) }
 
 -- ---- members of a changed table
 
@@ -137,18 +174,31 @@ family-add y d S i a z f =
     (number-of y d a [] (empty-reads y d a z)) (ap (every (plain y)) e ∙ (unfold every in refl))
     (λ j b n s k m. absurd (out-of-empty (clustersIn y d a) e m))
 
+-- what it leaves outside
+pub outside-add : (y : Layout) (d : List ℕ) (S : ℕ → Option Allocation) (i : ℕ) (a : Allocation) → a .count ≡ 0 → (k : ℕ) → Outside y d S k
+    → Outside y d (upd S i (some a)) k
+outside-add y d S i a z k l = record {
+  heap = l .heap;
+  mark = l .mark;
+  off = λ j b e.
+      ⊎-elim (λ q p. out-of-empty (clustersIn y d b) (empty-clusters y d b (ap (λ (x : Allocation). x .count) (sym (q .1)) ∙ z)) p) (λ q. l .off j b (q .1))
+      (new-member S i a j b e);
+}
+
 -- ---- a member changed
 
 module _ (y : Layout) (d d′ : List ℕ) (S : ℕ → Option Allocation) (i : ℕ) (f : Family y d S) (long : length d′ ≡ length d)
     (streams : (j : ℕ) (b : Allocation) → j ≢ i → S j ≡ some b → streamOf y d′ b ≡ streamOf y d b)
-    (bytes : (j : ℕ) (b : Allocation) → j ≢ i → S j ≡ some b → bytesOf y d′ (clustersIn y d b) ≡ bytesOf y d (clustersIn y d b)) where
+    (bytes : (j : ℕ) (b : Allocation) → j ≢ i → S j ≡ some b → bytesOf y d′ (clustersIn y d b) ≡ bytesOf y d (clustersIn y d b))
+    (untouched : (k : ℕ) → Outside y d S k → Untouched y d d′ k) where
   kept : (j : ℕ) (b : Allocation) → j ≢ i → S j ≡ some b → clustersIn y d′ b ≡ clustersIn y d b
   kept j b n s = same-clusters y d d′ b (streams j b n s)
 
   pub moved : (a : Allocation) → numberOf (streamOf y d′ a) ≡ 0 → every (plain y) (clustersIn y d′ a) ≡ true
       → ((j : ℕ) (b : Allocation) → j ≢ i → S j ≡ some b → (k : ℕ) → Mem k (clustersIn y d′ a) → Mem k (clustersIn y d b) → ⊥)
+      → ((k : ℕ) → Outside y d S k → Mem k (clustersIn y d′ a) → ⊥)
       → Moved y d d′ S i (some a)
-  moved a own own-plain own-apart = record {
+  moved a own own-plain own-apart own-off = record {
     long = long;
     family = family-put y d′ S i a
         (λ j b n s. ap numberOf (streams j b n s) ∙ f .reads j b s)
@@ -158,6 +208,14 @@ module _ (y : Layout) (d d′ : List ℕ) (S : ℕ → Option Allocation) (i : �
         (λ j b n s k p q. own-apart j b n s k p (subst (Mem k) (kept j b n s) q));
     streams = streams;
     bytes = λ j b n s. unfold bytesIn in (ap (bytesOf y d′) (kept j b n s) ∙ bytes j b n s);
+    untouched = untouched;
+    outside = λ k l. record {
+      heap = l .heap;
+      mark = untouched k l .mark ∙ l .mark;
+      off = λ j b e.
+          ⊎-elim (λ q p. own-off k l (subst (λ (x : Allocation). Mem k (clustersIn y d′ x)) (sym (q .1)) p))
+          (λ q p. l .off j b (q .1) (subst (Mem k) (kept j b (q .0) (q .1)) p)) (new-member S i a j b e);
+    };
   }
 
 -- nothing changed
@@ -167,6 +225,8 @@ moved-same y d S i a f s = record {
   family = family-cong y d S (upd S i (some a)) same f;
   streams = λ _ _ _ _. refl;
   bytes = λ _ _ _ _. refl;
+  untouched = λ k _. untouched-same y d k;
+  outside = λ k. outside-less y d S (upd S i (some a)) k (λ j b e. sym (same j) ∙ e);
 }
   where
     same : (j : ℕ) → upd S i (some a) j ≡ S j
@@ -182,8 +242,6 @@ moved-drop y d d′ S i o v = record {
   long = v .long;
   family =
       let f = v .family in
-      let back : (j : ℕ) (b : Allocation) → upd S i none j ≡ some b → upd S i o j ≡ some b
-      = λ j b e. let r = none-member S i j b e in kept-member S i o j b (r .0) (r .1) in
       record {
         reads = λ j b e. f .reads j b (back j b e);
         plains = λ j b e. f .plains j b (back j b e);
@@ -191,7 +249,12 @@ moved-drop y d d′ S i o v = record {
       };
   streams = v .streams;
   bytes = v .bytes;
+  untouched = v .untouched;
+  outside = λ k l. outside-less y d′ (upd S i o) (upd S i none) k back (v .outside k l);
 }
+  where
+    back : (j : ℕ) (b : Allocation) → upd S i none j ≡ some b → upd S i o j ≡ some b
+    back j b e = let r = none-member S i j b e in kept-member S i o j b (r .0) (r .1)
 
 -- the same member changed twice
 pub moved-again : (y : Layout) (d e d′ : List ℕ) (S : ℕ → Option Allocation) (i : ℕ) (o o′ : Option Allocation)
@@ -201,6 +264,9 @@ moved-again y d e d′ S i o o′ v u = record {
   family = family-cong y d′ (upd (upd S i o) i o′) (upd S i o′) same (u .family);
   streams = λ j b n s. u .streams j b n (kept-member S i o j b n s) ∙ v .streams j b n s;
   bytes = λ j b n s. u .bytes j b n (kept-member S i o j b n s) ∙ v .bytes j b n s;
+  untouched = λ k l. untouched-again y d e d′ k (v .untouched k l) (u .untouched k (v .outside k l));
+  outside = λ k l.
+      outside-less y d′ (upd (upd S i o) i o′) (upd S i o′) k (λ j b q. sym (same j) ∙ q) (u .outside k (v .outside k l));
 }
   where
     same : (j : ℕ) → upd S i o′ j ≡ upd (upd S i o) i o′ j
@@ -260,10 +326,16 @@ module _ (y : Layout) (d : List ℕ) (w : Fits y d) (S : ℕ → Option Allocati
     moved = moved y d d₁ S i f (length-store y d w ks heap at bs)
         (λ j b n t. stream-same b (f .reads j b t))
         (λ j b n t. bytes-store-apart y d w ks heap at bs (clustersIn y d b) (clusters-heap y d b (f .reads j b t)) (λ k p q. f .apart j i b a n t s k p q))
+        (λ k l. record {
+          mark = mark-same k (l .heap);
+          entry = fat-same k (l .heap);
+          bytes = λ _. cluster-store y d w ks heap at bs k (l .heap) (l .off i a s);
+        })
         a
         (ap numberOf (stream-same a own) ∙ own)
         (ap (every (plain y)) clusters ∙ f .plains i a s)
-        (λ j b n t k p q. f .apart j i b a n t s k q (subst (Mem k) clusters p));
+        (λ j b n t k p q. f .apart j i b a n t s k q (subst (Mem k) clusters p))
+        (λ k l p. l .off i a s (subst (Mem k) clusters p));
     stream = stream-same a own;
     bytes =
         unfold bytesIn in

@@ -22,7 +22,7 @@ use Rattle.write_dir.specs.Entries.{sets}
 use Rattle.write_dir.specs.Open.{fileRecord}
 use Rattle.write_dir.proofs.OrderedLaws.{Ordered}
 use Rattle.write.specs.Consistent.{lay, rootClusters, rootBytes}
-use Rattle.write.proofs.Family.{Family, Moved}
+use Rattle.write.proofs.Family.{Family, Outside, Untouched, Moved, untouched-same, untouched-again}
 use Rattle.write.proofs.Scene.{members, member-file}
 use Rattle.write.proofs.Change.{takes, Change}
 
@@ -33,10 +33,20 @@ pub record Moves (y : Layout) (d d′ : List ℕ) (S S′ : ℕ → Option Alloc
   pub others : (j : ℕ) → j ≢ i → S′ (suc j) ≡ S (suc j)
   pub clusters : (j : ℕ) (a : Allocation) → j ≢ i → S (suc j) ≡ some a → streamOf y d′ a ≡ streamOf y d a
   pub bytes : (j : ℕ) (a : Allocation) → j ≢ i → S (suc j) ≡ some a → bytesIn y d′ a ≡ bytesIn y d a
+  pub untouched : (k : ℕ) → Outside y d S k → Untouched y d d′ k
+  pub outside : (k : ℕ) → Outside y d S k → Outside y d′ S′ k
 
 -- none yet
 pub moves-none : (y : Layout) (d : List ℕ) (S : ℕ → Option Allocation) (i : ℕ) → Family y d S → Moves y d d S S i
-moves-none y d S i f = record { long = refl; family = f; others = λ _ _. refl; clusters = λ _ _ _ _. refl; bytes = λ _ _ _ _. refl }
+moves-none y d S i f = record {
+  long = refl;
+  family = f;
+  others = λ _ _. refl;
+  clusters = λ _ _ _ _. refl;
+  bytes = λ _ _ _ _. refl;
+  untouched = λ k _. untouched-same y d k;
+  outside = λ _ l. l;
+}
 
 module _ (y : Layout) (d d₁ d₂ : List ℕ) (S S₁ : ℕ → Option Allocation) (i : ℕ) (w : Moves y d d₁ S S₁ i) where
   -- one more, of any key but those of other slots
@@ -47,6 +57,8 @@ module _ (y : Layout) (d d₁ d₂ : List ℕ) (S S₁ : ℕ → Option Allocati
     others = λ j n. upd-other S₁ k o (suc j) (h j n) ∙ w .others j n;
     clusters = λ j a n e. v .streams (suc j) a (h j n) (w .others j n ∙ e) ∙ w .clusters j a n e;
     bytes = λ j a n e. v .bytes (suc j) a (h j n) (w .others j n ∙ e) ∙ w .bytes j a n e;
+    untouched = λ x l. untouched-again y d d₁ d₂ x (w .untouched x l) (v .untouched x (w .outside x l));
+    outside = λ x l. v .outside x (w .outside x l);
   }
 
   -- of the root
@@ -83,5 +95,7 @@ change-of g m d d′ i o after S′ w r z in-order t own off q = record {
   others-read = λ j s n e. w .clusters j (fileRecord (lay g d) d s) n (member-file g d j s e);
   others-bytes = λ j s n e. w .bytes j (fileRecord (lay g d) d s) n (member-file g d j s e);
   own-off-map = off;
+  untouched = w .untouched;
+  outside = w .outside;
   marks = q;
 }

@@ -14,11 +14,12 @@ use lib.Seq.{take-all}
 use borrow.Author.Tests.{lt-leb, le-leb}
 use Rattle.tables.specs.Lists.{Mem, every, lastOr}
 use Rattle.tables.specs.Count.{count}
-use Rattle.tables.proofs.ListLaws.{mem-append, mem-take, mem-right, every-mem, mem-every}
+use Rattle.tables.proofs.Cases.{not-so}
+use Rattle.tables.proofs.ListLaws.{mem-append, mem-take, mem-right, every-mem, mem-every, last-in}
 use Rattle.boot.specs.declared.layout.Layout.{Layout}
 use Rattle.boot.specs.Limits.{inMap}
 use Rattle.boot.specs.Layout.{inHeap, isBitmapCluster}
-use Rattle.boot.proofs.Tests.{and-both}
+use Rattle.boot.proofs.Apart.{in-heap}
 use Rattle.boot.proofs.CauseLaws.{cause-skip, cause-last, heap-kept}
 use Rattle.metadata.specs.Fat.{fatEntry}
 use Rattle.metadata.specs.Marks.{marked}
@@ -45,7 +46,7 @@ use Rattle.write_shrink.proofs.Cutting.{shrink-by}
 use Rattle.write_shrink.proofs.ShrinkLaws.{Shrunk, cut-reads, cut-shrunk}
 use Rattle.write_dir.specs.Directory.{clustersIn, bytesIn}
 use Rattle.write.proofs.Reading.{clusters-of, number-of, reads-as, empty-reads, reads, clusters-length, clusters-heap, clusters-marked, count-is, first-is}
-use Rattle.write.proofs.Family.{Family, Moved, moved}
+use Rattle.write.proofs.Family.{Family, Outside, Moved, plain-at, moved}
 
 -- bitmap clusters are in the system map
 abbrev pub Mapped : Layout → List ℕ → Type 0
@@ -60,12 +61,7 @@ bytes-plain y d e long same ks p =
 
 -- a cluster of the heap outside the system map is no bitmap's
 plain-off-map : (y : Layout) (m : List ℕ) → Mapped y m → (k : ℕ) → inHeap (y .count) k ≡ true → inMap m k ≡ false → plain y k ≡ true
-unfolding plain
-plain-off-map y m mapped k h o = by (isBitmapCluster y k) refl
-  where
-    by : (b : Bool) → isBitmapCluster y k ≡ b → inHeap (y .count) k && not (isBitmapCluster y k) ≡ true
-    by true e = absurd (false≢true (sym o ∙ mapped k e))
-    by false e = and-both (inHeap (y .count) k) (not (isBitmapCluster y k)) h (ap not e)
+plain-off-map y m mapped k h o = plain-at y k h (not-so (isBitmapCluster y k) (λ e. false≢true (sym o ∙ mapped k e)))
 
 -- ---- longer
 
@@ -134,12 +130,22 @@ module _ (y : Layout) (d m : List ℕ) (w : Fits y d) (mapped : Mapped y m) (S :
       (λ j b n t. grown-other y d m (o .volume) (o .answer .allocation) old got w grown b (clustersIn y d b) (reads-as y d b (f .reads j b t))
       (λ k p q. f .apart j i b a n t s k p q) ∙ sym (reads-as y d b (f .reads j b t)))
       (λ j b n t. bytes-plain y d (o .volume) (grown .long) (grown .bytes-kept) (clustersIn y d b) (f .plains j b t))
+      (λ k l. record {
+        mark = grown .marks-kept k (l .heap) (not-new k l);
+        entry = grown .fat-kept k (l .heap) (l .off i a s) (not-new k l);
+        bytes = λ h. cluster-cong y d (o .volume) k (grown .long) (λ r. grown .bytes-kept k r (plain-at y k (l .heap) h));
+      })
       (o .answer .allocation)
       (number-of y (o .volume) (o .answer .allocation) (old ++ got) (grown .reads))
       (ap (every (plain y)) clusters-are ∙ all-plain)
       (λ j b n t k p q. ⊎-elim (λ u. f .apart i j a b (λ z. n (sym z)) s t k u q)
       (λ u. false≢true (sym (new-facts k u .0) ∙ every-mem (marked y d) (clustersIn y d b) (clusters-marked y d b (f .reads j b t)) k q))
       (mem-append old (subst (Mem k) clusters-are p)))
+      (λ k l p. ⊎-elim (l .off i a s) (not-new k l) (mem-append old (subst (Mem k) clusters-are p)))
+    where
+      -- a marked cluster was not taken
+      not-new : (k : ℕ) → Outside y d S k → Mem k got → ⊥
+      not-new k l q = false≢true (sym (new-facts k q .0) ∙ l .mark)
 
   count-longer : o .answer .allocation .count ≡ a .count + n
   count-longer =
@@ -226,15 +232,22 @@ module _ (y : Layout) (d m : List ℕ) (w : Fits y d) (S : ℕ → Option Alloca
   shorter : (e : List ℕ) → length e ≡ length d
       → ((b : Allocation) (js : List ℕ) → streamOf y d b ≡ listed js → ((k : ℕ) → Mem k js → Mem k ks → ⊥) → streamOf y e b ≡ listed js)
       → ((k j : ℕ) → plain y k ≡ true → j < y .size → clusterByte y e k j ≡ clusterByte y d k j)
+      → ((k : ℕ) → Outside y d S k → (marked y e k ≡ marked y d k) × (fatEntry y e k ≡ fatEntry y d k))
       → streamOf y e a′ ≡ listed (take keep ks) → markedCount y e + (length ks - keep) ≡ markedCount y d
       → Shorter y d S i a keep e a′
-  shorter e long others same reads counts = record {
+  shorter e long others same outside reads counts = record {
     moved = moved y d e S i f long
         (λ j b n t. others b (clustersIn y d b) (reads-as y d b (f .reads j b t)) (λ k p q. f .apart j i b a n t s k p q)
         ∙ sym (reads-as y d b (f .reads j b t)))
         (λ j b n t. bytes-plain y d e long same (clustersIn y d b) (f .plains j b t))
+        (λ k l. record {
+          mark = outside k l .0;
+          entry = outside k l .1;
+          bytes = λ h. cluster-cong y d e k long (λ r. same k r (plain-at y k (l .heap) h));
+        })
         a′ (number-of y e a′ (take keep ks) reads) (ap (every (plain y)) clusters ∙ front-plain)
-        (λ j b n t k p q. f .apart i j a b (λ z. n (sym z)) s t k (mem-take keep ks (subst (Mem k) clusters p)) q);
+        (λ j b n t k p q. f .apart i j a b (λ z. n (sym z)) s t k (mem-take keep ks (subst (Mem k) clusters p)) q)
+        (λ k l p. l .off i a s (mem-take keep ks (subst (Mem k) clusters p)));
     clusters = clusters;
     bytes = unfold bytesIn in (ap (bytesOf y e) clusters ∙ bytes-plain y d e long same (take keep ks) front-plain ∙ sym front-bytes);
     marks = counts;
@@ -282,6 +295,9 @@ module _ (y : Layout) (d m : List ℕ) (w : Fits y d) (S : ℕ → Option Alloca
           (subst (Read (y .count) (fatEntry y d) (marked y d) a) (q ∙ ap (λ (l : List ℕ). c ∷ l) (sym (append-nil cs))) r)
           (λ j _. refl) (λ _ j _ _. refl) (λ t. ap (fatEntry y d) last ∙ r .ends some t))
 
+  inside : (k : ℕ) → Mem k (drop keep ks) → Mem k ks
+  inside k q = subst (Mem k) (take-append-drop keep ks) (mem-right (take keep ks) q)
+
   -- the others are freed
   cut-volume : keep < a .count → d₁ ≡ cut y d a keep hint .volume
   cut-volume l =
@@ -289,9 +305,6 @@ module _ (y : Layout) (d m : List ℕ) (w : Fits y d) (S : ℕ → Option Alloca
       (shrink-by y d m a keep hint false 0 (lt-leb (a .count) keep l)
       (cause-skip _ _ (heap-kept (y .count) hint hint-in) ∙ cause-last _ ∙ clear))
     where
-      inside : (k : ℕ) → Mem k (drop keep ks) → Mem k ks
-      inside k q = subst (Mem k) (take-append-drop keep ks) (mem-right (take keep ks) q)
-
       system : systemCause m (drop keep ks) ≡ 0
       system =
           unfold systemCause in
@@ -299,6 +312,12 @@ module _ (y : Layout) (d m : List ℕ) (w : Fits y d) (S : ℕ → Option Alloca
 
       clear : shrinkCause y d m a keep ≡ 0
       clear = unfold shrinkCause in (cause-skip _ _ own′ ∙ cause-last _ ∙ (unfold clustersIn in system))
+
+  -- and a cluster of no member is not the last kept one
+  not-last : (k : ℕ) → Outside y d S k → (l : List ℕ) → (Mem k l → Mem k ks) → k ≢ lastOr 0 l
+  unfolding lastOr
+  not-last k o [] h e = omega (arith, in-heap (y .count) k (o .heap) .0)
+  not-last k o (c ∷ cs) h e = o .off i a s (h (subst (λ (x : ℕ). Mem x (c ∷ cs)) (sym e) (last-in c cs)))
 
   pub cut-member : Shorter y d S i a keep (shrinkIn y d m a keep hint .volume) (keptRecord a (take keep (clustersIn y d a)))
   unfolding clustersIn
@@ -316,11 +335,16 @@ module _ (y : Layout) (d m : List ℕ) (w : Fits y d) (S : ℕ → Option Alloca
 
       freed-others : Shorter y d S i a keep d₂ a′
       freed-others =
-          shorter d₂ (shrunk .long) (shrunk .others) (shrunk .bytes) (shrunk .reads)
+          shorter d₂ (shrunk .long) (shrunk .others) (shrunk .bytes)
+          (λ k l. (
+            shrunk .marks k (l .heap) (λ q. l .off i a s (inside k q)),
+            shrunk .fats k (l .heap) (λ q. l .off i a s (inside k q)) (λ _. not-last k l (take keep ks) (λ q. mem-take keep ks q)),
+          ))
+          (shrunk .reads)
           (ap (λ (x : ℕ). markedCount y d₂ + x) (sym (length-drop keep ks)) ∙ shrunk .counts)
 
       all-kept : a .count ≤ keep → Shorter y d S i a keep d a′
       all-kept l =
           let n = clusters-length y d a own′ in
           let q : take keep ks ≡ ks = take-all keep ks (omega arith) in
-          shorter d refl (λ b js e _. e) (λ _ _ _ _. refl) (same-reads (take keep ks) (sym q)) (omega arith)
+          shorter d refl (λ b js e _. e) (λ _ _ _ _. refl) (λ _ _. (refl, refl)) (same-reads (take keep ks) (sym q)) (omega arith)

@@ -19,7 +19,6 @@ use Rattle.boot.specs.Geometry.{rootCluster}
 use Rattle.boot.specs.Limits.{inMap, apart, limits}
 use Rattle.boot.specs.Layout.{layoutOf, inHeap, isBitmapCluster}
 use Rattle.boot.specs.Causes.{firstCause}
-use Rattle.boot.proofs.Tests.{and-both}
 use Rattle.boot.proofs.Accepted.{accepted-of}
 use Rattle.boot.proofs.Places.{laid-of}
 use Rattle.boot.proofs.Apart.{apart-of}
@@ -46,7 +45,8 @@ use Rattle.write_file.proofs.CallLaws as call
 use Rattle.write_dir.proofs.OrderedLaws.{Ordered, file-fit}
 use Rattle.write_dir.proofs.StoreLaws.{sets-some}
 use Rattle.write.specs.Consistent.{Consistent, lay, root, rootClusters, rootBytes, fileAt, setOf, streamAt, fileClusters}
-use Rattle.write.proofs.Family.{Family}
+use Rattle.write.specs.Demand.{Lost}
+use Rattle.write.proofs.Family.{Family, Outside, plain-at}
 use Rattle.write.proofs.Records.{reads-listed, record-count}
 
 -- ---- causes that are not met
@@ -105,9 +105,7 @@ clear-directory y d a e h =
 -- clusters of the heap that are no bitmap's
 plain-of : (y : Layout) (ks : List ℕ) → every (inHeap (y .count)) ks ≡ true → ((k : ℕ) → Mem k ks → isBitmapCluster y k ≡ false)
     → every (plain y) ks ≡ true
-unfolding plain
-plain-of y ks h o =
-    mem-every _ ks (λ k i. and-both (inHeap (y .count) k) (not (isBitmapCluster y k)) (every-mem (inHeap (y .count)) ks h k i) (ap not (o k i)))
+plain-of y ks h o = mem-every (plain y) ks (λ k i. plain-at y k (every-mem (inHeap (y .count)) ks h k i) (o k i))
 
 -- ---- the limits
 
@@ -287,13 +285,26 @@ module _ (g : Geometry) (m d : List ℕ) (c : Consistent g m d) where
         subst (Fit (lay g d .count) (lay g d .size) (entriesAt (rootBytes g d) j)) (sets-some (rootBytes g d) j s e .1)
         (file-fit (lay g d .count) (lay g d .size) (rootBytes g d) ordered j (sets-some (rootBytes g d) j s e .0))
 
+  first : (a : Allocation) → members g d 0 ≡ some a → root g d ≡ a
+  first a e = Option·some-injective (root g d) a (sym (member-root g d) ∙ e)
+
+  -- the clusters of the root, and of a slot's file
+  in-root : (a : Allocation) → members g d 0 ≡ some a → (k : ℕ) → Mem k (clustersIn (lay g d) d a) → Mem k (rootClusters g d)
+  in-root a e k i = unfold rootClusters in (subst (λ (x : Allocation). Mem k (clustersIn (lay g d) d x)) (sym (first a e)) i)
+
+  in-file : (j : ℕ) (a : Allocation) → members g d (suc j) ≡ some a → (k : ℕ) → Mem k (clustersIn (lay g d) d a)
+      → (fileAt g d j ≡ true) × Mem k (fileClusters g d j)
+  in-file j a e k i =
+      let r = file-member g d j a e in (
+        slot-file j (r .0) (r .1),
+        subst (Mem k) (sym (slot-clusters j (r .0) (r .1)))
+            (subst (λ (x : Allocation). Mem k (clustersIn (lay g d) d x)) (sym (r .2)) i),
+      )
+
   -- all of them read, from clusters that are no bitmap's, and share none
   pub family : Family (lay g d) d (members g d)
   family = record { reads = reads; plains = plains; apart = parts }
     where
-      first : (a : Allocation) → members g d 0 ≡ some a → root g d ≡ a
-      first a e = Option·some-injective (root g d) a (sym (member-root g d) ∙ e)
-
       reads : (i : ℕ) (a : Allocation) → members g d i ≡ some a → numberOf (streamOf (lay g d) d a) ≡ 0
       reads zero a e = ap (λ (x : Allocation). numberOf (streamOf (lay g d) d x)) (sym (first a e)) ∙ root-number
       reads (suc j) a e =
@@ -307,19 +318,6 @@ module _ (g : Geometry) (m d : List ℕ) (c : Consistent g m d) where
           let r = file-member g d j a e in
           ap (λ (x : Allocation). every (plain (lay g d)) (clustersIn (lay g d) d x)) (sym (r .2)) ∙ slot-plain j (r .0) (r .1)
 
-      -- the clusters of the root, and of a slot's file
-      in-root : (a : Allocation) → members g d 0 ≡ some a → (k : ℕ) → Mem k (clustersIn (lay g d) d a) → Mem k (rootClusters g d)
-      in-root a e k i = unfold rootClusters in (subst (λ (x : Allocation). Mem k (clustersIn (lay g d) d x)) (sym (first a e)) i)
-
-      in-file : (j : ℕ) (a : Allocation) → members g d (suc j) ≡ some a → (k : ℕ) → Mem k (clustersIn (lay g d) d a)
-          → (fileAt g d j ≡ true) × Mem k (fileClusters g d j)
-      in-file j a e k i =
-          let r = file-member g d j a e in (
-            slot-file j (r .0) (r .1),
-            subst (Mem k) (sym (slot-clusters j (r .0) (r .1)))
-                (subst (λ (x : Allocation). Mem k (clustersIn (lay g d) d x)) (sym (r .2)) i),
-          )
-
       parts : (i j : ℕ) (a b : Allocation) → i ≢ j → members g d i ≡ some a → members g d j ≡ some b → (k : ℕ)
           → Mem k (clustersIn (lay g d) d a) → Mem k (clustersIn (lay g d) d b) → ⊥
       parts zero zero a b n p q k u v = n refl
@@ -329,3 +327,11 @@ module _ (g : Geometry) (m d : List ℕ) (c : Consistent g m d) where
           let r = in-file i a p k u in
           let s = in-file j b q k v in
           c .streams-apart i j (r .0) (s .0) (λ e. n (ap suc e)) k (r .1) (s .1)
+
+  -- a marked cluster of no stream is of none of them
+  pub lost-outside : (k : ℕ) → Lost g d k → Outside (lay g d) d (members g d) k
+  lost-outside k l = record { heap = l .heap; mark = l .mark; off = off }
+    where
+      off : (j : ℕ) (a : Allocation) → members g d j ≡ some a → Mem k (clustersIn (lay g d) d a) → ⊥
+      off zero a e i = l .off-root (in-root a e k i)
+      off (suc j) a e i = let r = in-file j a e k i in l .off-files j (r .0) (r .1)

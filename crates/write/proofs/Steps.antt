@@ -22,9 +22,10 @@ use Rattle.write.specs.Consistent.{Consistent, lay, rootBytes, fileAt, s
 use Rattle.write.specs.Contents.{contents}
 use Rattle.write.specs.Model.{overwrite, resize, onto, accepted, fed, model}
 use Rattle.write.specs.Space.{clustersTaken}
-use Rattle.write.specs.Demand.{slotOf, setAfter, entriesAtSlot, Demand}
+use Rattle.write.specs.Demand.{slotOf, setAfter, entriesAtSlot, Lost, Demand}
+use Rattle.write.proofs.Family.{Untouched, untouched-same, untouched-again}
 use Rattle.write.proofs.Scene.{lay-same}
-use Rattle.write.proofs.Change.{contentsOf, Change, change-consistent, change-sets, change-contents, change-marks}
+use Rattle.write.proofs.Change.{contentsOf, Change, change-consistent, change-untouched, change-lost, change-sets, change-contents, change-marks}
 use Rattle.write.proofs.Answers.{refused-same, seven}
 
 -- ---- one call
@@ -40,6 +41,9 @@ pub record Step (g : Geometry) (m d : List ℕ) (c : Call) : Type 0 where
       → entriesAtSlot g (step g m d c .volume) (slotOf c (step g m d c .answer .slot)) ≡ setAfter g m d c
   pub marks : allocatedCount (lay g d) (step g m d c .volume) + clustersTaken g d ≡ allocatedCount (lay g d) d + clustersTaken g (step g m d c .volume)
   pub long : length (step g m d c .volume) ≡ length d
+  -- marked clusters of no stream
+  pub lost : (k : ℕ) → Lost g d k → Lost g (step g m d c .volume) k
+  pub untouched : (k : ℕ) → Lost g d k → Untouched (lay g d) d (step g m d c .volume) k
 
 -- a refused call keeps everything
 pub refused-step : (g : Geometry) (m d : List ℕ) (c : Call) → Consistent g m d → step g m d c .answer .number ≢ 0 → Step g m d c
@@ -52,6 +56,8 @@ refused-step g m d c w n =
       entries = λ z. absurd (n z);
       marks = ap (λ (v : List ℕ). allocatedCount (lay g d) v + clustersTaken g d) e ∙ ap (λ (v : List ℕ). allocatedCount (lay g d) d + clustersTaken g v) (sym e);
       long = ap length e;
+      lost = λ k l. subst (λ (v : List ℕ). Lost g v k) (sym e) l;
+      untouched = λ k _. subst (λ (v : List ℕ). Untouched (lay g d) d v k) (sym e) (untouched-same (lay g d) d k);
     }
   where
     kept : (j : ℕ) → fed (contents g d) c (step g m d c .answer) j ≡ contents g d j
@@ -86,6 +92,8 @@ accepted-step g m d c w z h v f = record {
   entries = λ _. entry;
   marks = change-marks g m d (step g m d c .volume) _ _ w h;
   long = h .long;
+  lost = change-lost g m d (step g m d c .volume) _ _ w h;
+  untouched = change-untouched g m d (step g m d c .volume) _ _ w h;
 }
   where
     fed-is : (j : ℕ) → fed (contents g d) c (step g m d c .answer) j ≡ accepted (contents g d) c (step g m d c .answer .slot) j
@@ -145,6 +153,20 @@ module _ (g : Geometry) (m : List ℕ) (one : (d : List ℕ) (c : Call) → Cons
         ap (λ (y : Layout). allocatedCount y (run g m (step g m d c .volume) cs)) e,
       )
 
+  run-lost : (d : List ℕ) (cs : List Call) → Consistent g m d → (k : ℕ) → Lost g d k → Lost g (run g m d cs) k
+  unfolding run
+  run-lost d [] w k l = l
+  run-lost d (c ∷ cs) w k l = run-lost (step g m d c .volume) cs (one d c w .consistent) k (one d c w .lost k l)
+
+  run-untouched : (d : List ℕ) (cs : List Call) → Consistent g m d → (k : ℕ) → Lost g d k → Untouched (lay g d) d (run g m d cs) k
+  unfolding run
+  run-untouched d [] w k l = untouched-same (lay g d) d k
+  run-untouched d (c ∷ cs) w k l =
+      let s = one d c w in
+      let v = step g m d c .volume in
+      untouched-again (lay g d) d v (run g m v cs) k (s .untouched k l)
+      (subst (λ (y : Layout). Untouched y v (run g m v cs) k) (lay-same g d v (s .long)) (run-untouched v cs (s .consistent) k (s .lost k l)))
+
   pub every : (d : List ℕ) (cs : List Call) → Consistent g m d → Demand g m d cs
   every d cs w = record {
     consistent = run-consistent d cs w;
@@ -156,5 +178,8 @@ module _ (g : Geometry) (m : List ℕ) (one : (d : List ℕ) (c : Call) → Cons
     answers-defined = λ before c rest e. ap (answers g m d) e ∙ answers-append g m d before c rest;
     entries-defined = λ before c rest e z. one (run g m d before) c (run-consistent d before w) .entries z;
     marks-add-up = run-marks d cs w;
+    lost-kept = run-lost d cs w;
+    lost-entry = λ k l. run-untouched d cs w k l .entry;
+    lost-bytes = λ k l. run-untouched d cs w k l .bytes;
     seven = seven g m (run g m d cs);
   }

@@ -1,14 +1,18 @@
 -- What holds over every list of calls on a consistent volume (demand 3), as one record.
 use mathlib.Core.Path.{_≡_}
 use mathlib.Core.Logic.{_↔_}
-use mathlib.Core.Bool.{cond}
+use mathlib.Core.Bool.{true, false, cond}
 use mathlib.Core.List.{List, [], _∷_, _++_}
 use mathlib.Core.Option.{Option, none, some}
 use Prim.Native.Nat.{ℕ, _+_, _<_}
 use lib.Dec.{eqb, ltb}
 use lib.ListN.{length, take}
+use Rattle.tables.specs.Lists.{Mem}
 use Rattle.boot.specs.declared.geometry.Geometry.{Geometry}
-use Rattle.metadata.specs.Marks.{allocatedCount}
+use Rattle.boot.specs.Layout.{inHeap, isBitmapCluster}
+use Rattle.metadata.specs.Fat.{fatEntry}
+use Rattle.metadata.specs.Marks.{marked, allocatedCount}
+use Rattle.stream.specs.Bytes.{clusterBytes}
 use Rattle.entry_set.specs.declared.stamp.Stamps.{Stamps}
 use Rattle.entry_set.specs.Fields.{validLength, dataLength, clustersFor}
 use Rattle.entry_set.specs.New.{newSet}
@@ -18,7 +22,7 @@ use Rattle.write_file.specs.Refresh.{recorded, missing}
 use Rattle.write_file.specs.Write.{larger}
 use Rattle.write_file.specs.SetLength.{smaller}
 use Rattle.write.specs.Calls.{Call, New, Write, SetLength, Remove, step, run, answers}
-use Rattle.write.specs.Consistent.{Consistent, lay, fileAt, setOf, streamAt, fileClusters}
+use Rattle.write.specs.Consistent.{Consistent, lay, rootClusters, fileAt, setOf, streamAt, fileClusters}
 use Rattle.write.specs.Contents.{contents}
 use Rattle.write.specs.Model.{model}
 use Rattle.write.specs.Space.{clustersTaken, usable, mustAdd, otherCause}
@@ -52,6 +56,13 @@ setAfter g m d (Remove i hint) = none
 unfoldable pub entriesAtSlot : Geometry → List ℕ → ℕ → Option (List ℕ)
 entriesAtSlot g d i = cond (fileAt g d i) (some (setOf g d i)) none
 
+-- cluster k is marked and of no stream: neither the root's nor that of an in-use 0x85 entry, directories counted too
+pub record Lost (g : Geometry) (d : List ℕ) (k : ℕ) : Type 0 where
+  pub heap : inHeap (lay g d .count) k ≡ true
+  pub mark : marked (lay g d) d k ≡ true
+  pub off-root : Mem k (rootClusters g d) → ⊥
+  pub off-files : (i : ℕ) → fileAt g d i ≡ true → Mem k (fileClusters g d i) → ⊥
+
 pub record Demand (g : Geometry) (m d : List ℕ) (cs : List Call) : Type 0 where
   -- the volume stays consistent
   pub consistent : Consistent g m (run g m d cs)
@@ -74,6 +85,12 @@ pub record Demand (g : Geometry) (m d : List ℕ) (cs : List Call) : Type 0 wher
       ≡ setAfter g m (run g m d before) c
   -- marked clusters add up: as many more are marked as lengths and root take more
   pub marks-add-up : allocatedCount (lay g d) (run g m d cs) + clustersTaken g d ≡ allocatedCount (lay g d) d + clustersTaken g (run g m d cs)
+  -- "Marked clusters of no stream stay marked", and of no stream ..
+  pub lost-kept : (k : ℕ) → Lost g d k → Lost g (run g m d cs) k
+  -- .. with the FAT entry and the bytes that they had, but for a bitmap's bytes
+  pub lost-entry : (k : ℕ) → Lost g d k → fatEntry (lay g d) (run g m d cs) k ≡ fatEntry (lay g d) d k
+  pub lost-bytes : (k : ℕ) → Lost g d k → isBitmapCluster (lay g d) k ≡ false
+      → clusterBytes (lay g d) (run g m d cs) k ≡ clusterBytes (lay g d) d k
   -- a further call that meets no other cause gets 7 exactly when it must add more clusters than are usable
   pub seven : (c : Call) → otherCause g m (run g m d cs) c ≡ 0
       → (step g m (run g m d cs) c .answer .number ≡ 7) ↔ (usable g m (run g m d cs) < mustAdd g (run g m d cs) c)
