@@ -4,7 +4,8 @@ use mathlib.Core.Bool.{true}
 use mathlib.Core.List.{[], List, _∷_, _++_, map}
 use mathlib.Core.Option.{none, some}
 use Prim.Native.Nat.{ℕ, _*_}
-use lib.ListN.{length, replicate}
+use native.Mathlib.Omega.{arith}
+use lib.ListN.{length, getD, replicate}
 use Rattle.primitives.specs.Bits.{bitOf, bitAt}
 use Rattle.primitives.specs.Checksum.{checksum}
 use Rattle.primitives.specs.Splice.{splice}
@@ -28,12 +29,13 @@ use Rattle.write_dir.specs.Entries.{entryCount, typeAt, inUse, beforeEnd, isFil
 use Rattle.write_dir.specs.Open.{fileRecord, streamCause}
 use Rattle.write.specs.Consistent.{Consistent, lay, root, rootClusters, rootBytes, setOf, streamAt}
 use Rattle.write.specs.Contents.{shown, hasFile, contents}
+use Rattle.write.specs.Demand.{Lost}
 use Rattle.write.specs.Example.{exampleGeometry, exampleMap, word, filled, exampleSet, exampleRoot, exampleFat, exampleMarks, exampleContents, exampleVolume}
-use Rattle.write.proofs.ExampleTests.{implies, owns, slotTest, pairTest, Passed, passed-consistent}
+use Rattle.write.proofs.ExampleTests.{implies, owns, slotTest, pairTest, Passed, passed-lost, passed-consistent}
 
--- whose the clusters 0 to 9 are: slots 3, 6 and 12 have files, 16 stands for the root
+-- whose the clusters 0 to 10 are: slots 3, 6 and 12 have files, 16 stands for the root, 17 for none
 unfoldable owners : List ℕ
-owners = 0 ∷ 0 ∷ 0 ∷ 16 ∷ 3 ∷ 12 ∷ 3 ∷ 0 ∷ 6 ∷ 6 ∷ []
+owners = 0 ∷ 0 ∷ 0 ∷ 16 ∷ 3 ∷ 12 ∷ 3 ∷ 0 ∷ 6 ∷ 6 ∷ 17 ∷ []
 
 -- the volume with everything open that has to compute
 unfoldable opened : List ℕ
@@ -68,11 +70,9 @@ pairs : allFrom (λ i. allFrom (pairTest exampleRoot i) 0 16) 0 16 ≡ true
 unfolding opened
 pairs = refl
 
--- the example is consistent
-pub example-consistent : Consistent exampleGeometry exampleMap exampleVolume
-example-consistent =
-    passed-consistent exampleGeometry exampleMap exampleVolume owners 16
-    (subst (λ bs. Passed exampleGeometry exampleMap exampleVolume bs owners 16) (sym root-bytes)
+passed : Passed exampleGeometry exampleMap exampleVolume (rootBytes exampleGeometry exampleVolume) owners 16
+passed =
+    subst (λ bs. Passed exampleGeometry exampleMap exampleVolume bs owners 16) (sym root-bytes)
     (record {
       limits-hold = limits-hold;
       root-reads = root-reads;
@@ -80,7 +80,27 @@ example-consistent =
       whole = whole;
       slots = slots;
       pairs = pairs;
-    }))
+    })
+
+-- the example is consistent
+pub example-consistent : Consistent exampleGeometry exampleMap exampleVolume
+example-consistent = passed-consistent exampleGeometry exampleMap exampleVolume owners 16 passed
+
+-- cluster 10 is marked and of no stream
+ten-heap : inHeap (lay exampleGeometry exampleVolume .count) 10 ≡ true
+unfolding opened
+ten-heap = refl
+
+ten-marked : marked (lay exampleGeometry exampleVolume) exampleVolume 10 ≡ true
+unfolding opened
+ten-marked = refl
+
+ten-owner : getD owners 10 0 ≡ 17
+unfolding owners
+ten-owner = refl
+
+pub example-lost : Lost exampleGeometry exampleVolume 10
+example-lost = passed-lost exampleGeometry exampleMap exampleVolume owners 16 passed 10 ten-heap ten-marked (omega (arith, ten-owner))
 
 -- and its files are there: the chain's with zeros from valid on, the run's, the empty one; at slot 12 stands the directory
 pub example-contents : map (contents exampleGeometry exampleVolume) (3 ∷ 6 ∷ 9 ∷ 12 ∷ [])

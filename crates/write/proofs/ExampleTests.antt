@@ -15,13 +15,16 @@ use Rattle.tables.proofs.Cases.{not-so}
 use Rattle.tables.proofs.ListLaws.{every-mem}
 use Rattle.boot.specs.declared.geometry.Geometry.{Geometry}
 use Rattle.boot.specs.Limits.{limits}
+use Rattle.boot.specs.Layout.{inHeap}
 use Rattle.boot.proofs.Tests.{and-left, and-right, and-both}
+use Rattle.metadata.specs.Marks.{marked}
 use Rattle.write_alloc.specs.Choice.{allFrom}
 use Rattle.write_alloc.proofs.ChoiceLaws.{all-whole}
 use Rattle.write_dir.specs.Directory.{directoryCause, clustersIn}
 use Rattle.write_dir.specs.Entries.{typeAt, inUse, beforeEnd, isFile, entriesAt, setAt, isSound}
 use Rattle.write_dir.specs.Open.{fileRecord, streamCause}
 use Rattle.write.specs.Consistent.{Consistent, lay, root, rootClusters, rootBytes, fileAt, setOf, streamAt, fileClusters}
+use Rattle.write.specs.Demand.{Lost}
 
 -- a test that is to be passed where another one is
 unfoldable pub implies : Bool → Bool → Bool
@@ -119,6 +122,15 @@ module _ (g : Geometry) (m d owners : List ℕ) (n : ℕ) (p : Passed g m d (roo
   root-owner : (k : ℕ) → Mem k (rootClusters g d) → getD owners k 0 ≡ n
   unfolding owns
   root-owner k h = eqb-true (getD owners k 0) n (every-mem (owns owners n) (rootClusters g d) (p .root-owned) k h)
+
+  -- a marked cluster that belongs to none of them
+  pub passed-lost : (k : ℕ) → inHeap (lay g d .count) k ≡ true → marked (lay g d) d k ≡ true → n < getD owners k 0 → Lost g d k
+  passed-lost k h e o = record {
+    heap = h;
+    mark = e;
+    off-root = λ q. omega (arith, root-owner k q);
+    off-files = λ i f q. omega (arith, below i f, owner i f k q);
+  }
 
   abbrev endAt : ℕ → ℕ → Bool
   endAt i j = implies (eqb (typeAt (rootBytes g d) i) 0) (not (inUse (rootBytes g d) j))
