@@ -29,12 +29,13 @@ use Rattle.write_file.specs.NewFile.{newGrowth, newCause, placed, newFileIn, ne
 use Rattle.write_file.specs.Refresh.{missing, lengthCause, openCause}
 use Rattle.write_file.specs.Write.{larger, endCause, dataCause, writeCause, written, refreshedOnly, writeIn, writeInto}
 use Rattle.write_file.specs.SetLength.{setLengthCause, shorter, longerFile, resized, setLengthIn, setLength}
+use Rattle.write_file.proofs.OpenLaws.{cause-none}
 use Rattle.write_remove.specs.Remove.{unlinked, removeIn, remove}
 use Rattle.write.specs.Calls.{Call, New, Write, SetLength, Remove, step}
 use Rattle.write.specs.Consistent.{lay, root, rootBytes, setOf}
 use Rattle.write.specs.Space.{usable, beyond, mustAdd, otherCause}
-use Rattle.write.proofs.Records.{record-count}
-use Rattle.write.proofs.Scene.{first-clear, both-clear, if-clear}
+use Rattle.write.proofs.Reading.{record-count}
+use Rattle.write.proofs.Scene.{both-clear, if-clear}
 
 -- ---- what a call on a volume that keeps the limits answers
 
@@ -154,9 +155,9 @@ module _ (g : Geometry) (m d : List ℕ) where
   pub seven : Seven g m d
   unfolding otherCause mustAdd
   seven (New name attributes hash t hint) e =
-      let a = first-clear _ _ e in
-      let b = first-clear _ _ (a .1) in
-      let x = first-clear _ _ (b .1) in
+      let a = cause-none _ _ e in
+      let b = cause-none _ _ (a .1) in
+      let x = cause-none _ _ (b .1) in
       let y = both-clear _ _ (x .1) in
       along _ (newGrowth (lay g d) d (root g d) (length name)) _ (usable g m d)
       (decided-number (new-decided g m d (kept (a .0)) name attributes hash t hint) ∙ (unfold newCause in (unfold usable in (cause-skip _ _ (b .0) ∙ cause-skip _ _ (x .0) ∙ cause-skip _ _ (y .0) ∙ cause-skip _ _ (y .1) ∙ cause-last _)))) refl
@@ -166,10 +167,10 @@ module _ (g : Geometry) (m d : List ℕ) where
       len = larger (dataLength (setOf g d i)) (offset + length bs)
 
       open-clear : (limitsCause g d m ≡ 0) × (openCause (lay g d) d m (root g d) i hint ≡ 0)
-      open-clear = let a = first-clear _ _ (unfold otherCause in e) in (a .0, both-clear _ _ (a .1) .0)
+      open-clear = let a = cause-none _ _ (unfold otherCause in e) in (a .0, both-clear _ _ (a .1) .0)
 
       end-clear : cond (eqb (length bs) 0) 0 (endCause offset (length bs)) ≡ 0
-      end-clear = let a = first-clear _ _ (unfold otherCause in e) in both-clear _ _ (a .1) .1
+      end-clear = let a = cause-none _ _ (unfold otherCause in e) in both-clear _ _ (a .1) .1
 
       number : step g m d (Write i offset bs t hint) .answer .number
           ≡ cond (eqb (length bs) 0) 0 (dataCause (lay g d) d m (setIn (lay g d) d (root g d) i) offset (length bs))

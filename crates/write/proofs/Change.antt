@@ -35,8 +35,8 @@ use Rattle.write.specs.Consistent.{Consistent, lay, root, rootClusters, 
 use Rattle.write.specs.Contents.{shown, hasFile, contents}
 use Rattle.write.specs.Space.{lengthTakes, sum, clustersTaken}
 use Rattle.write.specs.Demand.{Lost}
+use Rattle.write.proofs.Reading.{record-same}
 use Rattle.write.proofs.Family.{Family, Outside, Untouched}
-use Rattle.write.proofs.Records.{record-same}
 use Rattle.write.proofs.Scene.{clear-stream, clear-directory, lay-same, members, ordered, slot-number, slot-off, lost-outside}
 
 -- the clusters that the length of a slot's set takes, and the contents that the set shows

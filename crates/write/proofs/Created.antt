@@ -8,7 +8,6 @@ use native.Mathlib.Decide.{ℕ-discrete}
 use native.Mathlib.Omega.{arith}
 use lib.ListN.{length, take}
 use lib.Seq.{length-take-le}
-use borrow.Author.Tests.{eq-eqb, ltb-false}
 use Rattle.primitives.specs.Splice.{splice}
 use Rattle.tables.specs.Table.{upd}
 use Rattle.tables.specs.Count.{count}
@@ -23,7 +22,7 @@ use Rattle.stream.specs.declared.allocation.Allocation.{Allocation}
 use Rattle.stream.specs.Stream.{numberOf, streamOf}
 use Rattle.stream.specs.Bytes.{storeAt}
 use Rattle.entry_set.specs.declared.stamp.Stamps.{Stamps}
-use Rattle.entry_set.specs.Fields.{validLength, dataLength, clustersFor}
+use Rattle.entry_set.specs.Fields.{validLength, dataLength}
 use Rattle.entry_set.specs.Name.{nameOk, nameCause, attributesOk, attributeCause}
 use Rattle.entry_set.specs.New.{newEntries, newSet}
 use Rattle.entry_set.proofs.SetLaws.{new-length, new-zero, new-entries, new-valid, new-data, new-directory, new-few, new-formed}
@@ -35,29 +34,25 @@ use Rattle.write_dir.specs.Open.{fileRecord}
 use Rattle.write_dir.specs.Place.{Grown, freeRun, slotOf, withZeros, growth, growBy}
 use Rattle.write_dir.proofs.FitLaws.{Fit}
 use Rattle.write_dir.proofs.InsertLaws.{insert-room, insert-free, insert-ordered, insert-sets}
+use Rattle.write_dir.proofs.PlaceLaws.{clusters-length}
 use Rattle.write_file.specs.NewFile.{newGrowth, newCause, placed}
+use Rattle.write_file.proofs.OpenLaws.{cause-none}
+use Rattle.write_file.proofs.NewFileLaws.{space-enough}
 use Rattle.write.specs.Calls.{New, step}
 use Rattle.write.specs.Consistent.{Consistent, lay, root, rootBytes}
 use Rattle.write.specs.Contents.{shown, contents}
 use Rattle.write.specs.Model.{accepted}
 use Rattle.write.specs.Demand as demand
 use Rattle.write.proofs.Shown.{shown-empty}
-use Rattle.write.proofs.Reading.{reads-as, bytes-length, clusters-length, root-back}
+use Rattle.write.proofs.Reading.{reads-as, bytes-length, root-back, record-empty}
 use Rattle.write.proofs.Family.{Moved, Stored, untouched-same, same-clusters, out-of-empty, empty-clusters, empty-bytes, family-add, outside-add, moved-again, store-member}
 use Rattle.write.proofs.Zeroed.{Wider, grow-member}
-use Rattle.write.proofs.Scene.{first-clear, both-clear, if-clear, mapped, root-first, root-chain, root-some, members, member-root, fits, size-per, per-low, root-count, ordered, family}
+use Rattle.write.proofs.Scene.{both-clear, if-clear, mapped, root-first, root-chain, root-some, members, member-root, fits, size-per, per-low, root-count, ordered, family}
 use Rattle.write.proofs.Change.{Change, takes, contentsOf, contents-is}
-use Rattle.write.proofs.Steps.{Step, refused-step}
+use Rattle.write.proofs.Steps.{Step, refused-step, carried-step}
 use Rattle.write.proofs.Lengths.{clusters-none}
 use Rattle.write.proofs.Moves.{moves-none, moves-root, moves-file, change-of}
 use Rattle.write.proofs.Answers.{decided-number, decided-carried, new-decided}
-use Rattle.write.proofs.Carried.{carried-step}
-use Rattle.write.proofs.Open.{unless-clear}
-
--- an empty set's record
-pub empty-record : (y : Layout) (d s : List ℕ) → 1 ≤ y .size → dataLength s ≡ 0 → fileRecord y d s ≡ empty
-unfolding fileRecord
-empty-record y d s big z = rw (eq-eqb (clustersFor (y .size) (dataLength s)) 0 (clusters-none (y .size) big (dataLength s) z)) refl
 
 module _ (g : Geometry) (m d : List ℕ) (c : Consistent g m d) (name : List ℕ) (attributes hash : ℕ) (t : Stamps) (hint : ℕ) where
   abbrev y : Layout
@@ -102,9 +97,9 @@ module _ (g : Geometry) (m d : List ℕ) (c : Consistent g m d) (name : List ℕ
         × (spaceCause more (count (isUsable y d m) 2 (y .count)) ≡ 0)
     unfolding newCause
     causes =
-        let p = first-clear _ _ e in
-        let q = first-clear _ _ (p .1) in
-        let r = first-clear _ _ (q .1) in
+        let p = cause-none _ _ e in
+        let q = cause-none _ _ (p .1) in
+        let r = cause-none _ _ (q .1) in
         let s = both-clear _ _ (r .1) in
         (p .0, r .0, s .0, s .1)
 
@@ -121,14 +116,13 @@ module _ (g : Geometry) (m d : List ℕ) (c : Consistent g m d) (name : List ℕ
     allowed = if-clear _ 13 (λ z. omega arith) (causes .2)
 
     enough : more ≤ count (isUsable y d m) 2 (y .count)
-    unfolding spaceCause
-    enough = ltb-false _ _ (unless-clear _ 7 (λ z. omega arith) (causes .3))
+    enough = space-enough _ _ (causes .3)
 
     -- the root grown
-    wider : Wider y d m S 0 (root g d) more w
+    wider : Wider y d S 0 (root g d) more w
     wider =
         grow-member y m (mapped g m d (c .limits-hold)) 0 more (record { volume = d; directory = root g d; hint = hint }) (fits g m d c) S
-        (family g m d c) (member-root g d) hint-in enough
+        (family g m d c) (member-root g d) (root-some g d) hint-in enough
 
     bytes-wide : bytesIn y (w .volume) (w .directory) ≡ wide
     unfolding newGrowth rootBytes
@@ -189,13 +183,10 @@ module _ (g : Geometry) (m d : List ℕ) (c : Consistent g m d) (name : List ℕ
 
     -- its record is empty
     back : fileRecord y d₂ x ≡ empty
-    back = empty-record y d₂ x big (new-data name attributes hash t)
+    back = record-empty y d₂ x (clusters-none (y .size) big (dataLength x) (new-data name attributes hash t))
 
     back-of : (s : List ℕ) → some x ≡ some s → empty ≡ fileRecord y d₂ s
     back-of s q = sym back ∙ ap (fileRecord y d₂) (Option·some-injective x s q)
-
-    fits₂ : Fits y d₂
-    fits₂ = fits-kept y d d₂ (moved₂ .long) (fits g m d c)
 
     abbrev T : ℕ → Option Allocation
     T = upd S 0 (some (w .directory))
@@ -215,9 +206,9 @@ module _ (g : Geometry) (m d : List ℕ) (c : Consistent g m d) (name : List ℕ
     change =
         change-of g m d d₂ at (some x) (w .directory) (upd T (suc at) (some empty))
         (moves-file y d d₂ d₂ S T at (moves-root y d d d₂ S S at (moves-none y d S at (family g m d c)) (some (w .directory)) moved₂) (some empty) joined)
-        (ap (rootRecord y d₂) (sym (wider .first (root-some g d) ∙ root-first g d))
-        ∙ root-back y d₂ fits₂ (w .directory) (clustersIn y (w .volume) (w .directory)) (stored .stream ∙ reads-as y (w .volume) (w .directory) reads)
-        (wider .chain (root-some g d) (root-chain g d)) (λ z. root-some g d (omega (arith, wider .counts))))
+        (ap (rootRecord y d₂) (sym (wider .led .first ∙ root-first g d))
+        ∙ root-back y d₂ (w .directory) (clustersIn y (w .volume) (w .directory)) (stored .stream ∙ reads-as y (w .volume) (w .directory) reads)
+        (wider .led .flag (root-chain g d)) (λ z. root-some g d (omega (arith, wider .counts))))
         (upd-other T (suc at) (some empty) 0 (λ q. omega arith) ∙ own)
         (insert-ordered (y .count) (y .size) (y .size / 32) (size-per g m d c) per R n x (ordered g m d c) fit (bytesIn y d₂ (w .directory)) bytes₂)
         (insert-sets (y .count) (y .size) (y .size / 32) (size-per g m d c) per R n x (ordered g m d c) fit (bytesIn y d₂ (w .directory)) bytes₂)

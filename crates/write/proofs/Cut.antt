@@ -1,5 +1,5 @@
 -- Bytes stored over the set at a slot of the root, and then the set's stream cut: the change of that one slot. Assumes nothing.
-use mathlib.Core.Path.{_≡_, refl, sym, _∙_, ap, subst}
+use mathlib.Core.Path.{_≡_, refl, _∙_, ap, subst}
 use mathlib.Core.Bool.{false}
 use mathlib.Core.List.{List}
 use mathlib.Core.Option.{Option, some}
@@ -13,7 +13,6 @@ use Rattle.tables.specs.Lists.{Mem}
 use Rattle.tables.proofs.TableLaws.{upd-same, upd-other}
 use Rattle.boot.specs.declared.geometry.Geometry.{Geometry}
 use Rattle.boot.specs.declared.layout.Layout.{Layout}
-use Rattle.boot.specs.Geometry.{rootCluster}
 use Rattle.boot.specs.Limits.{inMap}
 use Rattle.metadata.proofs.Frame.{Fits, fits-kept}
 use Rattle.metadata.proofs.Counting.{markedCount}
@@ -22,7 +21,7 @@ use Rattle.stream.specs.Stream.{streamOf}
 use Rattle.stream.specs.Bytes.{storeAt}
 use Rattle.entry_set.specs.Fields.{dataLength, clustersFor}
 use Rattle.write_shrink.specs.Shrink.{keptRecord, shrinkIn}
-use Rattle.write_dir.specs.Directory.{rootRecord, clustersIn, bytesIn}
+use Rattle.write_dir.specs.Directory.{clustersIn, bytesIn}
 use Rattle.write_dir.specs.Entries.{entriesAt, sets}
 use Rattle.write_dir.specs.Open.{fileRecord}
 use Rattle.write_dir.proofs.FitLaws.{Fit, fit-high}
@@ -30,20 +29,12 @@ use Rattle.write_dir.proofs.OrderedLaws.{Ordered, file-room}
 use Rattle.write_dir.proofs.StoreLaws.{sets-some}
 use Rattle.write_file.specs.Refresh.{entriesOf, openCause}
 use Rattle.write.specs.Consistent.{Consistent, lay, root, rootClusters, rootBytes, setOf}
-use Rattle.write.proofs.Reading.{root-back}
 use Rattle.write.proofs.Family.{Moved, Stored, same-clusters, moved-clusters, kept-member, store-member}
 use Rattle.write.proofs.Resized.{Shorter, cut-member}
-use Rattle.write.proofs.Scene.{root-first, root-chain, root-some, members, member-root, member-file, fits, root-listed, root-length, ordered, slot-off, slot-fit, slot-takes, family}
+use Rattle.write.proofs.Scene.{members, member-root, member-file, fits, root-again, root-length, ordered, slot-off, slot-fit, slot-takes, family}
 use Rattle.write.proofs.Change.{Change, takes}
 use Rattle.write.proofs.Moves.{moves-none, moves-root, moves-file, change-of}
 use Rattle.write.proofs.Open.{open-hint, open-set}
-
--- the root read back where its record reads as before
-pub root-again : (g : Geometry) (m d d′ : List ℕ) → Consistent g m d → Fits (lay g d) d′
-    → streamOf (lay g d) d′ (root g d) ≡ streamOf (lay g d) d (root g d) → rootRecord (lay g d) d′ (rootCluster g) ≡ root g d
-root-again g m d d′ c w e =
-    ap (rootRecord (lay g d) d′) (sym (root-first g d))
-    ∙ root-back (lay g d) d′ w (root g d) (rootClusters g d) (e ∙ root-listed g m d c) (root-chain g d) (root-some g d)
 
 module _ (g : Geometry) (m d : List ℕ) (c : Consistent g m d) (i hint : ℕ) (e : openCause (lay g d) d m (root g d) i hint ≡ 0) (x : List ℕ)
     (full : length x ≡ 608) (keep : ℕ) where
@@ -166,7 +157,7 @@ module _ (g : Geometry) (m d : List ℕ) (c : Consistent g m d) (i hint : ℕ) (
     cut-change in-order table own-member off-map marks =
         change-of g m d d₂ i o (root g d) (upd T (suc i) p)
         (moves-file y d d₁ d₂ S T i (moves-root y d d d₁ S S i (moves-none y d S i (family g m d c)) (some (root g d)) (stored .moved)) p v)
-        (root-again g m d d₂ c cut-fits root-stream)
+        (root-again g m d c d₂ root-stream)
         (upd-other T (suc i) p 0 (λ q. omega arith) ∙ upd-same S 0 (some (root g d)))
         (in-order (bytesIn y d₂ (root g d)) root-bytes)
         (table (bytesIn y d₂ (root g d)) root-bytes)

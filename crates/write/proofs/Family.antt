@@ -23,7 +23,6 @@ use Rattle.boot.proofs.Tests.{and-both}
 use Rattle.boot.proofs.Apart.{in-heap, heap-in}
 use Rattle.metadata.specs.Fat.{fatEntry}
 use Rattle.metadata.specs.Marks.{marked}
-use Rattle.metadata.specs.Usable.{isFree, isUsable}
 use Rattle.metadata.proofs.Frame.{Fits}
 use Rattle.metadata.proofs.View.{plain}
 use Rattle.metadata.proofs.Counting.{markedCount}
@@ -36,7 +35,8 @@ use Rattle.stream.proofs.Distinct.{stream-frame}
 use Rattle.stream.proofs.BytesLaws.{length-store, fat-store, mark-store, cluster-store, bytes-store-apart, bytes-store}
 use Rattle.write_alloc.proofs.GrowLaws.{small}
 use Rattle.write_dir.specs.Directory.{clustersIn, bytesIn}
-use Rattle.write.proofs.Reading.{clusters-of, number-of, reads-as, empty-reads, clusters-heap, clusters-distinct}
+use Rattle.write_dir.proofs.PlaceLaws.{clusters-heap}
+use Rattle.write.proofs.Reading.{clusters-of, number-of, reads-as, empty-reads, clusters-distinct}
 
 -- records that read, with no bitmap cluster, and no two of them with a cluster in common
 pub record Family (y : Layout) (d : List ℕ) (S : ℕ → Option Allocation) : Type 0 where
@@ -284,8 +284,6 @@ pub record Stored (y : Layout) (d d′ : List ℕ) (S : ℕ → Option Allocatio
   pub stream : streamOf y d′ a ≡ streamOf y d a
   pub bytes : bytesIn y d′ a ≡ splice (bytesIn y d a) at bs
   pub marks : markedCount y d′ ≡ markedCount y d
-  pub usable : (m : List ℕ) (k : ℕ) → inHeap (y .count) k ≡ true → isUsable y d′ m k ≡ isUsable y d m k
-  pub usables : (m : List ℕ) → count (isUsable y d′ m) 2 (y .count) ≡ count (isUsable y d m) 2 (y .count)
 
 module _ (y : Layout) (d : List ℕ) (w : Fits y d) (S : ℕ → Option Allocation) (f : Family y d S) (i : ℕ) (a : Allocation) (s : S i ≡ some a)
     (at : ℕ) (bs : List ℕ) (room : at + length bs ≤ length (clustersIn y d a) * y .size) where
@@ -317,10 +315,6 @@ module _ (y : Layout) (d : List ℕ) (w : Fits y d) (S : ℕ → Option Allocati
           (stream-frame (y .count) (fatEntry y d) (fatEntry y d₁) (marked y d) (marked y d₁) b (clustersIn y d b) (small y d w)
           (λ k m. fat-same k (inside k m)) (λ k m. mark-same k (inside k m)) (unfold streamOf in (reads-as y d b e)))
 
-  usable-same : (m : List ℕ) (k : ℕ) → inHeap (y .count) k ≡ true → isUsable y d₁ m k ≡ isUsable y d m k
-  unfolding isUsable isFree
-  usable-same m k h = rw (mark-same k h, fat-same k h) refl
-
   pub store-member : Stored y d (storeAt y d (clustersIn y d a) at bs) S i a at bs
   store-member = record {
     moved = moved y d d₁ S i f (length-store y d w ks heap at bs)
@@ -341,8 +335,6 @@ module _ (y : Layout) (d : List ℕ) (w : Fits y d) (S : ℕ → Option Allocati
         unfold bytesIn in
         (ap (bytesOf y d₁) clusters ∙ bytes-store y d w ks (clusters-distinct y d a own w) heap at bs room);
     marks = unfold markedCount in (count-cong (marked y d) (marked y d₁) 2 (y .count) (λ k l b. mark-same k (heap-in (y .count) k l (omega arith))));
-    usable = usable-same;
-    usables = λ m. count-cong (isUsable y d m) (isUsable y d₁ m) 2 (y .count) (λ k l b. usable-same m k (heap-in (y .count) k l (omega arith)));
   }
     where
       own : numberOf (streamOf y d a) ≡ 0

@@ -7,13 +7,11 @@ pub mod Reading
 pub mod Family
 pub mod Resized
 pub mod Zeroed
-pub mod Records
 pub mod Scene
 pub mod Change
 pub mod Moves
 pub mod Answers
 pub mod Steps
-pub mod Carried
 pub mod Open
 pub mod Cut
 pub mod Recorded

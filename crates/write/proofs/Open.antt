@@ -14,8 +14,9 @@ use Rattle.write_dir.specs.Open.{entryCause, attributeCause, setIn, fileCause}
 use Rattle.write_dir.proofs.EntryLaws.{sound-file}
 use Rattle.write_dir.proofs.StoreLaws.{sets-file}
 use Rattle.write_file.specs.Refresh.{openCause}
+use Rattle.write_file.proofs.OpenLaws.{cause-none}
 use Rattle.write.specs.Consistent.{lay, root, rootBytes, setOf}
-use Rattle.write.proofs.Scene.{first-clear, both-clear, if-clear}
+use Rattle.write.proofs.Scene.{both-clear, if-clear}
 
 -- a test that decides a number that is not 0
 pub unless-clear : (b : Bool) (n : ℕ) → (n ≡ 0 → ⊥) → cond b n 0 ≡ 0 → b ≡ false
@@ -25,7 +26,7 @@ unless-clear false n h e = refl
 module _ (g : Geometry) (m d : List ℕ) (i hint : ℕ) (e : openCause (lay g d) d m (root g d) i hint ≡ 0) where
   clear : (heapCause (lay g d .count) hint ≡ 0) × (fileCause (lay g d) d m (root g d) i ≡ 0)
   unfolding openCause
-  clear = let r = first-clear _ _ e in (r .0, both-clear _ _ (r .1) .1)
+  clear = let r = cause-none _ _ e in (r .0, both-clear _ _ (r .1) .1)
 
   -- the hint is in the heap
   pub open-hint : inHeap (lay g d .count) hint ≡ true
@@ -35,8 +36,8 @@ module _ (g : Geometry) (m d : List ℕ) (i hint : ℕ) (e : openCause (lay g d)
   file-clear : (isSound (lay g d .count) (lay g d .size) (rootBytes g d) i ≡ true) × (isDirectory (setOf g d i) ≡ false)
   unfolding fileCause entryCause attributeCause setIn rootBytes setOf
   file-clear =
-      let a = first-clear _ _ (clear .1) in
-      (if-clear _ 10 (λ z. omega arith) (a .0), unless-clear _ 11 (λ z. omega arith) (first-clear _ _ (a .1) .0))
+      let a = cause-none _ _ (clear .1) in
+      (if-clear _ 10 (λ z. omega arith) (a .0), unless-clear _ 11 (λ z. omega arith) (cause-none _ _ (a .1) .0))
 
   -- a file stands at the slot
   pub open-set : sets (rootBytes g d) i ≡ some (setOf g d i)

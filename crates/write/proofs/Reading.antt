@@ -2,14 +2,16 @@
 -- Assumes nothing.
 use mathlib.Core.Path.{_≡_, refl, sym, _∙_, ap, ap₂, subst}
 use mathlib.Core.Logic.{_≢_}
-use mathlib.Core.Bool.{Bool, true, false, cond}
+use mathlib.Core.Bool.{Bool, true, false, _&&_, cond}
 use mathlib.Core.List.{[], List, _∷_}
 use Prim.Native.Nat.{ℕ, _+_, _-_, _*_, _≤_}
 use native.Mathlib.Decide.{ℕ-discrete}
 use native.Mathlib.Omega.{arith}
-use lib.ListN.{length, getD}
+use lib.Dec.{eqb}
+use lib.ListN.{length}
 use borrow.Author.Tests.{eq-eqb, ne-eqb}
 use Rattle.tables.specs.Lists.{Mem, here, Distinct, every, lastOr}
+use Rattle.tables.proofs.Cases.{clash}
 use Rattle.tables.proofs.ListLaws.{every-mem, last-of}
 use Rattle.boot.specs.declared.layout.Layout.{Layout}
 use Rattle.boot.specs.Layout.{inHeap}
@@ -18,13 +20,13 @@ use Rattle.metadata.specs.Fat.{fatEntry}
 use Rattle.metadata.specs.Marks.{marked}
 use Rattle.metadata.proofs.Frame.{Fits}
 use Rattle.stream.specs.declared.allocation.Allocation.{Allocation}
-use Rattle.stream.specs.Chain.{Clusters, listed, readChain}
-use Rattle.stream.specs.Stream.{numberOf, streamOf}
+use Rattle.stream.specs.Chain.{Clusters, listed, refused, readChain}
+use Rattle.stream.specs.Stream.{numberOf, streamOf, checkChain}
 use Rattle.stream.specs.Along.{after, along}
 use Rattle.stream.specs.Listing.{clustersOf}
-use Rattle.stream.proofs.ChainLaws.{stream-empty, stream-listed}
+use Rattle.stream.proofs.ChainLaws.{stream-empty, stream-chain, stream-listed}
 use Rattle.stream.proofs.StreamLaws.{Read, read-facts, along-step, last-consec}
-use Rattle.stream.proofs.Distinct.{few, chain-listed, read-length, read-run, read-chain, read-distinct}
+use Rattle.stream.proofs.Distinct.{read-length, read-run, read-distinct}
 use Rattle.stream.proofs.BytesLaws.{length-of}
 use Rattle.entry_set.specs.Fields.{noFatChain, firstCluster, dataLength, clustersFor}
 use Rattle.write_alloc.specs.Outcome.{empty}
@@ -58,12 +60,6 @@ module _ (y : Layout) (d : List ℕ) (a : Allocation) (e : numberOf (streamOf y 
   pub reads : Read (y .count) (fatEntry y d) (marked y d) a (clustersIn y d a)
   reads = read-facts (y .count) (fatEntry y d) (marked y d) a (clustersIn y d a) (unfold streamOf in (reads-as y d a e))
 
-  pub clusters-length : length (clustersIn y d a) ≡ a .count
-  clusters-length = read-length (y .count) (fatEntry y d) (marked y d) a (clustersIn y d a) reads
-
-  pub clusters-heap : every (inHeap (y .count)) (clustersIn y d a) ≡ true
-  clusters-heap = reads .heap
-
   pub clusters-marked : every (marked y d) (clustersIn y d a) ≡ true
   clusters-marked = reads .marks
 
@@ -72,9 +68,20 @@ module _ (y : Layout) (d : List ℕ) (a : Allocation) (e : numberOf (streamOf y 
 
   pub bytes-length : Fits y d → length (bytesIn y d a) ≡ length (clustersIn y d a) * y .size
   unfolding bytesIn
-  bytes-length w = length-of y d w (clustersIn y d a) clusters-heap
+  bytes-length w = length-of y d w (clustersIn y d a) (reads .heap)
 
 -- ---- a record that reads as some clusters
+
+-- a chain that its record lists is listed by the walk
+check-listed : (mark : ℕ → Bool) (last count : ℕ) (c : Clusters) (ks : List ℕ) → checkChain mark last count c ≡ listed ks → c ≡ listed ks
+unfolding checkChain
+check-listed mark last count (refused n) ks e = clash (cc)
+check-listed mark last count (listed l) ks e = by (eqb (length l) count && eqb (lastOr 0 l) last) (every mark l) e
+  where
+    by : (p q : Bool) → cond p (cond q (listed l) (refused 6)) (refused 5) ≡ listed ks → listed l ≡ listed ks
+    by true true r = r
+    by true false r = clash (cc)
+    by false q r = clash (cc)
 
 module _ (y : Layout) (d : List ℕ) (a : Allocation) (ks : List ℕ) (e : streamOf y d a ≡ listed ks) where
   read-of : Read (y .count) (fatEntry y d) (marked y d) a ks
@@ -83,14 +90,6 @@ module _ (y : Layout) (d : List ℕ) (a : Allocation) (ks : List ℕ) (e : strea
   pub count-is : a .count ≡ length ks
   count-is = sym (read-length (y .count) (fatEntry y d) (marked y d) a ks read-of)
 
-  pub count-few : Fits y d → a .count ≤ y .count
-  count-few w =
-      omega (
-        arith,
-        count-is,
-        few (y .count) ks (read-distinct (y .count) (fatEntry y d) (marked y d) a (small y d w) ks read-of) (read-of .heap),
-      )
-
   module _ (some : a .count ≢ 0) where
     starts : (rest : List ℕ) × (ks ≡ a .first ∷ rest)
     starts = (
@@ -98,10 +97,7 @@ module _ (y : Layout) (d : List ℕ) (a : Allocation) (ks : List ℕ) (e : strea
       read-of .goes ∙ along-step (fatEntry y d) (a .«no_fat_chain») (a .first) (a .count) (omega arith),
     )
 
-    pub first-is : a .first ≡ getD ks 0 0
-    first-is = ap (λ (l : List ℕ). getD l 0 0) (sym (starts .1))
-
-    pub first-mem : Mem (a .first) ks
+    first-mem : Mem (a .first) ks
     first-mem = subst (Mem (a .first)) (sym (starts .1)) (here refl)
 
     pub first-heap : inHeap (y .count) (a .first) ≡ true
@@ -110,7 +106,7 @@ module _ (y : Layout) (d : List ℕ) (a : Allocation) (ks : List ℕ) (e : strea
     pub last-is : lastOr 0 ks ≡ a .last
     last-is = read-of .last some 0
 
-    pub last-heap : inHeap (y .count) (a .last) ≡ true
+    last-heap : inHeap (y .count) (a .last) ≡ true
     last-heap =
         ap (inHeap (y .count)) (sym last-is)
         ∙ every-mem (inHeap (y .count)) ks (read-of .heap) (lastOr 0 ks) (last-of 0 ks (omega (arith, count-is)))
@@ -129,22 +125,19 @@ module _ (y : Layout) (d : List ℕ) (a : Allocation) (ks : List ℕ) (e : strea
     run-ends t = omega (arith, run-last t, in-heap (y .count) (a .last) last-heap .1)
 
     -- a chain is what the walk of the FAT finds
-    pub chain-reads : Fits y d → a .«no_fat_chain» ≡ false → readChain (y .count) (fatEntry y d) (a .first) ≡ listed ks
-    chain-reads w t =
-        let q = starts .1 in
-        chain-listed (y .count) (fatEntry y d) (small y d w) (a .first) (a .first) (starts .0)
-        (read-chain (y .count) (fatEntry y d) (marked y d) a (a .first) (starts .0)
-        (subst (Read (y .count) (fatEntry y d) (marked y d) a) q read-of) t)
-        ∙ ap listed (sym q)
+    pub chain-reads : a .«no_fat_chain» ≡ false → readChain (y .count) (fatEntry y d) (a .first) ≡ listed ks
+    chain-reads t =
+        check-listed (marked y d) (a .last) (a .count) _ ks
+        (sym (stream-chain (y .count) (fatEntry y d) (marked y d) a some t) ∙ (unfold streamOf in e))
 
 -- ---- the root's record
 
 -- a chain's record is read back from its first cluster
-pub root-back : (y : Layout) (d : List ℕ) → Fits y d → (a : Allocation) (ks : List ℕ) → streamOf y d a ≡ listed ks → a .«no_fat_chain» ≡ false
+pub root-back : (y : Layout) (d : List ℕ) (a : Allocation) (ks : List ℕ) → streamOf y d a ≡ listed ks → a .«no_fat_chain» ≡ false
     → a .count ≢ 0 → rootRecord y d (a .first) ≡ a
 unfolding rootRecord
-root-back y d w a ks e t some =
-    ap (chainRecord (a .first)) (chain-reads y d a ks e some w t)
+root-back y d a ks e t some =
+    ap (chainRecord (a .first)) (chain-reads y d a ks e some t)
     ∙ (unfold chainRecord in
     (λ i. record {
       first = a .first;
@@ -155,12 +148,38 @@ root-back y d w a ks e t some =
 
 -- ---- a file's record
 
+module _ (y : Layout) (d : List ℕ) (s : List ℕ) where
+  pub record-empty : clustersFor (y .size) (dataLength s) ≡ 0 → fileRecord y d s ≡ empty
+  unfolding fileRecord
+  record-empty e = rw (eq-eqb (clustersFor (y .size) (dataLength s)) 0 e) refl
+
+  -- its fields, if it has clusters
+  module _ (n : clustersFor (y .size) (dataLength s) ≢ 0) where
+    pub record-first : fileRecord y d s .first ≡ firstCluster s
+    unfolding fileRecord
+    record-first = rw (ne-eqb (clustersFor (y .size) (dataLength s)) 0 n) refl
+
+    pub record-run : fileRecord y d s .«no_fat_chain» ≡ noFatChain s
+    unfolding fileRecord
+    record-run = rw (ne-eqb (clustersFor (y .size) (dataLength s)) 0 n) refl
+
+    record-some : fileRecord y d s .count ≡ clustersFor (y .size) (dataLength s)
+    unfolding fileRecord
+    record-some = rw (ne-eqb (clustersFor (y .size) (dataLength s)) 0 n) refl
+
+  pub record-count : fileRecord y d s .count ≡ clustersFor (y .size) (dataLength s)
+  record-count =
+      elim (ℕ-discrete (clustersFor (y .size) (dataLength s)) 0) [
+        | yes e ↦ ap (λ (a : Allocation). a .count) (record-empty e) ∙ sym e
+        | no n ↦ record-some n
+      ]
+
 -- the record of a set that has its first cluster, its flag and a length that takes its count
-pub file-back : (y : Layout) (d : List ℕ) → Fits y d → (s : List ℕ) (b : Allocation) (ks : List ℕ) → streamOf y d b ≡ listed ks
+pub file-back : (y : Layout) (d s : List ℕ) (b : Allocation) (ks : List ℕ) → streamOf y d b ≡ listed ks
     → firstCluster s ≡ b .first → noFatChain s ≡ b .«no_fat_chain» → clustersFor (y .size) (dataLength s) ≡ b .count
     → (b .count ≡ 0 → b ≡ empty) → fileRecord y d s ≡ b
 unfolding fileRecord
-file-back y d w s b ks e first flag count none =
+file-back y d s b ks e first flag count none =
     elim (ℕ-discrete (b .count) 0) [
       | yes z ↦ rw (eq-eqb (clustersFor (y .size) (dataLength s)) 0 (count ∙ z)) (sym (none z))
       | no some ↦ rw (ne-eqb (clustersFor (y .size) (dataLength s)) 0 (λ z. some (sym count ∙ z)))
@@ -178,4 +197,14 @@ file-back y d w s b ks e first flag count none =
             → cond (noFatChain s) (b .first + b .count - 1) (lastOr 0 (clustersOf (readChain (y .count) (fatEntry y d) (b .first)))) ≡ b .last
         by true t = rw (flag ∙ t) (omega (arith, run-last y d b ks e some t))
         by false t =
-            rw (flag ∙ t) (ap (λ (c : Clusters). lastOr 0 (clustersOf c)) (chain-reads y d b ks e some w t) ∙ last-is y d b ks e some)
+            rw (flag ∙ t) (ap (λ (c : Clusters). lastOr 0 (clustersOf c)) (chain-reads y d b ks e some t) ∙ last-is y d b ks e some)
+
+-- a stream that reads in two volumes as the same clusters has one record in both
+pub record-same : (y : Layout) (d d′ : List ℕ) (s : List ℕ) → numberOf (streamOf y d (fileRecord y d s)) ≡ 0
+    → streamOf y d′ (fileRecord y d s) ≡ streamOf y d (fileRecord y d s) → fileRecord y d′ s ≡ fileRecord y d s
+record-same y d d′ s r e =
+    elim (ℕ-discrete (clustersFor (y .size) (dataLength s)) 0) [
+      | yes z ↦ record-empty y d′ s z ∙ sym (record-empty y d s z)
+      | no n ↦ file-back y d′ s (fileRecord y d s) (clustersIn y d (fileRecord y d s)) (e ∙ reads-as y d (fileRecord y d s) r)
+          (sym (record-first y d s n)) (sym (record-run y d s n)) (sym (record-count y d s)) (λ z. absurd (n (sym (record-count y d s) ∙ z)))
+    ]

@@ -19,8 +19,9 @@ use Rattle.entry_set.proofs.SetLaws.{StreamFits, refreshed-length, refreshed-by
 use Rattle.write_alloc.specs.Outcome.{empty}
 use Rattle.write_dir.specs.Open.{fileRecord}
 use Rattle.write_dir.proofs.FitLaws.{Fit, fit-low}
+use Rattle.write_dir.proofs.CursorLaws.{count-few}
 use Rattle.write_file.specs.Refresh.{entriesOf, recorded}
-use Rattle.write.proofs.Reading.{count-few, first-heap, run-ends, file-back}
+use Rattle.write.proofs.Reading.{number-of, first-heap, run-ends, file-back}
 use Rattle.write.proofs.Lengths.{clusters-hold, clusters-none, clusters-some}
 
 -- whatever the stream, as many bytes
@@ -34,7 +35,7 @@ module _ (y : Layout) (d : List ℕ) (w : Fits y d) (b : Allocation) (ks : List 
   big = let l = w .laid .size-low in omega arith
 
   few : b .count ≤ y .count
-  few = count-few y d b ks e w
+  few = count-few y d w b (number-of y d b ks e)
 
   -- a length that the heap holds
   pub length-small : len < 2 ^ 64
@@ -106,4 +107,4 @@ module _ (y : Layout) (d : List ℕ) (w : Fits y d) (b : Allocation) (ks : List 
       -- its record
       pub recorded-back : fileRecord y d (recorded s b valid len t) ≡ b
       recorded-back =
-          file-back y d w (recorded s b valid len t) b ks e recorded-first recorded-run (ap (clustersFor (y .size)) recorded-data ∙ all) bare
+          file-back y d (recorded s b valid len t) b ks e recorded-first recorded-run (ap (clustersFor (y .size)) recorded-data ∙ all) bare

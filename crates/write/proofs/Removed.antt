@@ -34,9 +34,8 @@ use Rattle.write.specs.Demand.{slotOf, setAfter}
 use Rattle.write.proofs.Family.{moved-drop}
 use Rattle.write.proofs.Scene.{members, ordered, slot-fit}
 use Rattle.write.proofs.Change.{Change, takes, contentsOf}
-use Rattle.write.proofs.Steps.{Step, refused-step}
+use Rattle.write.proofs.Steps.{Step, refused-step, carried-step}
 use Rattle.write.proofs.Answers.{decided-number, decided-carried, remove-decided}
-use Rattle.write.proofs.Carried.{carried-step}
 use Rattle.write.proofs.Open.{open-set}
 use Rattle.write.proofs.Cut.{open-entries, cut-shorter, cut-marks, cut-change}
 

@@ -1,15 +1,15 @@
 -- A member of a family made longer or shorter. Assumes nothing.
 use mathlib.Core.Path.{_≡_, refl, sym, _∙_, ap, subst}
 use mathlib.Core.Logic.{_≢_, _⊎_, ⊎-elim}
-use mathlib.Core.Bool.{Bool, true, false, _&&_, not, cond, false≢true}
+use mathlib.Core.Bool.{Bool, true, false, not, cond, false≢true}
 use mathlib.Core.List.{[], List, _∷_, _++_, append-nil}
 use mathlib.Core.Option.{Option, some}
 use Prim.Native.Nat.{ℕ, _+_, _-_, _*_, _≤_, _<_}
-use native.Mathlib.Decide.{ℕ-discrete, decLt}
+use native.Mathlib.Decide.{decLt}
 use native.Mathlib.Nat.{mul-le-mul-right}
 use native.Mathlib.Omega.{arith}
 use lib.Dec.{leb}
-use lib.ListN.{length, getD, take, drop, length-append, length-drop, take-append-drop}
+use lib.ListN.{length, take, drop, length-append, length-drop, take-append-drop}
 use lib.Seq.{take-all}
 use borrow.Author.Tests.{lt-leb, le-leb}
 use Rattle.tables.specs.Lists.{Mem, every, lastOr}
@@ -34,18 +34,16 @@ use Rattle.stream.specs.Stream.{numberOf, streamOf}
 use Rattle.stream.specs.Bytes.{bytesOf}
 use Rattle.stream.proofs.StreamLaws.{Read}
 use Rattle.stream.proofs.BytesLaws.{cluster-cong, bytes-cong, bytes-append, length-of, take-of}
-use Rattle.write_alloc.specs.Choice.{allFrom}
-use Rattle.write_alloc.specs.Outcome.{Outcome, unchanged}
-use Rattle.write_extend.specs.Extend.{inPlace, longerChain, extendIn}
+use Rattle.write_alloc.specs.Outcome.{Outcome}
+use Rattle.write_extend.specs.Extend.{extendIn}
 use Rattle.write_shrink.specs.Shrink.{systemCause, keptRecord, shrinkCause, cut, shrinkIn}
-use Rattle.write_alloc.proofs.AllocateLaws.{space-kept}
-use Rattle.write_extend.proofs.ExtendLaws.{longer-out, extend-none}
 use Rattle.write_alloc.proofs.GrowLaws.{Grown, small, grown-other}
-use Rattle.write_extend.proofs.EnoughLaws.{Took, usable-grown, grow-longer, extend-seven, extend-done}
+use Rattle.write_extend.proofs.EnoughLaws.{Took, extend-done}
 use Rattle.write_shrink.proofs.Cutting.{shrink-by}
 use Rattle.write_shrink.proofs.ShrinkLaws.{Shrunk, cut-reads, cut-shrunk}
 use Rattle.write_dir.specs.Directory.{clustersIn, bytesIn}
-use Rattle.write.proofs.Reading.{clusters-of, number-of, reads-as, empty-reads, reads, clusters-length, clusters-heap, clusters-marked, count-is, first-is}
+use Rattle.write_dir.proofs.PlaceLaws.{clusters-heap, clusters-length}
+use Rattle.write.proofs.Reading.{clusters-of, number-of, reads-as, empty-reads, reads, clusters-marked, count-is}
 use Rattle.write.proofs.Family.{Family, Outside, Moved, plain-at, moved}
 
 -- bitmap clusters are in the system map
@@ -66,25 +64,16 @@ plain-off-map y m mapped k h o = plain-at y k h (not-so (isBitmapCluster y k) (�
 -- ---- longer
 
 -- o is member i with n clusters more
-pub record Longer (y : Layout) (d m : List ℕ) (S : ℕ → Option Allocation) (i : ℕ) (a : Allocation) (n hint : ℕ) (o : Outcome) : Type 0 where
-  pub number : o .answer .number ≡ 0
+pub record Longer (y : Layout) (d m : List ℕ) (S : ℕ → Option Allocation) (i : ℕ) (a : Allocation) (n : ℕ) (o : Outcome) : Type 0 where
   pub moved : Moved y d (o .volume) S i (some (o .answer .allocation))
   -- the clusters that it got
   pub new : List ℕ
-  pub many : length new ≡ n
   pub clusters : clustersIn y (o .volume) (o .answer .allocation) ≡ clustersIn y d a ++ new
   pub bytes : bytesIn y (o .volume) (o .answer .allocation) ≡ bytesIn y d a ++ bytesOf y d new
-  pub new-bytes : length (bytesOf y d new) ≡ n * y .size
   pub off-map : (k : ℕ) → Mem k new → inMap m k ≡ false
   -- counts
   pub marks : markedCount y (o .volume) ≡ markedCount y d + n
-  pub usables : count (isUsable y (o .volume) m) 2 (y .count) + n ≡ count (isUsable y d m) 2 (y .count)
-  pub hint-heap : inHeap (y .count) (o .answer .hint) ≡ true
-  -- the record
   pub counts : o .answer .allocation .count ≡ a .count + n
-  pub first : a .count ≢ 0 → o .answer .allocation .first ≡ a .first
-  pub chain : a .count ≢ 0 → a .«no_fat_chain» ≡ false → o .answer .allocation .«no_fat_chain» ≡ false
-  pub idle : n ≡ 0 → o ≡ unchanged 0 a hint d
 
 module _ (y : Layout) (d m : List ℕ) (w : Fits y d) (mapped : Mapped y m) (S : ℕ → Option Allocation) (f : Family y d S) (i : ℕ) (a : Allocation)
     (s : S i ≡ some a) (n hint : ℕ) (hint-in : inHeap (y .count) hint ≡ true) (enough : n ≤ count (isUsable y d m) 2 (y .count)) where
@@ -121,9 +110,6 @@ module _ (y : Layout) (d m : List ℕ) (w : Fits y d) (mapped : Mapped y m) (S :
   clusters-are : clustersIn y (o .volume) (o .answer .allocation) ≡ old ++ got
   clusters-are = clusters-of y (o .volume) (o .answer .allocation) (old ++ got) (grown .reads)
 
-  got-heap : every (inHeap (y .count)) got ≡ true
-  got-heap = grown .fresh .heap
-
   longer-moved : Moved y d (o .volume) S i (some (o .answer .allocation))
   longer-moved =
       moved y d (o .volume) S i f (grown .long)
@@ -157,51 +143,19 @@ module _ (y : Layout) (d m : List ℕ) (w : Fits y d) (mapped : Mapped y m) (S :
         clusters-length y d a own,
       )
 
-  first-longer : a .count ≢ 0 → o .answer .allocation .first ≡ a .first
-  first-longer z =
-      first-is y (o .volume) (o .answer .allocation) (old ++ got) (grown .reads) (λ q. z (omega (arith, count-longer)))
-      ∙ head old (omega (arith, clusters-length y d a own))
-      ∙ sym (first-is y d a old (reads-as y d a own) z)
-    where
-      head : (l : List ℕ) → 1 ≤ length l → getD (l ++ got) 0 0 ≡ getD l 0 0
-      head [] h = absurd (omega arith)
-      head (x ∷ l) h = refl
-
-  chain-longer : a .count ≢ 0 → a .«no_fat_chain» ≡ false → o .answer .allocation .«no_fat_chain» ≡ false
-  chain-longer z t =
-      elim (ℕ-discrete n 0) [
-        | yes q ↦ ap (λ (x : Outcome). x .answer .allocation .«no_fat_chain») (extend-none y d m a n hint hint-in q) ∙ t
-        | no q ↦ ap (λ (x : Outcome). x .answer .allocation .«no_fat_chain»)
-            (grow-longer y d m w a n hint own hint-in (omega arith) (omega arith) enough ∙ longer-out y d m a n out)
-            ∙ (unfold longerChain in refl)
-      ]
-    where
-      out : inPlace y d m a n ≡ false
-      out = unfold inPlace in (ap (λ (b : Bool). b && (leb (a .last + 1 + n) (y .count + 2) && allFrom (isUsable y d m) (a .last + 1) n)) t)
-
-  pub extend-member : Longer y d m S i a n hint (extendIn y d m a n hint)
+  pub extend-member : Longer y d m S i a n (extendIn y d m a n hint)
   extend-member = record {
-    number = extend-seven y d m w a old (reads-as y d a own) n hint hint-in ∙ space-kept n (count (isUsable y d m) 2 (y .count)) enough;
     moved = longer-moved;
     new = got;
-    many = took .many;
     clusters = clusters-are;
     bytes =
         unfold bytesIn in
         (ap (bytesOf y (o .volume)) clusters-are
         ∙ bytes-plain y d (o .volume) (grown .long) (grown .bytes-kept) (old ++ got) all-plain
         ∙ bytes-append y d old got);
-    new-bytes = length-of y d w got got-heap ∙ ap (λ (x : ℕ). x * y .size) (took .many);
     off-map = λ k q. new-facts k q .1;
     marks = grown .counts ∙ ap (λ (x : ℕ). markedCount y d + x) (took .many);
-    usables =
-        ap (λ (x : ℕ). count (isUsable y (o .volume) m) 2 (y .count) + x) (sym (took .many))
-        ∙ usable-grown y d m (o .volume) (o .answer .allocation) old got (clusters-marked y d a own) grown;
-    hint-heap = took .hint;
     counts = count-longer;
-    first = first-longer;
-    chain = chain-longer;
-    idle = λ q. extend-none y d m a n hint hint-in q;
   }
 
 -- ---- shorter

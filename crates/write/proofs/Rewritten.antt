@@ -29,10 +29,11 @@ use Rattle.entry_set.specs.declared.stamp.Stamps.{Stamps}
 use Rattle.entry_set.specs.Fields.{isDirectory, validLength, dataLength, clustersFor}
 use Rattle.write_alloc.specs.Outcome.{empty}
 use Rattle.write_extend.specs.Extend.{extendIn}
-use Rattle.write_dir.specs.Outcome.{Outcome, carried}
-use Rattle.write_dir.specs.Directory.{rootRecord, clustersIn, bytesIn}
+use Rattle.write_dir.specs.Outcome.{carried}
+use Rattle.write_dir.specs.Directory.{clustersIn, bytesIn}
 use Rattle.write_dir.specs.Entries.{isFile, entriesAt, sets}
 use Rattle.write_dir.specs.Open.{fileRecord}
+use Rattle.write_dir.proofs.PlaceLaws.{clusters-length}
 use Rattle.write_dir.proofs.FitLaws.{Fit}
 use Rattle.write_dir.proofs.OrderedLaws.{file-room}
 use Rattle.write_dir.proofs.StoreLaws.{sets-some, replaced-ordered, replaced-sets}
@@ -42,14 +43,13 @@ use Rattle.write.specs.Consistent.{Consistent, lay, root, rootClusters, 
 use Rattle.write.specs.Contents.{shown, contents}
 use Rattle.write.specs.Model.{accepted}
 use Rattle.write.specs.Demand.{slotOf, setAfter}
-use Rattle.write.proofs.Reading.{reads-as, bytes-length, clusters-length, root-back}
+use Rattle.write.proofs.Reading.{reads-as, bytes-length, record-count}
 use Rattle.write.proofs.Family.{Family, Moved, Stored, same-clusters, kept-member, moved-same, moved-again, store-member}
 use Rattle.write.proofs.Resized.{Longer, extend-member}
-use Rattle.write.proofs.Records.{record-count}
-use Rattle.write.proofs.Scene.{mapped, root-first, root-chain, root-some, members, member-root, member-file, fits, root-listed, root-length, ordered, slot-off, slot-fit, slot-takes, family}
+use Rattle.write.proofs.Scene.{mapped, members, member-root, member-file, fits, root-again, root-length, ordered, slot-off, slot-fit, slot-takes, family}
 use Rattle.write.proofs.Change.{takes, contentsOf, Change, contents-is}
 use Rattle.write.proofs.Moves.{moves-none, moves-root, moves-file, change-of}
-use Rattle.write.proofs.Steps.{Step, accepted-step}
+use Rattle.write.proofs.Steps.{Step, carried-step}
 use Rattle.write.proofs.Lengths.{clusters-hold, clusters-mono}
 use Rattle.write.proofs.Recorded.{recorded-fit, recorded-directory, recorded-valid, recorded-data, recorded-back}
 
@@ -133,7 +133,7 @@ module _ (g : Geometry) (m d : List ℕ) (c : Consistent g m d) (i : ℕ) (s : L
     abbrev all : List ℕ
     all = clustersIn y volume grown
 
-    longer : Longer y d m S (suc i) old n hint (extendIn y d m old n hint)
+    longer : Longer y d m S (suc i) old n (extendIn y d m old n hint)
     longer = extend-member y d m w (mapped g m d (c .limits-hold)) S f (suc i) old own n hint hint-in enough
 
     -- the bytes that it got
@@ -260,9 +260,6 @@ module _ (g : Geometry) (m d : List ℕ) (c : Consistent g m d) (i : ℕ) (s : L
     unfolding rootBytes
     root-bytes = st .bytes ∙ ap (λ (l : List ℕ). splice l (32 * i) X) (v .moves .bytes 0 (root g d) (λ z. omega arith) (member-root g d))
 
-    root-same : streamOf y d′ (root g d) ≡ listed (rootClusters g d)
-    root-same = st .stream ∙ root-stream ∙ root-listed g m d c
-
     -- the stream is not touched
     stream-kept : streamOf y d′ b ≡ streamOf y e b
     stream-kept = st .moved .streams (suc i) b (λ z. omega arith) own-now
@@ -286,8 +283,7 @@ module _ (g : Geometry) (m d : List ℕ) (c : Consistent g m d) (i : ℕ) (s : L
     rewritten-change =
         change-of g m d d′ i (some s′) (root g d) (upd T 0 (some (root g d)))
         (moves-root y d e d′ S T i (moves-file y d d e S S i (moves-none y d S i f) (some b) (v .moves)) (some (root g d)) (st .moved))
-        (ap (rootRecord y d′) (sym (root-first g d))
-        ∙ root-back y d′ wd (root g d) (rootClusters g d) root-same (root-chain g d) (root-some g d))
+        (root-again g m d c d′ (st .stream ∙ root-stream))
         (upd-same T 0 (some (root g d)))
         (replaced-ordered (y .count) (y .size) (rootBytes g d) i (entriesOf s) s′ (ordered g m d c) root-file entries-are set-fit
         (bytesIn y d′ (root g d)) root-bytes)
@@ -334,19 +330,8 @@ module _ (g : Geometry) (m d : List ℕ) (c : Consistent g m d) (i : ℕ) (s : L
         → ((name : List ℕ) (attributes hash : ℕ) (u : Stamps) (h : ℕ) → cl ≡ New name attributes hash u h → ⊥)
         → Step g m d cl
     rewritten-step cl hint is at after z shows new =
-        accepted-step g m d cl c (ap (λ (x : Outcome). x .answer .number) is ∙ (unfold carried in refl))
-        (subst (λ (x : List ℕ). Change g m d x (slotOf cl (step g m d cl .answer .slot)) (setAfter g m d cl)) (sym volume)
-        (subst (λ (x : ℕ). Change g m d d′ x (setAfter g m d cl)) (sym (ap (slotOf cl) slot ∙ at))
-        (subst (Change g m d d′ i) (sym after) rewritten-change)))
-        (ap₂ (contentsOf y) volume after ∙ rewritten-shows z
-        ∙ sym (ap (λ (k : ℕ). accepted (contents g d) cl k (slotOf cl k)) slot ∙ ap (accepted (contents g d) cl 0) at ∙ shows))
-        (λ name attributes hash u h k. absurd (new name attributes hash u h k))
-      where
-        volume : step g m d cl .volume ≡ d′
-        volume = ap (λ (x : Outcome). x .volume) is ∙ (unfold carried in refl)
-
-        slot : step g m d cl .answer .slot ≡ 0
-        slot = ap (λ (x : Outcome). x .answer .slot) is ∙ (unfold carried in refl)
+        carried-step g m d cl 0 hint d′ (some s′) c is after (subst (λ (x : ℕ). Change g m d d′ x (some s′)) (sym at) rewritten-change)
+        (rewritten-shows z ∙ sym (ap (accepted (contents g d) cl 0) at ∙ shows)) (λ name attributes hash u h k. absurd (new name attributes hash u h k))
 
   -- what it showed
   pub shows-before : isDirectory s ≡ false → contents g d i ≡ some (shown (bytesIn y d old) (validLength s) (dataLength s))

@@ -5,7 +5,6 @@ use mathlib.Core.Bool.{Bool, true, false, not, cond, false≢true}
 use mathlib.Core.List.{[], List, _∷_}
 use mathlib.Core.Option.{Option, none, some, Option·some-injective}
 use Prim.Native.Nat.{ℕ, zero, suc, _-_, _*_, _/_, _≤_}
-use native.Mathlib.Decide.{ℕ-discrete}
 use native.Mathlib.Nat.{mul-left-comm}
 use native.Mathlib.Omega.{arith}
 use lib.ListN.{length}
@@ -22,7 +21,7 @@ use Rattle.boot.specs.Causes.{firstCause}
 use Rattle.boot.proofs.Accepted.{accepted-of}
 use Rattle.boot.proofs.Places.{laid-of}
 use Rattle.boot.proofs.Apart.{apart-of}
-use Rattle.boot.proofs.CauseLaws.{cause-skip, cause-met, cause-last}
+use Rattle.boot.proofs.CauseLaws.{cause-skip, cause-last}
 use Rattle.metadata.specs.Fat.{fatEntry}
 use Rattle.metadata.specs.Marks.{marked}
 use Rattle.metadata.proofs.Frame.{Fits}
@@ -41,29 +40,23 @@ use Rattle.write_dir.specs.Directory.{chainRecord, rootRecord, bitmapCause, dir
 use Rattle.write_dir.specs.Entries.{entryCount, entriesAt, sets}
 use Rattle.write_dir.specs.Open.{fileRecord, streamCause}
 use Rattle.write_dir.proofs.FitLaws.{Fit}
+use Rattle.write_file.proofs.OpenLaws.{cause-none}
 use Rattle.write_file.proofs.CallLaws as call
 use Rattle.write_dir.proofs.OrderedLaws.{Ordered, file-fit}
 use Rattle.write_dir.proofs.StoreLaws.{sets-some}
 use Rattle.write.specs.Consistent.{Consistent, lay, root, rootClusters, rootBytes, fileAt, setOf, streamAt, fileClusters}
 use Rattle.write.specs.Demand.{Lost}
+use Rattle.write.proofs.Reading.{reads-as, root-back, record-count}
 use Rattle.write.proofs.Family.{Family, Outside, plain-at}
-use Rattle.write.proofs.Records.{reads-listed, record-count}
 
 -- ---- causes that are not met
-
-pub first-clear : (c : ℕ) (cs : List ℕ) → firstCause (c ∷ cs) ≡ 0 → (c ≡ 0) × (firstCause cs ≡ 0)
-first-clear c cs e =
-    elim (ℕ-discrete c 0) [
-      | yes z ↦ (z, sym (cause-skip c cs z) ∙ e)
-      | no n ↦ absurd (n (sym (cause-met c cs n) ∙ e))
-    ]
 
 pub clear-first : (c : ℕ) (cs : List ℕ) → c ≡ 0 → firstCause cs ≡ 0 → firstCause (c ∷ cs) ≡ 0
 clear-first c cs z e = cause-skip c cs z ∙ e
 
 -- the last of two
 pub both-clear : (a b : ℕ) → firstCause (a ∷ b ∷ []) ≡ 0 → (a ≡ 0) × (b ≡ 0)
-both-clear a b e = let r = first-clear a (b ∷ []) e in (r .0, sym (cause-last b) ∙ r .1)
+both-clear a b e = let r = cause-none a (b ∷ []) e in (r .0, sym (cause-last b) ∙ r .1)
 
 pub clear-both : (a b : ℕ) → a ≡ 0 → b ≡ 0 → firstCause (a ∷ b ∷ []) ≡ 0
 clear-both a b p q = clear-first a (b ∷ []) p (cause-last b ∙ q)
@@ -87,25 +80,13 @@ unfolding streamCause systemCause
 clear-stream y d m a e h =
     clear-both _ _ e (rw (mem-every (λ k. not (inMap m k)) (clustersIn y d a) (λ k i. ap not (h k i))) refl)
 
--- what a directory's causes say
-pub directory-clear : (y : Layout) (d : List ℕ) (a : Allocation) → directoryCause y d a ≡ 0
-    → (numberOf (streamOf y d a) ≡ 0) × ((k : ℕ) → Mem k (clustersIn y d a) → isBitmapCluster y k ≡ false)
-unfolding directoryCause bitmapCause clustersIn
-directory-clear y d a e =
-    let r = both-clear _ _ e in
-    (r .0, λ k i. not-true (isBitmapCluster y k) (every-mem (λ k. not (isBitmapCluster y k)) _ (if-clear _ 9 (λ z. omega arith) (r .1)) k i))
-
+-- a directory that reads, from clusters that are no bitmap's
 pub clear-directory : (y : Layout) (d : List ℕ) (a : Allocation) → numberOf (streamOf y d a) ≡ 0 → every (plain y) (clustersIn y d a) ≡ true
     → directoryCause y d a ≡ 0
 unfolding directoryCause bitmapCause clustersIn
 clear-directory y d a e h =
     clear-both _ _ e
     (rw (mem-every (λ k. not (isBitmapCluster y k)) (clustersOf (streamOf y d a)) (λ k i. ap not (plain-off y k (every-mem (plain y) _ h k i)))) refl)
-
--- clusters of the heap that are no bitmap's
-plain-of : (y : Layout) (ks : List ℕ) → every (inHeap (y .count)) ks ≡ true → ((k : ℕ) → Mem k ks → isBitmapCluster y k ≡ false)
-    → every (plain y) ks ≡ true
-plain-of y ks h o = mem-every (plain y) ks (λ k i. plain-at y k (every-mem (inHeap (y .count)) ks h k i) (o k i))
 
 -- ---- the limits
 
@@ -200,7 +181,7 @@ module _ (g : Geometry) (m d : List ℕ) (c : Consistent g m d) where
   per-low = let l = fits .laid .size-low in omega arith
 
   pub root-number : numberOf (streamOf (lay g d) d (root g d)) ≡ 0
-  root-number = directory-clear (lay g d) d (root g d) (c .root-reads) .0
+  root-number = call.directory-reads (lay g d) d (root g d) (c .root-reads)
 
   root-read : Read (lay g d .count) (fatEntry (lay g d) d) (marked (lay g d) d) (root g d) (rootClusters g d)
   unfolding rootClusters clustersIn
@@ -208,15 +189,20 @@ module _ (g : Geometry) (m d : List ℕ) (c : Consistent g m d) where
 
   pub root-listed : streamOf (lay g d) d (root g d) ≡ listed (rootClusters g d)
   unfolding rootClusters
-  root-listed = reads-listed (lay g d) d (root g d) root-number
+  root-listed = reads-as (lay g d) d (root g d) root-number
+
+  -- its record is read back where it reads as before
+  pub root-again : (d′ : List ℕ) → streamOf (lay g d) d′ (root g d) ≡ streamOf (lay g d) d (root g d) → rootRecord (lay g d) d′ (rootCluster g) ≡ root g d
+  root-again d′ e =
+      ap (rootRecord (lay g d) d′) (sym (root-first g d))
+      ∙ root-back (lay g d) d′ (root g d) (rootClusters g d) (e ∙ root-listed) (root-chain g d) (root-some g d)
 
   pub root-count : root g d .count ≡ length (rootClusters g d)
   root-count = sym (read-length (lay g d .count) (fatEntry (lay g d) d) (marked (lay g d) d) (root g d) (rootClusters g d) root-read)
 
   pub root-plain : every (plain (lay g d)) (rootClusters g d) ≡ true
   unfolding rootClusters
-  root-plain =
-      plain-of (lay g d) (rootClusters g d) (root-read .heap) (directory-clear (lay g d) d (root g d) (c .root-reads) .1)
+  root-plain = call.directory-plain (lay g d) d (root g d) (c .root-reads)
 
   pub root-length : length (rootBytes g d) ≡ length (rootClusters g d) * lay g d .size
   unfolding rootBytes bytesIn rootClusters
@@ -270,7 +256,9 @@ module _ (g : Geometry) (m d : List ℕ) (c : Consistent g m d) where
 
     pub slot-plain : every (plain (lay g d)) (clustersIn (lay g d) d (fileRecord (lay g d) d s)) ≡ true
     slot-plain =
-        plain-of (lay g d) (clustersIn (lay g d) d (fileRecord (lay g d) d s)) (slot-read .heap) (λ k i. off-bitmap g m d (c .limits-hold) k (slot-off k i))
+        mem-every (plain (lay g d)) (clustersIn (lay g d) d (fileRecord (lay g d) d s))
+        (λ k i. plain-at (lay g d) k (every-mem (inHeap (lay g d .count)) (clustersIn (lay g d) d (fileRecord (lay g d) d s)) (slot-read .heap) k i)
+        (off-bitmap g m d (c .limits-hold) k (slot-off k i)))
 
     -- as many as its length takes
     pub slot-takes : length (clustersIn (lay g d) d (fileRecord (lay g d) d s)) ≡ clustersFor (lay g d .size) (dataLength s)

@@ -30,6 +30,7 @@ use Rattle.write_dir.specs.Entries.{entriesAt, sets}
 use Rattle.write_dir.specs.Open.{fileRecord, setIn}
 use Rattle.write_dir.proofs.FitLaws.{Fit}
 use Rattle.write_dir.proofs.StoreLaws.{sets-some, replaced-ordered, replaced-sets}
+use Rattle.write_dir.proofs.PlaceLaws.{clusters-length}
 use Rattle.write_file.specs.Refresh.{entriesOf, recorded, stored, openCause}
 use Rattle.write_file.specs.SetLength.{smaller, setLengthCause, shorter, resized}
 use Rattle.write.specs.Calls.{SetLength, step}
@@ -38,13 +39,12 @@ use Rattle.write.specs.Contents.{shown, contents}
 use Rattle.write.specs.Model.{resize, onto, accepted}
 use Rattle.write.specs.Demand.{slotOf, setAfter}
 use Rattle.write.proofs.Shown.{shown-shorter}
-use Rattle.write.proofs.Reading.{reads-as, bytes-length, clusters-length}
+use Rattle.write.proofs.Reading.{reads-as, bytes-length}
 use Rattle.write.proofs.Scene.{both-clear, members, fits, ordered, slot-number, slot-off, slot-takes, slot-fit}
 use Rattle.write.proofs.Change.{Change, takes, contentsOf, contents-is}
-use Rattle.write.proofs.Steps.{Step}
+use Rattle.write.proofs.Steps.{Step, carried-step}
 use Rattle.write.proofs.Lengths.{clusters-hold, clusters-mono}
 use Rattle.write.proofs.Answers.{decided-number, decided-carried, set-decided}
-use Rattle.write.proofs.Carried.{carried-step}
 use Rattle.write.proofs.Open.{open-set, open-file}
 use Rattle.write.proofs.Recorded.{recorded-length, recorded-fit, recorded-directory, recorded-valid, recorded-data, recorded-back}
 use Rattle.write.proofs.Cut.{open-entries, cut-shorter, cut-clusters, cut-bytes, cut-marks, cut-fits, cut-change}

@@ -16,6 +16,7 @@ use Rattle.boot.specs.declared.layout.Layout.{Layout}
 use Rattle.metadata.specs.Marks.{allocatedCount}
 use Rattle.entry_set.specs.declared.stamp.Stamps.{Stamps}
 use Rattle.write_dir.specs.declared.answer.FileAnswer.{FileAnswer}
+use Rattle.write_dir.specs.Outcome.{Outcome, carried}
 use Rattle.write_dir.specs.Entries.{sets}
 use Rattle.write.specs.Calls.{Call, New, Write, SetLength, Remove, step, run, answers}
 use Rattle.write.specs.Consistent.{Consistent, lay, rootBytes, fileAt, setOf}
@@ -79,7 +80,7 @@ unfolding entriesAtSlot fileAt setOf sets
 slot-entries g d i = refl
 
 -- an accepted call whose volume is changed at its slot alone, where the set that it leaves shows what the model has there
-pub accepted-step : (g : Geometry) (m d : List ℕ) (c : Call) → Consistent g m d → step g m d c .answer .number ≡ 0
+accepted-step : (g : Geometry) (m d : List ℕ) (c : Call) → Consistent g m d → step g m d c .answer .number ≡ 0
     → Change g m d (step g m d c .volume) (slotOf c (step g m d c .answer .slot)) (setAfter g m d c)
     → contentsOf (lay g d) (step g m d c .volume) (setAfter g m d c)
     ≡ accepted (contents g d) c (step g m d c .answer .slot) (slotOf c (step g m d c .answer .slot))
@@ -113,6 +114,22 @@ accepted-step g m d c w z h v f = record {
         slot-entries g (step g m d c .volume) (slotOf c (step g m d c .answer .slot))
         ∙ change-sets g m d (step g m d c .volume) _ _ w h (slotOf c (step g m d c .answer .slot))
         ∙ upd-same (sets (rootBytes g d)) (slotOf c (step g m d c .answer .slot)) (setAfter g m d c)
+
+-- the same by its outcome and the set that it leaves
+pub carried-step : (g : Geometry) (m d : List ℕ) (c : Call) (slot hint : ℕ) (d′ : List ℕ) (o : Option (List ℕ)) → Consistent g m d
+    → step g m d c ≡ carried slot hint d′ → setAfter g m d c ≡ o → Change g m d d′ (slotOf c slot) o
+    → contentsOf (lay g d) d′ o ≡ accepted (contents g d) c slot (slotOf c slot)
+    → ((name : List ℕ) (attributes hash : ℕ) (t : Stamps) (hint : ℕ) → c ≡ New name attributes hash t hint → contents g d slot ≡ none)
+    → Step g m d c
+unfolding carried
+carried-step g m d c slot hint d′ o w e after h shows fresh =
+    accepted-step g m d c w (ap (λ (x : Outcome). x .answer .number) e)
+    (subst (λ (x : Outcome). Change g m d (x .volume) (slotOf c (x .answer .slot)) (setAfter g m d c)) (sym e)
+    (subst (Change g m d d′ (slotOf c slot)) (sym after) h))
+    (subst
+    (λ (x : Outcome). contentsOf (lay g d) (x .volume) (setAfter g m d c) ≡ accepted (contents g d) c (x .answer .slot) (slotOf c (x .answer .slot)))
+    (sym e) (ap (contentsOf (lay g d) d′) after ∙ shows))
+    (λ name attributes hash t k q. ap (λ (x : Outcome). contents g d (x .answer .slot)) e ∙ fresh name attributes hash t k q)
 
 -- ---- every list of calls
 

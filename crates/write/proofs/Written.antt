@@ -7,9 +7,9 @@ use mathlib.Core.Option.{some}
 use Prim.Native.Nat.{ℕ, _+_, _-_, _*_, _≤_, _<_}
 use native.Mathlib.Decide.{ℕ-discrete, decLt}
 use native.Mathlib.Omega.{arith}
-use lib.Dec.{eqb, ltb}
+use lib.Dec.{eqb}
 use lib.ListN.{length, replicate, length-replicate}
-use borrow.Author.Tests.{ltb-false, eq-eqb, ne-eqb, le-ltb}
+use borrow.Author.Tests.{eq-eqb, ne-eqb, le-ltb}
 use Rattle.primitives.specs.Splice.{splice}
 use Rattle.tables.specs.Table.{upd}
 use Rattle.tables.specs.Count.{count}
@@ -25,7 +25,7 @@ use Rattle.entry_set.specs.declared.stamp.Stamp.{Stamp}
 use Rattle.entry_set.specs.declared.stamp.Stamps.{Stamps}
 use Rattle.entry_set.specs.Fields.{validLength, dataLength, clustersFor}
 use Rattle.entry_set.proofs.SetLaws.{formed-lengths}
-use Rattle.write_alloc.specs.Outcome.{Outcome, spaceCause}
+use Rattle.write_alloc.specs.Outcome.{Outcome}
 use Rattle.write_extend.specs.Extend.{extendIn}
 use Rattle.write_extend.proofs.ExtendLaws.{extend-none}
 use Rattle.write_dir.specs.Outcome.{carried}
@@ -34,41 +34,27 @@ use Rattle.write_dir.specs.Entries.{sets}
 use Rattle.write_dir.specs.Open.{fileRecord, setIn}
 use Rattle.write_file.specs.Refresh.{recorded, stored, missing, lengthCause, openCause}
 use Rattle.write_file.specs.Write.{larger, dataCause, writeCause, withData, written, refreshedOnly}
-use Rattle.write_file.specs.SetLength.{smaller, setLengthCause, zeroEnd, longerFile, resized}
+use Rattle.write_file.specs.SetLength.{setLengthCause, zeroEnd, longerFile, resized}
+use Rattle.write_file.proofs.NewFileLaws.{space-enough}
+use Rattle.write_file.proofs.WriteLaws.{larger-above}
+use Rattle.write_file.proofs.SetLengthLaws as new-length
 use Rattle.write.specs.Calls.{Call, New, Write, SetLength, step}
 use Rattle.write.specs.Consistent.{Consistent, lay, root, rootBytes, setOf, streamAt}
 use Rattle.write.specs.Contents.{shown, contents}
 use Rattle.write.specs.Model.{overwrite, resize, onto, accepted}
 use Rattle.write.specs.Demand.{slotOf, setAfter}
 use Rattle.write.proofs.Shown.{shown-written, shown-longer, shown-same}
-use Rattle.write.proofs.Records.{record-empty, record-count}
+use Rattle.write.proofs.Reading.{record-empty, record-count}
 use Rattle.write.proofs.Scene.{both-clear, slot-fit, fits}
-use Rattle.write.proofs.Open.{unless-clear, open-hint, open-set, open-file}
+use Rattle.write.proofs.Open.{open-hint, open-set, open-file}
 use Rattle.write.proofs.Answers.{decided-number, decided-carried, write-decided, set-decided}
 use Rattle.write.proofs.Steps.{Step, refused-step}
 use Rattle.write.proofs.Lengths.{clusters-some}
 use Rattle.write.proofs.Rewritten.{Streamed, streamed-same, streamed-store, got, streamed-longer, longer-count, longer-room, longer-bytes, old-room, rewritten-step, shows-before}
 
--- 7 is not met
-space-enough : (wanted there : ℕ) → spaceCause wanted there ≡ 0 → wanted ≤ there
-unfolding spaceCause
-space-enough wanted there e = ltb-false there wanted (unless-clear (ltb there wanted) 7 (λ z. omega arith) e)
-
-larger-left : (a b : ℕ) → a ≤ larger a b
-unfolding larger
-larger-left a b = omega arith
-
-larger-right : (a b : ℕ) → b ≤ larger a b
-unfolding larger
-larger-right a b = omega arith
-
 larger-mono : (a b c : ℕ) → a ≤ b → larger a c ≤ larger b c
 unfolding larger
 larger-mono a b c l = omega arith
-
-smaller-right : (a b : ℕ) → smaller a b ≤ b
-unfolding smaller
-smaller-right a b = omega arith
 
 module _ (g : Geometry) (m d : List ℕ) (c : Consistent g m d) where
   abbrev y : Layout
@@ -187,10 +173,10 @@ module _ (g : Geometry) (m d : List ℕ) (c : Consistent g m d) where
       valid = validLength (setOf g d i)
 
       some-len : len ≢ 0
-      some-len z = n (omega (arith, larger-right (dataLength (setOf g d i)) end))
+      some-len z = n (omega (arith, larger-above (dataLength (setOf g d i)) end))
 
       more : dataLength (setOf g d i) ≤ len
-      more = larger-left (dataLength (setOf g d i)) end
+      more = unfold larger in (omega arith)
 
       fit : missing y (old i hint clear) len ≤ count (isUsable y d m) 2 (y .count)
       unfolding dataCause lengthCause
@@ -217,7 +203,7 @@ module _ (g : Geometry) (m d : List ℕ) (c : Consistent g m d) where
           let l = length-replicate {A = ℕ} (offset - valid) 0 in
           let v = valid-le i hint clear in
           let a = more in
-          let r = larger-right (dataLength (setOf g d i)) end in
+          let r = larger-above (dataLength (setOf g d i)) end in
           put i hint clear len some-len more fit _ _
           (put i hint clear len some-len more fit _ _ (first i hint clear len some-len more fit) valid zeros (omega arith)) offset bs (omega arith)
 
@@ -337,8 +323,7 @@ module _ (g : Geometry) (m d : List ℕ) (c : Consistent g m d) where
       blank = replicate (end-of - valid₀) 0
 
       end-le : end-of ≤ len
-      unfolding zeroEnd
-      end-le = smaller-right (clustersFor (y .size) valid₀ * y .size) len
+      end-le = new-length.end-le (y .size) valid₀ len (size-some i hint open-clear)
 
       -- the longer stream
       abbrev z₁ : Outcome
