@@ -4,14 +4,15 @@ use mathlib.Core.Path.{_≡_, refl, sym, _∙_, ap}
 use mathlib.Core.Bool.{Bool, true, false, not}
 use mathlib.Core.List.{List, _++_, append-nil}
 use mathlib.Core.Option.{some}
-use Prim.Native.Nat.{ℕ, zero, suc, _+_, _-_, _*_, _/_, _≤_, _<_}
-use native.Mathlib.Nat.{mul-left-comm, suc-mul, mul-le-mul-right, mul-le-mul-left, div-mul-le-self, lt-div-mul-add}
+use Prim.Native.Nat.{ℕ, zero, suc, _+_, _-_, _*_, _≤_, _<_}
+use native.Mathlib.Nat.{mul-left-comm, mul-le-mul-left}
 use native.Mathlib.Decide.{decLt, decLe}
 use native.Mathlib.Omega.{arith}
 use lib.Dec.{eqb}
 use lib.ListN.{length, getD, replicate, length-append, length-replicate, getD-replicate, List·getD-append, List·getD-eq-default}
 use lib.Seq.{getD-append-add}
 use Rattle.entry_set.specs.Fields.{clustersFor}
+use Rattle.entry_set.proofs.LengthLaws.{clusters-hold, clusters-below}
 use Rattle.entry_set.specs.Sound.{wellFormed}
 use Rattle.metadata.specs.declared.usable.Found.{Found}
 use Rattle.metadata.specs.declared.usable.Found.the-variants.{At, Nothing}
@@ -158,18 +159,6 @@ fewest-is p (suc n) g m a b t f =
       | no l ↦ (let e : g ≡ m = omega arith in let q : p g ≡ true = ap p e ∙ t in rw q e)
     ]
 
--- ---- whole clusters: the least number of them that holds len bytes
-
-module _ (size len : ℕ) (pos : 1 ≤ size) where
-  clusters-hold : len ≤ clustersFor size len * size
-  unfolding clustersFor
-  clusters-hold = omega (arith, lt-div-mul-add {a = len + (size - 1)} {b = size} pos)
-
-  clusters-least : (h : ℕ) → h < clustersFor size len → h * size < len
-  unfolding clustersFor
-  clusters-least h l =
-      omega (arith, suc-mul h size, mul-le-mul-right {m = suc h} {n = (len + (size - 1)) / size} size l, div-mul-le-self (len + (size - 1)) size)
-
 -- ---- where the lowest n entries not in use stand, if zeros follow
 
 module _ (bs : List ℕ) (n : ℕ) (whole : length bs ≡ 32 * entryCount bs) where
@@ -189,10 +178,6 @@ module _ (bs : List ℕ) (n : ℕ) (whole : length bs ≡ 32 * entryCount bs) wh
   run-zeros k =
       ap (λ (x : ℕ). runFrom (λ i. not (inUse (withZeros bs (32 * k)) i)) x n 0) (zeros-count bs k whole)
       ∙ run-cong free (λ i. not (inUse (withZeros bs (32 * k)) i)) (N + k) n 0 (λ j a b. ap not (zeros-used bs (32 * k) j))
-
-  run-plain : freeRun bs n ≡ runFrom free N n 0
-  unfolding freeRun
-  run-plain = refl
 
   -- there always is one
   pub place-at : freeRun (withZeros bs (32 * n)) n ≡ At (slotOf (freeRun (withZeros bs (32 * n)) n))
@@ -242,10 +227,10 @@ module _ (bs : List ℕ) (n : ℕ) (whole : length bs ≡ 32 * entryCount bs) wh
       bytes g = ap (λ (x : ℕ). g * x) e ∙ mul-left-comm g 32 per
 
       enough : base + n ≤ N + needed * per
-      enough = omega (arith, clusters-hold size (32 * (base + n - N)) (omega arith), bytes needed)
+      enough = omega (arith, clusters-hold size (omega arith) (32 * (base + n - N)), bytes needed)
 
       less : (g : ℕ) → g < needed → N + g * per < base + n
-      less g l = omega (arith, clusters-least size (32 * (base + n - N)) (omega arith) g l, bytes g)
+      less g l = omega (arith, clusters-below size (omega arith) (32 * (base + n - N)) g l, bytes g)
 
       few : needed ≤ n
       few =
@@ -270,26 +255,9 @@ module _ (bs : List ℕ) (n : ℕ) (whole : length bs ≡ 32 * entryCount bs) wh
       pub grown-at : freeRun (withZeros bs (growth size bs n * size)) n ≡ At base
       grown-at = ap (λ (g : ℕ). freeRun (withZeros bs (g * size)) n) growth-is ∙ needed-at
 
-      pub fewer-none : (g : ℕ) → g < growth size bs n → freeRun (withZeros bs (g * size)) n ≡ Nothing
-      fewer-none g l = less-none g (omega (arith, growth-is))
-
       pub growth-zero : base + n ≤ N → growth size bs n ≡ 0
       growth-zero h =
           elim (decLt 0 needed) [
             | yes l ↦ absurd (omega (arith, less 0 l))
             | no l ↦ omega (arith, growth-is)
           ]
-
-  -- ---- n clusters always suffice, and nothing less does
-
-  module _ (size per : ℕ) (e : size ≡ 32 * per) (pos : 1 ≤ per) where
-    abbrev place : ℕ
-    place = slotOf (freeRun (withZeros bs (32 * n)) n)
-
-    pub growth-enough : isAt (freeRun (withZeros bs (growth size bs n * size)) n) ≡ true
-    unfolding isAt
-    growth-enough = ap isAt (grown-at place place-at size per e pos)
-
-    pub growth-least : (g : ℕ) → g < growth size bs n → isAt (freeRun (withZeros bs (g * size)) n) ≡ false
-    unfolding isAt
-    growth-least g l = ap isAt (fewer-none place place-at size per e pos g l)
