@@ -6,7 +6,7 @@ use Prim.Native.Nat.{ℕ, zero, suc, _+_, _-_, _≤_, _<_}
 use native.Mathlib.Decide.{ℕ-discrete}
 use native.Mathlib.Omega.{arith}
 use lib.Dec.{eqb, leb}
-use borrow.Author.Tests.{ne-eqb, eqb-true, leb-true, ltb-true}
+use borrow.Author.Tests.{ne-eqb, leb-true, ltb-true}
 use Rattle.tables.specs.Lists.{every}
 use Rattle.tables.proofs.ListLaws.{every-mem, mem-every}
 use Rattle.boot.specs.declared.geometry.Geometry.{Geometry}
@@ -25,9 +25,8 @@ use Rattle.stream.specs.Stream.{numberOf, streamOf}
 use Rattle.stream.specs.Listing.{clustersOf}
 use Rattle.stream.proofs.ListingLaws.{stream-read}
 use Rattle.write_dir.specs.declared.answer.FileAnswer.{FileAnswer}
-use Rattle.write_dir.specs.declared.directory.Directory.{Directory}
 use Rattle.write_dir.specs.Outcome.{refuse}
-use Rattle.write_dir.specs.Directory.{rootRecord, bitmapCause, directoryCause, clustersIn, openRoot}
+use Rattle.write_dir.specs.Directory.{bitmapCause, directoryCause, clustersIn}
 use Rattle.write_file.proofs.OpenLaws.{cause-none}
 
 -- ---- a bitmap's clusters are in the system map
@@ -101,26 +100,6 @@ module _ (y : Layout) (d : List ℕ) (a : Allocation) (e : directoryCause y d a 
       mem-every _ (clustersIn y d a)
       (λ k i. and-both (inHeap (y .count) k) (not (isBitmapCluster y k)) (every-mem (inHeap (y .count)) (clustersIn y d a) heap k i)
       (every-mem (λ k. not (isBitmapCluster y k)) (clustersIn y d a) off k i))
-
--- ---- the root opened
-
-module _ (y : Layout) (d : List ℕ) (root : ℕ) (r : Directory) (e : r ≡ openRoot y d root) where
-  pub root-number : r .number ≡ directoryCause y d (rootRecord y d root)
-  unfolding openRoot
-  root-number = ap (λ (x : Directory). x .number) e ∙ by (eqb n 0) refl
-    where
-      n : ℕ
-      n = directoryCause y d (rootRecord y d root)
-
-      by : (b : Bool) → eqb n 0 ≡ b → openRoot y d root .number ≡ n
-      by true q = rw q (sym (eqb-true n 0 q))
-      by false q = rw q refl
-
-  pub root-allocation : r .number ≡ 0 → r .allocation ≡ rootRecord y d root
-  unfolding openRoot
-  root-allocation z =
-      let q : directoryCause y d (rootRecord y d root) ≡ 0 = sym root-number ∙ z in
-      ap (λ (x : Directory). x .allocation) e ∙ (rw q refl)
 
 -- ---- a refusal
 

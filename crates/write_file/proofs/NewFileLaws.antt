@@ -51,8 +51,8 @@ use Rattle.write_dir.proofs.PlaceLaws.{spot-store, clusters-length}
 use Rattle.write_file.specs.Opens.{Stands}
 use Rattle.write_file.specs.NewFile.{Ready, newGrowth, newCause, placed, newFileIn, newFile}
 use Rattle.write_file.proofs.RefreshLaws.{stream-is}
-use Rattle.write_file.proofs.OpenLaws.{take-few}
-use Rattle.write_file.proofs.CallLaws.{mapped, directory-reads, directory-plain, root-number, root-allocation}
+use Rattle.write_file.proofs.OpenLaws.{take-few, root-number, root-record}
+use Rattle.write_file.proofs.CallLaws.{mapped, directory-reads, directory-plain}
 
 -- ---- a directory that is ready
 
@@ -270,7 +270,7 @@ module _ (g : Geometry) (d m name : List ℕ) (attributes hash : ℕ) (t : Stamp
 
       pub call-opens : r .number ≡ 0 → newFile g d m name attributes hash t hint ≡ newFileIn y d m (r .allocation) name attributes hash t hint
       call-opens z =
-          call-is ∙ ap (λ (x : Allocation). newFileIn y d m x name attributes hash t hint) (sym (root-allocation y d (rootCluster g) r o z))
+          call-is ∙ ap (λ (x : Allocation). newFileIn y d m x name attributes hash t hint) (sym (root-record y d (rootCluster g) r o z))
 
 module _ (g : Geometry) (d m : List ℕ) (hint : ℕ) (l : limits g (length d) m ≡ true) (y : Layout) (e : y ≡ layoutOf g (length d))
     (h : inHeap (y .count) hint ≡ true) (r : Directory) (o : r ≡ openRoot y d (rootCluster g)) where
@@ -278,7 +278,7 @@ module _ (g : Geometry) (d m : List ℕ) (hint : ℕ) (l : limits g (length d) m
   call-ready z =
       let p = accepted-of g (length d) m l in
       let c : directoryCause y d (r .allocation) ≡ 0 =
-      ap (directoryCause y d) (root-allocation y d (rootCluster g) r o z) ∙ sym (root-number y d (rootCluster g) r o) ∙ z in
+      ap (directoryCause y d) (root-record y d (rootCluster g) r o z) ∙ sym (root-number y d (rootCluster g) r o) ∙ z in
       subst (λ (x : Layout). directoryCause x d (r .allocation) ≡ 0 → inHeap (x .count) hint ≡ true → Ready x d m (r .allocation) hint) (sym e)
       (λ c h. record {
         laid = laid-of g (length d) p;

@@ -14,14 +14,13 @@ use Rattle.boot.specs.Layout.{Laid, inHeap}
 use Rattle.boot.specs.Causes.{firstCause, heapCause}
 use Rattle.boot.proofs.CauseLaws.{cause-skip, cause-met, cause-last, heap-met, heap-kept}
 use Rattle.metadata.proofs.Frame.{Fits}
-use Rattle.metadata.specs.Fat.{fatEntry}
 use Rattle.stream.specs.Bytes.{storeAt}
-use Rattle.stream.proofs.StreamLaws.{length-along}
 use Rattle.stream.specs.declared.allocation.Allocation.{Allocation}
 use Rattle.stream.specs.Stream.{numberOf, streamOf}
 use Rattle.stream.specs.Listing.{clustersOf}
 use Rattle.entry_set.specs.declared.stamp.Stamp.{Stamp}
 use Rattle.entry_set.specs.Fields.{validLength, dataLength, clustersFor}
+use Rattle.entry_set.proofs.LengthLaws.{clusters-hold}
 use Rattle.entry_set.proofs.SetLaws.{formed-lengths}
 use Rattle.write_shrink.specs.Shrink.{systemCause}
 use Rattle.write_dir.specs.declared.answer.FileAnswer.{FileAnswer}
@@ -32,7 +31,7 @@ use Rattle.write_dir.specs.declared.«open_file».Opened.{Opened}
 use Rattle.write_dir.specs.Directory.{rootRecord, openRoot, bitmapCause, directoryCause, clustersIn, bytesIn}
 use Rattle.write_dir.specs.declared.place.Spot.{Spot}
 use Rattle.write_dir.specs.Place.{spotOf, spotClusters, Reaches}
-use Rattle.write_dir.proofs.PlaceLaws.{spot-reaches, spot-store}
+use Rattle.write_dir.proofs.PlaceLaws.{clusters-length, spot-reaches, spot-store}
 use Rattle.write_dir.specs.Entries.{entryCount, entriesAt, setAt, isSound}
 use Rattle.write_dir.specs.Open.{fileRecord, entryCause, attributeCause, streamCause, setIn, fileCause, opened, openFile}
 use Rattle.write_dir.proofs.EntryLaws.{sound-few, sound-room, sound-formed, set-count}
@@ -40,7 +39,6 @@ use Rattle.write_dir.proofs.CursorLaws.{length-in, count-few}
 use Rattle.write_file.specs.Refresh.{entriesOf, recorded, stored, openCause}
 use Rattle.write_file.specs.declared.target.Target.{Target}
 use Rattle.write_file.specs.Opens.{Opens, Stands, target}
-use Rattle.write_file.proofs.RefreshLaws.{clusters-hold, clusters-along}
 
 -- ---- causes of which none is met
 
@@ -57,10 +55,6 @@ pub take-few : (n : ℕ) (l : List ℕ) → length (take n l) ≤ n
 take-few zero l = omega arith
 take-few (suc n) [] = omega arith
 take-few (suc n) (x ∷ l) = omega (arith, take-few n l)
-
-clusters-count : (y : Layout) (d : List ℕ) (a : Allocation) → numberOf (streamOf y d a) ≡ 0 → length (clustersIn y d a) ≡ a .count
-clusters-count y d a e =
-    ap length (sym (clusters-along y d a e)) ∙ length-along (fatEntry y d) (a .«no_fat_chain») (a .first) (a .count)
 
 -- ---- a file that opens
 
@@ -140,7 +134,7 @@ module _ (y : Layout) (d m : List ℕ) (a : Allocation) (slot : ℕ) (s : List �
         arith,
         open-valid,
         ap (λ (x : ℕ). x * y .size) open-count,
-        clusters-hold (y .size) (dataLength s) (omega (arith, l .size-low)),
+        clusters-hold (y .size) (omega (arith, l .size-low)) (dataLength s),
         mul-le-mul-right {m = b .count} {n = y .count} (y .size) open-few,
         l .heap-in,
         l .len-high,
@@ -161,7 +155,7 @@ module _ (y : Layout) (d : List ℕ) (a : Allocation) (slot : ℕ) (l : Laid y) 
   unfolding stored
   stored-spot s e e′ b valid len t p h q r =
       let bs = take (32 * entriesOf s) (recorded s b valid len t) in
-      let n = clusters-count y d a (h .reads) in
+      let n = clusters-length y d a (h .reads) in
       let k : length bs ≤ 32 * entriesOf s = take-few (32 * entriesOf s) (recorded s b valid len t) in
       r ∙ ap (λ (x : Spot). storeAt y e (spotClusters x) (x .at) bs) q
       ∙ spot-store y d a slot l e bs (omega (arith, h .few)) (omega (arith, h .room, ap (λ (x : ℕ). x * y .size) n))

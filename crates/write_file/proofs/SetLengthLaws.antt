@@ -3,7 +3,7 @@ use mathlib.Core.Path.{_≡_, refl, sym, _∙_, ap}
 use mathlib.Core.Bool.{true, false}
 use mathlib.Core.List.{List, [], _∷_}
 use Prim.Native.Nat.{ℕ, _+_, _-_, _*_, _/_, _%_, _≤_, _<_}
-use native.Mathlib.Nat.{div-add-mod', add-mul, one-mul, div-mul-le-self, le-div-iff-mul-le}
+use native.Mathlib.Nat.{div-add-mod', add-mul, one-mul}
 use native.Mathlib.Omega.{arith}
 use lib.ListN.{length, take, replicate}
 use borrow.Author.Tests.{eq-eqb, ne-eqb, lt-ltb, le-ltb}
@@ -67,11 +67,6 @@ module _ (size valid len : ℕ) (h : 1 ≤ size) where
   end-le = omega arith
 
 -- ---- the kept part of a stream
-
--- fewer bytes take no more clusters
-pub clusters-le : (size j k : ℕ) → 1 ≤ size → j ≤ k → clustersFor size j ≤ clustersFor size k
-unfolding clustersFor
-clusters-le size j k h f = le-div-iff-mul-le {k = size} {x = (j + (size - 1)) / size} {y = k + (size - 1)} h .1 (omega (arith, div-mul-le-self (j + (size - 1)) size))
 
 module _ (y : Layout) (d : List ℕ) (b : Allocation) (keep : ℕ) (reads : numberOf (streamOf y d b) ≡ 0) (h : keep ≤ b .count) where
   pub part-is : along (fatEntry y d) (b .«no_fat_chain») (b .first) keep ≡ take keep (clustersIn y d b)

@@ -2,11 +2,12 @@ use mathlib.Core.Path.{_≡_, sym, _∙_, refl, ap}
 use native.Mathlib.Omega.{arith}
 use Prim.Native.Nat.{ℕ, _+_, _≤_}
 use Rattle.entry_set.specs.Fields.{dataLength, clustersFor}
+use Rattle.entry_set.proofs.LengthLaws.{clusters-mono}
 use Rattle.write_dir.specs.Open.{fileRecord}
 use Rattle.write_file.specs.Refresh.{entriesOf}
 use Rattle.write_file.proofs.RefreshLaws.{entries-some}
 use Rattle.write_file.proofs.OpenLaws.{open-stream, open-count, open-few, open-stands, stands-inside, stands-reaches, stored-spot}
-use Rattle.write_file.proofs.SetLengthLaws.{clusters-le, shorter-is}
+use Rattle.write_file.proofs.SetLengthLaws.{shorter-is}
 use borrow.Author.Needs.{needs}
 use Rattle.write_file.proofs.set_length.make_shorter.Statement.{statement}
 use Rattle.write_file.proofs.set_length.make_shorter.Tie as tie
@@ -27,7 +28,7 @@ cast-keep c =
     let p = c .before .before .before .before .before .pre in
     let l = p .0 .laid in
     let h : 1 ≤ a .y .size = omega (arith, l .size-low) in
-    omega (arith, clusters-le (a .y .size) (a .len) (dataLength (a .t6)) h (omega (arith, p .1)), open-count _ _ _ _ _ _ _ _ (p .0), open-few _ _ _ _ _ _ _ _ (p .0), l .count-high)
+    omega (arith, clusters-mono (a .y .size) h (a .len) (dataLength (a .t6)) (omega (arith, p .1)), open-count _ _ _ _ _ _ _ _ (p .0), open-few _ _ _ _ _ _ _ _ (p .0), l .count-high)
 
 kept-stream-requires : tie.Need-kept-stream-requires
 kept-stream-requires c κs =
@@ -35,7 +36,7 @@ kept-stream-requires c κs =
     let p = c .before .before .before .before .before .before .pre in
     let l = p .0 .laid in
     let h : 1 ≤ a .y .size = omega (arith, l .size-low) in
-    (l, (p .0 .long, (open-stream _ _ _ _ _ _ _ _ (p .0), omega (arith, clusters-le (a .y .size) (a .len) (dataLength (a .t6)) h (omega (arith, p .1)), open-count _ _ _ _ _ _ _ _ (p .0)))))
+    (l, (p .0 .long, (open-stream _ _ _ _ _ _ _ _ (p .0), omega (arith, clusters-mono (a .y .size) h (a .len) (dataLength (a .t6)) (omega (arith, p .1)), open-count _ _ _ _ _ _ _ _ (p .0)))))
 
 valid-length-requires : tie.Need-valid-length-requires
 valid-length-requires c κs = search needs
