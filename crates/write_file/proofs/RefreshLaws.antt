@@ -2,9 +2,9 @@
 use mathlib.Core.Path.{_≡_, refl, sym, _∙_, ap, ap₂}
 use mathlib.Core.Bool.{true}
 use mathlib.Core.List.{List, _++_}
-use Prim.Native.Nat.{ℕ, suc, _+_, _-_, _*_, _/_, _%_, _≤_, _<_}
+use Prim.Native.Nat.{ℕ, suc, _+_, _-_, _*_, _≤_, _<_}
 use native.Mathlib.Decide.{ℕ-discrete, decLt}
-use native.Mathlib.Nat.{div-add-mod', add-mul, one-mul, mod-lt, mul-le-mul-right}
+use native.Mathlib.Nat.{mul-le-mul-right}
 use native.Mathlib.Omega.{arith}
 use lib.ListN.{length, take, replicate, length-append}
 use lib.Seq.{take-at}
@@ -31,7 +31,7 @@ use Rattle.stream.proofs.ChainLaws.{stream-listed}
 use Rattle.stream.proofs.Distinct.{read-length}
 use Rattle.stream.proofs.BytesLaws.{along-store}
 use Rattle.entry_set.specs.Fields.{clustersFor}
-use Rattle.entry_set.proofs.SoundLaws.{clusters-even, clusters-rest}
+use Rattle.entry_set.proofs.LengthLaws.{clusters-hold}
 use Rattle.write_alloc.specs.declared.answer.Answer.{Answer}
 use Rattle.write_alloc.specs.Outcome.{Outcome}
 use Rattle.write_extend.specs.Extend.{extendIn}
@@ -39,14 +39,6 @@ use Rattle.write_extend.proofs.EnoughLaws.{Took, extend-done}
 use Rattle.write_alloc.proofs.AllocateLaws.{space-met, space-kept}
 use Rattle.write_dir.specs.Directory.{clustersIn}
 use Rattle.write_file.specs.Refresh.{entriesOf, missing, lengthCause, knownPlace}
-
--- whole clusters hold the length that they are for
-pub clusters-hold : (size len : ℕ) → 1 ≤ size → len ≤ clustersFor size len * size
-clusters-hold size len h =
-    elim (ℕ-discrete (len % size) 0) [
-      | yes e ↦ rw (clusters-even size len h e) (omega (arith, div-add-mod' len size))
-      | no e ↦ rw (clusters-rest size len h e) (omega (arith, div-add-mod' len size, mod-lt len h, add-mul (len / size) 1 size, one-mul size))
-    ]
 
 module _ (y : Layout) (b : Allocation) (len : ℕ) where
   pub missing-is : missing y b len ≡ clustersFor (y .size) len - b .count
@@ -180,7 +172,7 @@ module _ (y : Layout) (d m : List ℕ) (w : Fits y d) (b : Allocation) (n hint :
 pub grown-holds : (y : Layout) (b : Allocation) (len k : ℕ) → Laid y → k ≡ b .count + missing y b len → len ≤ k * y .size
 grown-holds y b len k l e =
     let z = missing-is y b len in
-    let h = clusters-hold (y .size) len (let q = l .size-low in omega arith) in
+    let h = clusters-hold (y .size) (let q = l .size-low in omega arith) len in
     let f : clustersFor (y .size) len ≤ k = omega arith in
     omega (arith, mul-le-mul-right {m = clustersFor (y .size) len} {n = k} (y .size) f)
 
