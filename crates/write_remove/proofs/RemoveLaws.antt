@@ -1,5 +1,5 @@
 -- What remove answers and leaves. Assumes nothing.
-use mathlib.Core.Path.{_≡_, refl, sym, _∙_, ap, ap₂}
+use mathlib.Core.Path.{_≡_, refl, _∙_, ap, ap₂}
 use mathlib.Core.Bool.{true, false}
 use mathlib.Core.List.{List}
 use Prim.Native.Nat.{ℕ, _*_, _≤_}
@@ -12,10 +12,8 @@ use Rattle.boot.specs.declared.layout.Layout.{Layout}
 use Rattle.boot.specs.Geometry.{rootCluster}
 use Rattle.boot.specs.Limits.{limits}
 use Rattle.boot.specs.Layout.{Laid, layoutOf}
-use Rattle.metadata.specs.Fat.{fatEntry}
 use Rattle.stream.specs.declared.allocation.Allocation.{Allocation}
 use Rattle.stream.specs.Bytes.{storeAt}
-use Rattle.stream.proofs.StreamLaws.{length-along}
 use Rattle.entry_set.specs.Put.{cleared}
 use Rattle.write_shrink.specs.Shrink.{shrinkIn}
 use Rattle.write_dir.specs.Outcome.{refuse, carried}
@@ -23,10 +21,9 @@ use Rattle.write_dir.specs.Directory.{rootRecord, clustersIn}
 use Rattle.write_dir.specs.Open.{fileRecord, setIn}
 use Rattle.write_dir.specs.declared.place.Spot.{Spot}
 use Rattle.write_dir.specs.Place.{spotOf, spotClusters}
-use Rattle.write_dir.proofs.PlaceLaws.{spot-store}
+use Rattle.write_dir.proofs.PlaceLaws.{clusters-length, spot-store}
 use Rattle.write_file.specs.Refresh.{entriesOf, openCause}
 use Rattle.write_file.specs.Opens.{Stands}
-use Rattle.write_file.proofs.RefreshLaws.{clusters-along}
 use Rattle.write_file.proofs.OpenLaws.{shown-as, carried-shown}
 use Rattle.write_remove.specs.Remove.{unlinked, removeIn, remove}
 
@@ -39,8 +36,7 @@ module _ (y : Layout) (d : List ℕ) (a : Allocation) (slot : ℕ) (l : Laid y) 
       let k = entriesOf s in
       let bs = take (32 * k) (cleared s k) in
       let z : take (32 * n) out ≡ bs = ap (take (32 * n)) eo ∙ ap (λ (x : ℕ). take (32 * x) (cleared s x)) en in
-      let c : length (clustersIn y d a) ≡ a .count =
-      ap length (sym (clusters-along y d a (h .reads))) ∙ length-along (fatEntry y d) (a .«no_fat_chain») (a .first) (a .count) in
+      let c = clusters-length y d a (h .reads) in
       let f : length bs ≤ 32 * k = omega (arith, length-take (32 * k) (cleared s k), min-le-left (32 * k) (length (cleared s k))) in
       r ∙ ap₂ (λ (x : Spot) (u : List ℕ). storeAt y d (spotClusters x) (x .at) u) q z
       ∙ spot-store y d a slot l d bs (omega (arith, h .few)) (omega (arith, h .room, ap (λ (x : ℕ). x * y .size) c))
