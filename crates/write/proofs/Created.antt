@@ -26,6 +26,7 @@ use Rattle.entry_set.specs.Fields.{validLength, dataLength}
 use Rattle.entry_set.specs.Name.{nameOk, nameCause, attributesOk, attributeCause}
 use Rattle.entry_set.specs.New.{newEntries, newSet}
 use Rattle.entry_set.proofs.SetLaws.{new-length, new-zero, new-entries, new-valid, new-data, new-directory, new-few, new-formed}
+use Rattle.entry_set.proofs.LengthLaws.{clusters-none}
 use Rattle.write_alloc.specs.Outcome.{empty, spaceCause}
 use Rattle.write_dir.specs.Outcome.{carried}
 use Rattle.write_dir.specs.Directory.{rootRecord, clustersIn, bytesIn}
@@ -50,7 +51,6 @@ use Rattle.write.proofs.Zeroed.{Wider, grow-member}
 use Rattle.write.proofs.Scene.{both-clear, if-clear, mapped, root-first, root-chain, root-some, members, member-root, fits, size-per, per-low, root-count, ordered, family}
 use Rattle.write.proofs.Change.{Change, takes, contentsOf, contents-is}
 use Rattle.write.proofs.Steps.{Step, refused-step, carried-step}
-use Rattle.write.proofs.Lengths.{clusters-none}
 use Rattle.write.proofs.Moves.{moves-none, moves-root, moves-file, change-of}
 use Rattle.write.proofs.Answers.{decided-number, decided-carried, new-decided}
 

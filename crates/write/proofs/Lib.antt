@@ -2,7 +2,6 @@ pub mod ParseLaws
 pub mod ReplayLaws
 pub mod ReplayExample
 pub mod Shown
-pub mod Lengths
 pub mod Reading
 pub mod Family
 pub mod Resized

@@ -24,7 +24,7 @@ use Rattle.stream.specs.Chain.{Clusters, listed, refused, readChain}
 use Rattle.stream.specs.Stream.{numberOf, streamOf, checkChain}
 use Rattle.stream.specs.Along.{after, along}
 use Rattle.stream.specs.Listing.{clustersOf}
-use Rattle.stream.proofs.ChainLaws.{stream-empty, stream-chain, stream-listed}
+use Rattle.stream.proofs.ChainLaws.{stream-empty, stream-chain}
 use Rattle.stream.proofs.StreamLaws.{Read, read-facts, along-step, last-consec}
 use Rattle.stream.proofs.Distinct.{read-length, read-run, read-distinct}
 use Rattle.stream.proofs.BytesLaws.{length-of}
@@ -33,6 +33,7 @@ use Rattle.write_alloc.specs.Outcome.{empty}
 use Rattle.write_alloc.proofs.GrowLaws.{small}
 use Rattle.write_dir.specs.Directory.{chainRecord, rootRecord, clustersIn, bytesIn}
 use Rattle.write_dir.specs.Open.{fileRecord}
+use Rattle.write_file.proofs.RefreshLaws.{stream-is}
 
 -- ---- a record that is not refused
 
@@ -46,10 +47,8 @@ module _ (y : Layout) (d : List ℕ) (a : Allocation) where
   number-of ks e = ap numberOf e ∙ (unfold numberOf in refl)
 
   pub reads-as : numberOf (streamOf y d a) ≡ 0 → streamOf y d a ≡ listed (clustersIn y d a)
-  reads-as e = let p = list in p .1 ∙ ap listed (sym (clusters-of (p .0) (p .1)))
-    where
-      list : (ks : List ℕ) × (streamOf y d a ≡ listed ks)
-      list = unfold streamOf in (stream-listed (y .count) (fatEntry y d) (marked y d) a e)
+  unfolding clustersIn
+  reads-as e = stream-is y d a e
 
   -- count 0 has no clusters, whatever the rest
   pub empty-reads : a .count ≡ 0 → streamOf y d a ≡ listed []

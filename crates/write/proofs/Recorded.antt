@@ -16,13 +16,13 @@ use Rattle.stream.specs.Stream.{streamOf}
 use Rattle.entry_set.specs.declared.stamp.Stamp.{Stamp}
 use Rattle.entry_set.specs.Fields.{isDirectory, noFatChain, validLength, firstCluster, dataLength, clustersFor}
 use Rattle.entry_set.proofs.SetLaws.{StreamFits, refreshed-length, refreshed-byte, refreshed-count, refreshed-directory, refreshed-run, refreshed-valid, refreshed-first, refreshed-data, refreshed-formed}
+use Rattle.entry_set.proofs.LengthLaws.{clusters-hold, clusters-none, clusters-some}
 use Rattle.write_alloc.specs.Outcome.{empty}
 use Rattle.write_dir.specs.Open.{fileRecord}
 use Rattle.write_dir.proofs.FitLaws.{Fit, fit-low}
 use Rattle.write_dir.proofs.CursorLaws.{count-few}
 use Rattle.write_file.specs.Refresh.{entriesOf, recorded}
 use Rattle.write.proofs.Reading.{number-of, first-heap, run-ends, file-back}
-use Rattle.write.proofs.Lengths.{clusters-hold, clusters-none, clusters-some}
 
 -- whatever the stream, as many bytes
 pub recorded-length : (s : List ℕ) (b : Allocation) (valid len : ℕ) (t : Stamp) → length (recorded s b valid len t) ≡ length s

@@ -27,6 +27,7 @@ use Rattle.stream.specs.Bytes.{bytesOf, storeAt}
 use Rattle.entry_set.specs.declared.stamp.Stamp.{Stamp}
 use Rattle.entry_set.specs.declared.stamp.Stamps.{Stamps}
 use Rattle.entry_set.specs.Fields.{isDirectory, validLength, dataLength, clustersFor}
+use Rattle.entry_set.proofs.LengthLaws.{clusters-hold, clusters-mono}
 use Rattle.write_alloc.specs.Outcome.{empty}
 use Rattle.write_extend.specs.Extend.{extendIn}
 use Rattle.write_dir.specs.Outcome.{carried}
@@ -50,7 +51,6 @@ use Rattle.write.proofs.Scene.{mapped, members, member-root, member-fil
 use Rattle.write.proofs.Change.{takes, contentsOf, Change, contents-is}
 use Rattle.write.proofs.Moves.{moves-none, moves-root, moves-file, change-of}
 use Rattle.write.proofs.Steps.{Step, carried-step}
-use Rattle.write.proofs.Lengths.{clusters-hold, clusters-mono}
 use Rattle.write.proofs.Recorded.{recorded-fit, recorded-directory, recorded-valid, recorded-data, recorded-back}
 
 -- ---- the stream

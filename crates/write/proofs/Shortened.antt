@@ -22,6 +22,7 @@ use Rattle.stream.specs.Bytes.{storeAt}
 use Rattle.entry_set.specs.declared.stamp.Stamp.{Stamp}
 use Rattle.entry_set.specs.Fields.{isDirectory, validLength, dataLength, clustersFor}
 use Rattle.entry_set.proofs.SetLaws.{formed-lengths}
+use Rattle.entry_set.proofs.LengthLaws.{clusters-hold, clusters-mono}
 use Rattle.write_alloc.specs.Outcome.{empty}
 use Rattle.write_shrink.specs.Shrink.{keptRecord, shrinkIn}
 use Rattle.write_dir.specs.Outcome.{carried}
@@ -43,7 +44,6 @@ use Rattle.write.proofs.Reading.{reads-as, bytes-length}
 use Rattle.write.proofs.Scene.{both-clear, members, fits, ordered, slot-number, slot-off, slot-takes, slot-fit}
 use Rattle.write.proofs.Change.{Change, takes, contentsOf, contents-is}
 use Rattle.write.proofs.Steps.{Step, carried-step}
-use Rattle.write.proofs.Lengths.{clusters-hold, clusters-mono}
 use Rattle.write.proofs.Answers.{decided-number, decided-carried, set-decided}
 use Rattle.write.proofs.Open.{open-set, open-file}
 use Rattle.write.proofs.Recorded.{recorded-length, recorded-fit, recorded-directory, recorded-valid, recorded-data, recorded-back}

@@ -25,6 +25,7 @@ use Rattle.entry_set.specs.declared.stamp.Stamp.{Stamp}
 use Rattle.entry_set.specs.declared.stamp.Stamps.{Stamps}
 use Rattle.entry_set.specs.Fields.{validLength, dataLength, clustersFor}
 use Rattle.entry_set.proofs.SetLaws.{formed-lengths}
+use Rattle.entry_set.proofs.LengthLaws.{clusters-some}
 use Rattle.write_alloc.specs.Outcome.{Outcome}
 use Rattle.write_extend.specs.Extend.{extendIn}
 use Rattle.write_extend.proofs.ExtendLaws.{extend-none}
@@ -49,7 +50,6 @@ use Rattle.write.proofs.Scene.{both-clear, slot-fit, fits}
 use Rattle.write.proofs.Open.{open-hint, open-set, open-file}
 use Rattle.write.proofs.Answers.{decided-number, decided-carried, write-decided, set-decided}
 use Rattle.write.proofs.Steps.{Step, refused-step}
-use Rattle.write.proofs.Lengths.{clusters-some}
 use Rattle.write.proofs.Rewritten.{Streamed, streamed-same, streamed-store, got, streamed-longer, longer-count, longer-room, longer-bytes, old-room, rewritten-step, shows-before}
 
 larger-mono : (a b c : ℕ) → a ≤ b → larger a c ≤ larger b c
