@@ -1,15 +1,12 @@
 -- The words in which arguments and answers cross the C boundary.
 use mathlib.Core.Bool.{Bool, true, false, not, cond}
 use mathlib.Core.List.{List, [], _∷_}
-use Prim.Native.Nat.{ℕ, _+_}
+use Prim.Native.Nat.{ℕ}
 use lib.Dec.{eqb}
 use lib.ListN.{getD}
-use Rattle.primitives.specs.Words.{getLe}
 use Rattle.boot.specs.declared.geometry.Geometry.{Geometry}
 use Rattle.stream.specs.declared.allocation.Allocation.{Allocation}
 use Rattle.write_alloc.specs.declared.answer.Answer.{Answer}
-use Rattle.entry_set.specs.declared.stamp.Stamp.{Stamp}
-use Rattle.entry_set.specs.declared.stamp.Stamps.{Stamps}
 use Rattle.write_dir.specs.declared.answer.FileAnswer.{FileAnswer}
 
 -- a flag in a word: 0 is clear, any other value set
@@ -58,14 +55,6 @@ answerWords r =
     ∷ 0
     ∷ 0
     ∷ []
-
--- a stamp's 6 bytes from byte `at` on: the 4-byte value low byte first, the increment, the offset
-unfoldable pub stampAt : List ℕ → ℕ → Stamp
-stampAt bs at = record { value = getLe 4 bs at; increment = getD bs (at + 4) 0; offset = getD bs (at + 5) 0 }
-
--- the 18 bytes of a new file's stamps: created, modified, accessed
-unfoldable pub stampsOf : List ℕ → Stamps
-stampsOf bs = record { created = stampAt bs 0; modified = stampAt bs 6; accessed = stampAt bs 12 }
 
 -- the 8 words that a new file leaves in `out`: its slot, then the hint
 unfoldable pub slotWords : FileAnswer → List ℕ

@@ -6,6 +6,7 @@ ghost use mathlib.Core.Path.{_≡_};
 ghost use lib.ListN.{length};
 ghost use Rattle.metadata.specs.Free.{freeClusters};
 ghost use Rattle.stream.specs.Listing.{listingNumber, listingList};
+ghost use Rattle.entry_set.specs.Stamps.{stampAt, stampsAt};
 ghost use Rattle.write_alloc.specs.Allocate.{allocateClusters};
 ghost use Rattle.write_extend.specs.Extend.{extendClusters};
 ghost use Rattle.write_shrink.specs.Shrink.{shrinkClusters};
@@ -13,7 +14,7 @@ ghost use Rattle.write_file.specs.NewFile.{newFile};
 ghost use Rattle.write_file.specs.Write.{writeInto};
 ghost use Rattle.write_file.specs.SetLength.{setLength};
 ghost use Rattle.write_remove.specs.Remove.{remove};
-ghost use Rattle.exfat.specs.Words.{flagOf, geometryOf, allocationOf, countWords, answerWords, stampAt, stampsOf, slotWords, hintWords};
+ghost use Rattle.exfat.specs.Words.{flagOf, geometryOf, allocationOf, countWords, answerWords, slotWords, hintWords};
 
 // How many clusters are free.
 #[no_mangle]
@@ -117,7 +118,7 @@ pub extern "C" fn exfat_new_file(
     hint: u32,
     out: &mut [u32; 8],
 ) -> u32
-    ensures { λ r. ⌜ (let o = newFile (geometryOf (now (geometry .entry))) (now (vol .entry)) (now (map .entry)) (now (name .entry)) attributes hash (stampsOf (now (stamps .entry))) hint in (r ≡ o .answer .number) × ((now (vol .exit) ≡ o .volume) × (now (out .exit) ≡ slotWords (o .answer)))) ⌝ }
+    ensures { λ r. ⌜ (let o = newFile (geometryOf (now (geometry .entry))) (now (vol .entry)) (now (map .entry)) (now (name .entry)) attributes hash (stampsAt (now (stamps .entry)) 0) hint in (r ≡ o .answer .number) × ((now (vol .exit) ≡ o .volume) × (now (out .exit) ≡ slotWords (o .answer)))) ⌝ }
 {
     let g = words::geometry_of(geometry);
     let t = words::stamps_of(stamps);

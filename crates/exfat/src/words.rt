@@ -1,8 +1,7 @@
 // Arguments and answers as words: what crosses the C boundary.
 ghost use mathlib.Core.Path.{_≡_};
-ghost use Prim.Native.Nat.{_+_, _≤_};
-ghost use lib.ListN.{length};
-ghost use Rattle.exfat.specs.Words.{flagOf, flagWord, geometryOf, allocationOf, countWords, answerWords, stampAt, stampsOf, slotWords, hintWords};
+ghost use Rattle.entry_set.specs.Stamps.{stampAt, stampsAt};
+ghost use Rattle.exfat.specs.Words.{flagOf, flagWord, geometryOf, allocationOf, countWords, answerWords, slotWords, hintWords};
 use boot::geometry::Geometry;
 use entry_set::stamp::Stamp;
 use entry_set::stamp::Stamps;
@@ -78,37 +77,18 @@ pub fn put_answer(out: &mut [u32; 8], r: Answer) -> u32
     r.number
 }
 
-// A stamp's 6 bytes: the value low byte first, the increment, the offset.
-fn stamp_at(bytes: &[u8], at: usize) -> Stamp
-    requires { ⌜ at + 6 ≤ length (now bytes) ⌝ }
-    ensures { λ r. ⌜ r ≡ stampAt (now (bytes .entry)) at ⌝ }
-{
-    Stamp {
-        value: primitives::words::u32_at(bytes, at),
-        increment: bytes[at + 4],
-        offset: bytes[at + 5],
-    }
-}
-
 // One stamp.
 pub fn stamp_of(bytes: &[u8; 6]) -> Stamp
     ensures { λ r. ⌜ r ≡ stampAt (now (bytes .entry)) 0 ⌝ }
 {
-    stamp_at(bytes, 0)
+    entry_set::stamp::stamp_at(bytes, 0)
 }
 
 // The stamps of a new file: created, modified, accessed.
 pub fn stamps_of(bytes: &[u8; 18]) -> Stamps
-    ensures { λ r. ⌜ r ≡ stampsOf (now (bytes .entry)) ⌝ }
+    ensures { λ r. ⌜ r ≡ stampsAt (now (bytes .entry)) 0 ⌝ }
 {
-    let created = stamp_at(bytes, 0);
-    let modified = stamp_at(bytes, 6);
-    let accessed = stamp_at(bytes, 12);
-    Stamps {
-        created: created,
-        modified: modified,
-        accessed: accessed,
-    }
+    entry_set::stamp::stamps_at(bytes, 0)
 }
 
 // Stores the slot and the hint of a new file, and answers its number.

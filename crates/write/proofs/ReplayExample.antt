@@ -5,8 +5,9 @@ use mathlib.Core.Option.{Option, some}
 use Prim.Native.Nat.{ℕ}
 use Rattle.primitives.specs.Words.{getLe}
 use Rattle.entry_set.specs.declared.stamp.Stamp.{Stamp}
+use Rattle.entry_set.specs.Stamps.{stampAt, stampsAt}
 use Rattle.write.specs.Calls.{Call, New, Write}
-use Rattle.write.specs.Replay.{kindAt, ownAt, nextAt, kindOk, callOk, hintAt, slotAt, numberAt, stampAt, stampsAt, unitsAt, callAt, before, callsFrom, callsOf}
+use Rattle.write.specs.Replay.{kindAt, ownAt, nextAt, kindOk, callOk, hintAt, slotAt, numberAt, unitsAt, callAt, before, callsFrom, callsOf}
 
 -- the stamp, the two heads with what follows them
 abbrev noonBytes : List ℕ

@@ -16,6 +16,7 @@ use Rattle.boot.specs.declared.geometry.Geometry.{Geometry}
 use Rattle.stream.proofs.BytesSteps.{splice-join}
 use Rattle.entry_set.specs.declared.stamp.Stamp.{Stamp}
 use Rattle.entry_set.specs.declared.stamp.Stamps.{Stamps}
+use Rattle.entry_set.specs.Stamps.{stampAt, stampsAt}
 use Rattle.write_dir.specs.declared.answer.FileAnswer.{FileAnswer}
 use Rattle.write_dir.specs.Outcome.{Outcome}
 use Rattle.write_file.specs.NewFile.{newFile}
@@ -23,7 +24,7 @@ use Rattle.write_file.specs.Write.{writeInto}
 use Rattle.write_file.specs.SetLength.{setLength}
 use Rattle.write_remove.specs.Remove.{remove}
 use Rattle.write.specs.Calls.{Call, step, run, answers}
-use Rattle.write.specs.Replay.{kindAt, ownAt, unitsAt, nextAt, callOk, hintAt, slotAt, numberAt, stampAt, stampsAt, callAt, before, callsOf, callsIn, wellFormed, answerWords, Replay, replayed, replayCalls, replay}
+use Rattle.write.specs.Replay.{kindAt, ownAt, unitsAt, nextAt, callOk, hintAt, slotAt, numberAt, callAt, before, callsOf, callsIn, wellFormed, answerWords, Replay, replayed, replayCalls, replay}
 use Rattle.write.specs.declared.replay.Replayed.{Replayed}
 use Rattle.write.proofs.ParseLaws.{whole-of, next-is, restFrom, rest-start, rest-end, rest-step, rest-whole, formed-before, in-before, units-back}
 
@@ -31,7 +32,7 @@ use Rattle.write.proofs.ParseLaws.{whole-of, next-is, restFrom, rest-st
 
 module _ (g : Geometry) (m d l : List ℕ) (p : ℕ) where
   step-new : kindAt l p ≡ 1 → step g m d (callAt l p)
-      ≡ newFile g d m (unitsAt l (p + 43) (ownAt l p / 2)) (getLe 2 l (p + 1)) (getLe 2 l (p + 3)) (stampsAt l p) (hintAt l p)
+      ≡ newFile g d m (unitsAt l (p + 43) (ownAt l p / 2)) (getLe 2 l (p + 1)) (getLe 2 l (p + 3)) (stampsAt l (p + 21)) (hintAt l p)
   unfolding step callAt
   step-new h = rw h refl
 
@@ -54,12 +55,12 @@ shown o s r d' f x y = (x ∙ ap (λ (u : Outcome). u .answer) f, y ∙ ap (λ (
 
 -- a new file whose arguments are those of the call at byte p
 pub made-shown : (g : Geometry) (m d name l : List ℕ) (p attributes hash hint : ℕ) (t : Stamps) (r : FileAnswer) (d' : List ℕ)
-    → attributes ≡ getLe 2 l (p + 1) → hash ≡ getLe 2 l (p + 3) → t ≡ stampsAt l p → hint ≡ hintAt l p
+    → attributes ≡ getLe 2 l (p + 1) → hash ≡ getLe 2 l (p + 3) → t ≡ stampsAt l (p + 21) → hint ≡ hintAt l p
     → r ≡ newFile g d m name attributes hash t hint .answer → d' ≡ newFile g d m name attributes hash t hint .volume
-    → (r ≡ newFile g d m name (getLe 2 l (p + 1)) (getLe 2 l (p + 3)) (stampsAt l p) (hintAt l p) .answer)
-    × (d' ≡ newFile g d m name (getLe 2 l (p + 1)) (getLe 2 l (p + 3)) (stampsAt l p) (hintAt l p) .volume)
+    → (r ≡ newFile g d m name (getLe 2 l (p + 1)) (getLe 2 l (p + 3)) (stampsAt l (p + 21)) (hintAt l p) .answer)
+    × (d' ≡ newFile g d m name (getLe 2 l (p + 1)) (getLe 2 l (p + 3)) (stampsAt l (p + 21)) (hintAt l p) .volume)
 made-shown g m d name l p attributes hash hint t r d' a b u c x y =
-    let f : newFile g d m name attributes hash t hint ≡ newFile g d m name (getLe 2 l (p + 1)) (getLe 2 l (p + 3)) (stampsAt l p) (hintAt l p) =
+    let f : newFile g d m name attributes hash t hint ≡ newFile g d m name (getLe 2 l (p + 1)) (getLe 2 l (p + 3)) (stampsAt l (p + 21)) (hintAt l p) =
     rw (a, b, u, c) refl in
     shown _ _ r d' f x y
 
@@ -92,15 +93,15 @@ remove-shown g m d l p slot hint r d' h a c x y =
 -- a new file made with the units that were read
 pub new-shown : (g : Geometry) (m d l z units : List ℕ) (p u : ℕ) (r : FileAnswer) (d' : List ℕ) → kindAt l p ≡ 1 → u ≡ ownAt l p
     → units ≡ splice z 0 (unitsAt l (p + 43) (u / 2))
-    → r ≡ newFile g d m (take (u / 2 - 0) (drop 0 units)) (getLe 2 l (p + 1)) (getLe 2 l (p + 3)) (stampsAt l p) (hintAt l p) .answer
-    → d' ≡ newFile g d m (take (u / 2 - 0) (drop 0 units)) (getLe 2 l (p + 1)) (getLe 2 l (p + 3)) (stampsAt l p) (hintAt l p) .volume
+    → r ≡ newFile g d m (take (u / 2 - 0) (drop 0 units)) (getLe 2 l (p + 1)) (getLe 2 l (p + 3)) (stampsAt l (p + 21)) (hintAt l p) .answer
+    → d' ≡ newFile g d m (take (u / 2 - 0) (drop 0 units)) (getLe 2 l (p + 1)) (getLe 2 l (p + 3)) (stampsAt l (p + 21)) (hintAt l p) .volume
     → (r ≡ step g m d (callAt l p) .answer) × (d' ≡ step g m d (callAt l p) .volume)
 new-shown g m d l z units p u r d' h o e a v =
     let n : take (u / 2 - 0) (drop 0 units) ≡ unitsAt l (p + 43) (ownAt l p / 2) =
     ap (λ (s : List ℕ). take (u / 2 - 0) (drop 0 s)) e ∙ units-back z l (p + 43) (u / 2) ∙ ap (λ (x : ℕ). unitsAt l (p + 43) (x / 2)) o in
-    let f : newFile g d m (take (u / 2 - 0) (drop 0 units)) (getLe 2 l (p + 1)) (getLe 2 l (p + 3)) (stampsAt l p) (hintAt l p)
+    let f : newFile g d m (take (u / 2 - 0) (drop 0 units)) (getLe 2 l (p + 1)) (getLe 2 l (p + 3)) (stampsAt l (p + 21)) (hintAt l p)
     ≡ step g m d (callAt l p) =
-    ap (λ (s : List ℕ). newFile g d m s (getLe 2 l (p + 1)) (getLe 2 l (p + 3)) (stampsAt l p) (hintAt l p)) n ∙ sym (step-new g m d l p h) in
+    ap (λ (s : List ℕ). newFile g d m s (getLe 2 l (p + 1)) (getLe 2 l (p + 3)) (stampsAt l (p + 21)) (hintAt l p)) n ∙ sym (step-new g m d l p h) in
     shown _ _ r d' f a v
 
 -- ---- the calls run

@@ -8,8 +8,7 @@ use lib.ListN.{length, getD, take, drop}
 use Rattle.primitives.specs.Splice.{splice}
 use Rattle.primitives.specs.Words.{getLe}
 use Rattle.boot.specs.declared.geometry.Geometry.{Geometry}
-use Rattle.entry_set.specs.declared.stamp.Stamp.{Stamp}
-use Rattle.entry_set.specs.declared.stamp.Stamps.{Stamps}
+use Rattle.entry_set.specs.Stamps.{stampAt, stampsAt}
 use Rattle.write_dir.specs.declared.answer.FileAnswer.{FileAnswer}
 use Rattle.write.specs.Calls.{Call, New, Write, SetLength, Remove, run, answers}
 use Rattle.write.specs.declared.parse.Counted.{Counted}
@@ -45,13 +44,6 @@ slotAt l p = getLe 4 l (p + 9)
 unfoldable pub numberAt : List ℕ → ℕ → ℕ
 numberAt l p = getLe 8 l (p + 13)
 
--- a stamp: its value in 4 bytes, low byte first, increment, offset
-unfoldable pub stampAt : List ℕ → ℕ → Stamp
-stampAt l p = record { value = getLe 4 l p; increment = getD l (p + 4) 0; offset = getD l (p + 5) 0 }
-
-unfoldable pub stampsAt : List ℕ → ℕ → Stamps
-stampsAt l p = record { created = stampAt l (p + 21); modified = stampAt l (p + 27); accessed = stampAt l (p + 33) }
-
 -- n units of 2 bytes from byte p on
 unfoldable pub unitsAt : List ℕ → ℕ → ℕ → List ℕ
 unitsAt l p zero = []
@@ -61,7 +53,7 @@ unitsAt l p (suc n) = unitsAt l p n ++ (getLe 2 l (p + 2 * n) ∷ [])
 unfoldable pub callAt : List ℕ → ℕ → Call
 callAt l p =
     cond (eqb (kindAt l p) 1)
-    (New (unitsAt l (p + 43) (ownAt l p / 2)) (getLe 2 l (p + 1)) (getLe 2 l (p + 3)) (stampsAt l p) (hintAt l p))
+    (New (unitsAt l (p + 43) (ownAt l p / 2)) (getLe 2 l (p + 1)) (getLe 2 l (p + 3)) (stampsAt l (p + 21)) (hintAt l p))
     (cond (eqb (kindAt l p) 2)
     (Write (slotAt l p) (numberAt l p) (take (ownAt l p) (drop (p + 43) l)) (stampAt l (p + 21)) (hintAt l p))
     (cond (eqb (kindAt l p) 3) (SetLength (slotAt l p) (numberAt l p) (stampAt l (p + 21)) (hintAt l p)) (Remove (slotAt l p) (hintAt l p))))

@@ -4,9 +4,7 @@ ghost use mathlib.Core.Bool.{true};
 ghost use Prim.Native.Nat.{_+_, _*_, _≤_, _<_};
 ghost use lib.ListN.{length};
 ghost use Rattle.primitives.specs.Splice.{splice};
-ghost use Rattle.write.specs.Replay.{nextAt, kindOk, callOk, stampAt, stampsAt, unitsAt, callsOf, counted};
-use entry_set::stamp::Stamp;
-use entry_set::stamp::Stamps;
+ghost use Rattle.write.specs.Replay.{nextAt, kindOk, callOk, unitsAt, callsOf, counted};
 
 // Whether all calls of a list are whole, and how many there are.
 pub struct Counted {
@@ -80,34 +78,6 @@ pub fn count_calls(calls: &[u8]) -> Counted
     Counted {
         ok: true,
         count: count,
-    }
-}
-
-// The stamp at byte p.
-pub fn stamp_at(calls: &[u8], p: usize) -> Stamp
-    requires { ⌜ p + 6 ≤ length (now calls) ⌝ }
-    ensures { λ r. ⌜ r ≡ stampAt (now (calls .entry)) p ⌝ }
-{
-    let value = primitives::words::u32_at(calls, p);
-    Stamp {
-        value: value,
-        increment: calls[p + 4],
-        offset: calls[p + 5],
-    }
-}
-
-// The three stamps of the call at byte p.
-pub fn stamps_at(calls: &[u8], p: usize) -> Stamps
-    requires { ⌜ p + 43 ≤ length (now calls) ⌝ }
-    ensures { λ r. ⌜ r ≡ stampsAt (now (calls .entry)) p ⌝ }
-{
-    let created = stamp_at(calls, p + 21);
-    let modified = stamp_at(calls, p + 27);
-    let accessed = stamp_at(calls, p + 33);
-    Stamps {
-        created: created,
-        modified: modified,
-        accessed: accessed,
     }
 }
 

@@ -7,12 +7,15 @@ ghost use Prim.Native.Nat.{_+_, _*_, _≤_};
 ghost use lib.ListN.{length};
 ghost use Rattle.primitives.specs.Splice.{splice};
 ghost use Rattle.primitives.specs.Words.{getLe};
+ghost use Rattle.entry_set.specs.Stamps.{stampsAt};
 ghost use Rattle.write_file.specs.NewFile.{newFile};
 ghost use Rattle.write.specs.Calls.{Call, step, run, answers};
 ghost use Rattle.write.specs.Consistent.{Consistent};
 ghost use Rattle.write.specs.Demand.{Demand};
-ghost use Rattle.write.specs.Replay.{kindAt, callOk, callAt, stampsAt, hintAt, callsOf, callsIn, wellFormed, answerWords, replay};
+ghost use Rattle.write.specs.Replay.{kindAt, callOk, callAt, hintAt, callsOf, callsIn, wellFormed, answerWords, replay};
 use boot::geometry::Geometry;
+use entry_set::stamp::stamp_at;
+use entry_set::stamp::stamps_at;
 use primitives::words::u16_at;
 use primitives::words::u32_at;
 use primitives::words::u64_at;
@@ -34,11 +37,11 @@ fn new_named(
     name: &[u16],
 ) -> FileAnswer
     requires { ⌜ p + 43 ≤ length (now calls) ⌝ }
-    ensures { λ r. ⌜ (r ≡ newFile g (now (vol .entry)) (now (map .entry)) (now (name .entry)) (getLe 2 (now (calls .entry)) (p + 1)) (getLe 2 (now (calls .entry)) (p + 3)) (stampsAt (now (calls .entry)) p) (hintAt (now (calls .entry)) p) .answer) × (now (vol .exit) ≡ newFile g (now (vol .entry)) (now (map .entry)) (now (name .entry)) (getLe 2 (now (calls .entry)) (p + 1)) (getLe 2 (now (calls .entry)) (p + 3)) (stampsAt (now (calls .entry)) p) (hintAt (now (calls .entry)) p) .volume) ⌝ }
+    ensures { λ r. ⌜ (r ≡ newFile g (now (vol .entry)) (now (map .entry)) (now (name .entry)) (getLe 2 (now (calls .entry)) (p + 1)) (getLe 2 (now (calls .entry)) (p + 3)) (stampsAt (now (calls .entry)) (p + 21)) (hintAt (now (calls .entry)) p) .answer) × (now (vol .exit) ≡ newFile g (now (vol .entry)) (now (map .entry)) (now (name .entry)) (getLe 2 (now (calls .entry)) (p + 1)) (getLe 2 (now (calls .entry)) (p + 3)) (stampsAt (now (calls .entry)) (p + 21)) (hintAt (now (calls .entry)) p) .volume) ⌝ }
 {
     let attributes = u16_at(calls, p + 1);
     let hash = u16_at(calls, p + 3);
-    let t = crate::parse::stamps_at(calls, p);
+    let t = stamps_at(calls, p + 21);
     let hint = u32_at(calls, p + 5);
     write_file::new_file::make_in(vol, map, g, name, attributes, hash, t, hint)
 }
@@ -61,7 +64,7 @@ fn write_at(vol: &mut [u8], map: &[u8], g: Geometry, calls: &[u8], p: usize) -> 
 {
     let slot = u32_at(calls, p + 9);
     let offset = u64_at(calls, p + 13);
-    let t = crate::parse::stamp_at(calls, p + 21);
+    let t = stamp_at(calls, p + 21);
     let hint = u32_at(calls, p + 5);
     let from = p + 43;
     let end = crate::parse::next_at(calls, p);
@@ -75,7 +78,7 @@ fn set_length_at(vol: &mut [u8], map: &[u8], g: Geometry, calls: &[u8], p: usize
 {
     let slot = u32_at(calls, p + 9);
     let len = u64_at(calls, p + 13);
-    let t = crate::parse::stamp_at(calls, p + 21);
+    let t = stamp_at(calls, p + 21);
     let hint = u32_at(calls, p + 5);
     write_file::set_length::set_length(vol, map, g, slot, len, t, hint)
 }

@@ -16,6 +16,9 @@ add-u16-at-2 c = search needs
 u16-at-requires-2 : tie.Need-u16-at-requires-2
 u16-at-requires-2 c κs = search needs
 
+add-stamps-at : tie.Need-add-stamps-at
+add-stamps-at c = search needs
+
 stamps-at-requires : tie.Need-stamps-at-requires
 stamps-at-requires c κs = search needs
 
@@ -45,6 +48,7 @@ new-named-spec =
     u16-at-requires
     add-u16-at-2
     u16-at-requires-2
+    add-stamps-at
     stamps-at-requires
     add-u32-at
     u32-at-requires
