@@ -8,8 +8,6 @@ use Rattle.primitives.specs.Words.{getLe}
 use Rattle.boot.specs.declared.geometry.Geometry.{Geometry}
 use Rattle.stream.specs.declared.allocation.Allocation.{Allocation}
 use Rattle.write_alloc.specs.declared.answer.Answer.{Answer}
-use Rattle.entry_set.specs.declared.stamp.Stamp.{Stamp}
-use Rattle.entry_set.specs.declared.stamp.Stamps.{Stamps}
 use Rattle.write_dir.specs.declared.answer.FileAnswer.{FileAnswer}
 
 -- d with the n words of w bytes that stand in s from `at` on put from place k on
@@ -56,11 +54,3 @@ shortAt row i = getD row i 0 % 65536
 -- words i and i + 1 as one number, low word first
 unfoldable pub longAt : List ℕ → ℕ → ℕ
 longAt row i = getD row i 0 + getD row (i + 1) 0 * 4294967296
-
--- the stamp that stands in s at `at`: 4 bytes, increment, offset
-unfoldable pub stampAt : List ℕ → ℕ → Stamp
-stampAt s at = record { value = getLe 4 s at; increment = getD s (at + 4) 0; offset = getD s (at + 5) 0 }
-
--- three stamps one after the other
-unfoldable pub stampsAt : List ℕ → ℕ → Stamps
-stampsAt s at = record { created = stampAt s at; modified = stampAt s (at + 6); accessed = stampAt s (at + 12) }

@@ -90,7 +90,7 @@ fn named(row: &[u32; 33], map: &[u8], vol: [u8; 40960], n: usize, after: &[u8], 
         if t + 18 <= src.len() {
             if p + 2 * e <= src.len() {
                 row::units(&mut name, src, p, e);
-                let s = row::stamps(src, t);
+                let s = entry_set::stamp::stamps_at(src, t);
                 made(row, map, vol, n, after, &name[a..e], s);
             }
         }
@@ -107,7 +107,7 @@ fn written(row: &[u32; 33], map: &[u8], vol: [u8; 40960], n: usize, after: &[u8]
     if n <= 40960 {
         if e <= src.len() {
             if t + 6 <= src.len() {
-                let s = row::stamp(src, t);
+                let s = entry_set::stamp::stamp_at(src, t);
                 write(row, map, &mut space[a..n], after, &src[p..e], s);
             }
         }
@@ -121,7 +121,7 @@ fn resized(row: &[u32; 33], map: &[u8], vol: [u8; 40960], n: usize, after: &[u8]
     let t = row::size(row[24]);
     if n <= 40960 {
         if t + 6 <= src.len() {
-            let s = row::stamp(src, t);
+            let s = entry_set::stamp::stamp_at(src, t);
             set_length(row, map, &mut space[a..n], after, s);
         }
     }

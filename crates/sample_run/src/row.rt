@@ -2,10 +2,8 @@
 ghost use mathlib.Core.Path.{_≡_};
 ghost use Prim.Native.Nat.{_+_, _*_, _<_, _≤_};
 ghost use lib.ListN.{length};
-ghost use Rattle.sample_run.specs.Row.{putWords, geometryOf, flagAt, recordAt, wanted, wantedFile, shortAt, longAt, stampAt, stampsAt};
+ghost use Rattle.sample_run.specs.Row.{putWords, geometryOf, flagAt, recordAt, wanted, wantedFile, shortAt, longAt};
 use boot::geometry::Geometry;
-use entry_set::stamp::Stamp;
-use entry_set::stamp::Stamps;
 use stream::allocation::Allocation;
 use write_alloc::answer::Answer;
 use write_dir::answer::FileAnswer;
@@ -125,34 +123,6 @@ pub fn long(row: &[u32; 33]) -> u64
     ensures { λ r. ⌜ r ≡ longAt (now (row .entry)) 22 ⌝ }
 {
     joined(row[22], row[23])
-}
-
-// A stamp.
-pub fn stamp(src: &[u8], at: usize) -> Stamp
-    requires { ⌜ at + 6 ≤ length (now src) ⌝ }
-    ensures { λ r. ⌜ r ≡ stampAt (now (src .entry)) at ⌝ }
-{
-    let v = primitives::words::u32_at(src, at);
-    Stamp {
-        value: v,
-        increment: src[at + 4],
-        offset: src[at + 5],
-    }
-}
-
-// Three stamps.
-pub fn stamps(src: &[u8], at: usize) -> Stamps
-    requires { ⌜ at + 18 ≤ length (now src) ⌝ }
-    ensures { λ r. ⌜ r ≡ stampsAt (now (src .entry)) at ⌝ }
-{
-    let c = stamp(src, at);
-    let m = stamp(src, at + 6);
-    let a = stamp(src, at + 12);
-    Stamps {
-        created: c,
-        modified: m,
-        accessed: a,
-    }
 }
 
 // Fills the front of a name with n units of 2 bytes from `at` on.
