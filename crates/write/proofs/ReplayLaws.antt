@@ -226,21 +226,21 @@ abbrev pub Replays : Replay → Replayed → List ℕ → List ℕ → Type 0
 Replays o r d w = (r ≡ o .answer) × ((d ≡ o .volume) × (w ≡ o .words))
 
 module _ (g : Geometry) (m d l w : List ℕ) where
-  pub replay-bad : wellFormed (callsOf l) ≡ false → Replays (replay g m d l w) (record { number = 15; count = 0 }) d w
+  pub replay-bad : wellFormed (callsOf l) ≡ false → Replays (replay g m d l w) (record { number = 101; count = 0 }) d w
   unfolding replay replayCalls wellFormed
   replay-bad e = by (callsOf l) e
     where
-      by : (o : Option (List Call)) → wellFormed o ≡ false → Replays (replayCalls g m d w o) (record { number = 15; count = 0 }) d w
+      by : (o : Option (List Call)) → wellFormed o ≡ false → Replays (replayCalls g m d w o) (record { number = 101; count = 0 }) d w
       by none f = (refl, (refl, refl))
       by (some cs) f = clash (cc)
 
   pub replay-short : wellFormed (callsOf l) ≡ true → length w < 3 * length (callsIn (callsOf l))
-      → Replays (replay g m d l w) (record { number = 16; count = 0 }) d w
+      → Replays (replay g m d l w) (record { number = 102; count = 0 }) d w
   unfolding replay replayCalls wellFormed callsIn replayed
   replay-short e h = by (callsOf l) e h
     where
       by : (o : Option (List Call)) → wellFormed o ≡ true → length w < 3 * length (callsIn o)
-          → Replays (replayCalls g m d w o) (record { number = 16; count = 0 }) d w
+          → Replays (replayCalls g m d w o) (record { number = 102; count = 0 }) d w
       by none f b = clash (cc)
       by (some cs) f b = rw (lt-ltb (length w) (3 * length cs) b) (refl, (refl, refl))
 

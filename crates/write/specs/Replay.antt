@@ -98,20 +98,20 @@ pub record Replay : Type 0 where
   pub volume : List ℕ
   pub words : List ℕ
 
--- 16: the answers need more words than there are; else the calls run one after the other, and their answers at the front of the words
+-- 102: the answers need more words than there are; else the calls run one after the other, and their answers at the front of the words
 unfoldable pub replayed : Geometry → List ℕ → List ℕ → List ℕ → List Call → Replay
 replayed g m d ws cs =
     cond (ltb (length ws) (3 * length cs))
-    (record { answer = record { number = 16; count = 0 }; volume = d; words = ws })
+    (record { answer = record { number = 102; count = 0 }; volume = d; words = ws })
     (record {
       answer = record { number = 0; count = length cs };
       volume = run g m d cs;
       words = splice ws 0 (answerWords (answers g m d cs));
     })
 
--- by the calls: 15 where the list is malformed, with nothing changed
+-- by the calls: 101 where the list is malformed, with nothing changed
 unfoldable pub replayCalls : Geometry → List ℕ → List ℕ → List ℕ → Option (List Call) → Replay
-replayCalls g m d ws none = record { answer = record { number = 15; count = 0 }; volume = d; words = ws }
+replayCalls g m d ws none = record { answer = record { number = 101; count = 0 }; volume = d; words = ws }
 replayCalls g m d ws (some cs) = replayed g m d ws cs
 
 -- a list of bytes run on a volume

@@ -21,7 +21,7 @@ use primitives::words::u32_at;
 use primitives::words::u64_at;
 use write_dir::answer::FileAnswer;
 
-// What replay answers: 0, or 15 for a malformed list, 16 for too few words for the answers; and how many calls ran.
+// What replay answers: 0, or 101 for a malformed list, 102 for too few words for the answers; and how many calls ran.
 pub struct Replayed {
     pub number: u32,
     pub count: usize,
@@ -144,7 +144,7 @@ pub fn replay(vol: &mut [u8], map: &[u8], g: Geometry, calls: &[u8], words: &mut
     if all.ok {
         if words.len() / 3 < all.count {
             return Replayed {
-                number: 16,
+                number: 102,
                 count: 0,
             };
         }
@@ -155,7 +155,7 @@ pub fn replay(vol: &mut [u8], map: &[u8], g: Geometry, calls: &[u8], words: &mut
         };
     }
     Replayed {
-        number: 15,
+        number: 101,
         count: 0,
     }
 }
