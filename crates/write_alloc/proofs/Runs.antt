@@ -54,17 +54,6 @@ module _ (u : ℕ → Bool) where
       let t : s + (k - s) ≡ k = omega arith in
       rw r (and-both (allFrom u s (k - s)) (u (s + (k - s))) e (ap u t ∙ f))
 
-  -- a run and one right after it
-  all-join : (s k n m : ℕ) → s ≤ k → n + s ≡ k + m → allFrom u s (k - s) ≡ true → allFrom u k m ≡ true → allFrom u s n ≡ true
-  unfolding allFrom
-  all-join s k n zero h q e f = let r : n ≡ k - s = omega arith in rw r e
-  all-join s k n (suc m) h q e f =
-      let r : n ≡ suc (n - 1) = omega arith in
-      let t : k + m ≡ s + (n - 1) = omega arith in
-      rw r
-      (and-both (allFrom u s (n - 1)) (u (s + (n - 1))) (all-join s k (n - 1) m h (omega arith) e (and-left (allFrom u k m) (u (k + m)) f))
-      (ap u (sym t) ∙ and-right (allFrom u k m) (u (k + m)) f))
-
   -- a number of the run that fails
   pub all-not : (s n k : ℕ) → s ≤ k → k < s + n → u k ≡ false → allFrom u s n ≡ false
   unfolding allFrom
@@ -104,7 +93,7 @@ module _ (u : ℕ → Bool) where
       let t : low + (k - 1 - low) ≡ k - 1 = omega arith in
       ap (usableTail u low) (omega arith) ∙ tail-no low (k - 1 - low) (ap u t ∙ e) ∙ omega arith
 
-  tail-bounds : (low n : ℕ) → (low ≤ usableTail u low n) × (usableTail u low n ≤ low + n)
+  pub tail-bounds : (low n : ℕ) → (low ≤ usableTail u low n) × (usableTail u low n ≤ low + n)
   tail-bounds low zero = omega (arith, tail-none low 0 (omega arith))
   tail-bounds low (suc n) = by (u (low + n)) refl (tail-bounds low n)
     where
@@ -114,7 +103,7 @@ module _ (u : ℕ → Bool) where
       by false e r = omega (arith, tail-no low n e)
 
   -- all pass from there on
-  tail-rest : (low n : ℕ) → allFrom u (usableTail u low n) (low + n - usableTail u low n) ≡ true
+  pub tail-rest : (low n : ℕ) → allFrom u (usableTail u low n) (low + n - usableTail u low n) ≡ true
   tail-rest low zero = all-none _ _ (omega (arith, tail-none low 0 (omega arith)))
   tail-rest low (suc n) = by (u (low + n)) refl (tail-rest low n) (tail-bounds low n)
     where
@@ -128,7 +117,7 @@ module _ (u : ℕ → Bool) where
       by false e f r = all-none _ _ (omega (arith, tail-no low n e))
 
   -- and the one before fails
-  tail-last : (low n : ℕ) → low < usableTail u low n → u (usableTail u low n - 1) ≡ false
+  pub tail-last : (low n : ℕ) → low < usableTail u low n → u (usableTail u low n - 1) ≡ false
   tail-last low zero h = absurd (omega (arith, tail-none low 0 (omega arith)))
   tail-last low (suc n) h = by (u (low + n)) refl (tail-last low n)
     where
@@ -209,34 +198,10 @@ module _ (u : ℕ → Bool) where
         ap (runFrom u end n) (omega arith) ∙ run-over d (s + 1) h (λ j a b. f j (omega arith) (omega arith))
         ∙ run-skip s s (omega arith) (omega arith) (f s (omega arith) (omega arith))
 
-    -- a window from base whose numbers below good pass, tested from its end: t is one past the last that fails
-    module _ (base good t : ℕ) (h : base ≤ good) (g : good ≤ base + n) (e : allFrom u base (good - base) ≡ true)
-        (q : t ≡ usableTail u good (base + n - good)) where
-      pub window-hit : base + n ≤ end → t ≡ good → runFrom u end n base ≡ At base
-      window-hit i z =
-          let m = base + n - good in
-          let f : allFrom u good m ≡ true =
-          ap₂ (allFrom u) (sym (sym q ∙ z)) (omega arith) ∙ tail-rest good m in
-          run-hit base i (all-join base good n m h (omega arith) e f)
-
-      pub window-skip : t ≢ good → runFrom u end n t ≡ runFrom u end n base
-      window-skip z =
-          let m = base + n - good in
-          let b = tail-bounds good m in
-          let l : u (t - 1) ≡ false = ap (λ (x : ℕ). u (x - 1)) q ∙ tail-last good m (omega arith) in
-          ap (runFrom u end n) (omega arith) ∙ run-skip base (t - 1) (omega arith) (omega arith) l
-
-      pub window-rest : allFrom u t (base + n - t) ≡ true
-      window-rest =
-          let m = base + n - good in
-          ap₂ (allFrom u) q (omega arith) ∙ tail-rest good m
-
-      -- the whole window lies before t, and numbers that all fail after it
-      pub window-beyond : (e : ℕ) → 1 ≤ n → t ≢ good → t ≡ base + n → base + n ≤ e → ((j : ℕ) → base + n ≤ j → j < e → u j ≡ false)
-          → runFrom u end n e ≡ runFrom u end n base
-      window-beyond e o z w i f =
-          ap (runFrom u end n) (omega arith) ∙ run-over (e - (base + n)) (base + n) o (λ j a b. f j a (omega arith))
-          ∙ ap (runFrom u end n) (sym w) ∙ window-skip z
+    -- a window from base tested from its end: t is one past the last that fails
+    pub window-hit : (base t : ℕ) → t ≡ usableTail u base n → base + n ≤ end → t ≡ base → runFrom u end n base ≡ At base
+    window-hit base t q i z =
+        run-hit base i (ap₂ (allFrom u) (sym (sym q ∙ z)) (omega arith) ∙ tail-rest base n)
 
   -- ---- the count from the front
 
@@ -294,3 +259,17 @@ module _ (u : ℕ → Bool) where
     pub choose-scattered : runFrom u (C + 2) n start ≡ Nothing → runFrom u (C + 2) n 2 ≡ Nothing → n ≤ count u 2 C → choose u C n start ≡ Scattered
     unfolding choose
     choose-scattered e f h = rw (e, f, le-ltb (count u 2 C) n h) refl
+
+-- ---- a window tested by a test v that each number which passes u passes too
+
+module _ (u v : ℕ → Bool) (weaker : (k : ℕ) → v k ≡ false → u k ≡ false) (end n base t : ℕ) (q : t ≡ usableTail v base n) (z : t ≢ base) where
+  pub window-skip : runFrom u end n t ≡ runFrom u end n base
+  window-skip =
+      let b = tail-bounds v base n in
+      let l : u (t - 1) ≡ false = ap (λ (x : ℕ). u (x - 1)) q ∙ weaker _ (tail-last v base n (omega arith)) in
+      ap (runFrom u end n) (omega arith) ∙ run-skip u end n base (t - 1) (omega arith) (omega arith) l
+
+  -- and numbers after it that all fail
+  pub window-beyond : (e : ℕ) → 1 ≤ n → t ≤ e → ((j : ℕ) → t ≤ j → j < e → u j ≡ false) → runFrom u end n e ≡ runFrom u end n base
+  window-beyond e o i f =
+      ap (runFrom u end n) (omega arith) ∙ run-over u end n (e - t) t o (λ j a b. f j a (omega arith)) ∙ window-skip

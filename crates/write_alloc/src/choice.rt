@@ -1,11 +1,13 @@
 // Which clusters are taken: the lowest run that fits, else usable clusters one by one.
 ghost use mathlib.Core.Path.{_≡_};
+ghost use mathlib.Core.Bool.{not};
 ghost use Prim.Native.Nat.{_+_, _-_, _*_, _≤_, _<_};
 ghost use lib.Dec.{leb};
 ghost use lib.ListN.{length};
 ghost use Rattle.tables.specs.Count.{count};
 ghost use Rattle.boot.specs.Layout.{Laid};
 ghost use Rattle.metadata.specs.declared.usable.Found.the-variants.{Nothing};
+ghost use Rattle.metadata.specs.Marks.{marked};
 ghost use Rattle.metadata.specs.Usable.{isUsable};
 ghost use Rattle.write_alloc.specs.Choice.{allFrom, usableTail, runFrom, choose, firstUsable};
 use boot::layout::Layout;
@@ -53,8 +55,24 @@ fn usable_tail(vol: &[u8], map: &[u8], y: Layout, low: u32, n: u32) -> u32
     low
 }
 
-// The lowest run of n usable clusters from start to end (Rust: the closure `scan` of `free_run`).
-// Each window of n clusters is tested from its end, and no cluster twice: no run starts before base, and those from base to good are usable.
+// One past the last of the n clusters from low that is marked; low where none is.
+fn unmarked_tail(vol: &[u8], y: Layout, low: u32, n: u32) -> u32
+    requires { ⌜ Laid y × ((length (now vol) ≡ y .len) × ((2 ≤ low) × (low + n ≤ y .count + 2))) ⌝ }
+    ensures { λ r. ⌜ (r ≡ usableTail (λ k. not (marked y (now (vol .entry)) k)) low n) × ((low ≤ r) × (r ≤ low + n)) ⌝ }
+{
+    let mut k = low + n;
+    while low < k {
+        let last = k - 1;
+        if metadata::bitmap::allocated(vol, y, last) {
+            return k;
+        }
+        k = last;
+    }
+    low
+}
+
+// The lowest run of n usable clusters from start to end (Rust: the closure `scan` of `free_run`). A window of n clusters is tested
+// from its end, by its marks first; no run starts before base.
 fn scan(vol: &[u8], map: &[u8], y: Layout, start: u32, end: u32, n: u32) -> Found
     requires { ⌜ Laid y × ((length (now vol) ≡ y .len) × ((y .count ≤ 8 * length (now map)) × ((2 ≤ start) × ((end ≤ y .count + 2) × (1 ≤ n))))) ⌝ }
     ensures { λ r. ⌜ r ≡ runFrom (isUsable y (now (vol .entry)) (now (map .entry))) end n start ⌝ }
@@ -63,19 +81,20 @@ fn scan(vol: &[u8], map: &[u8], y: Layout, start: u32, end: u32, n: u32) -> Foun
         return Found::Nothing;
     }
     let mut base = start;
-    let mut good = start;
     while n <= end - base {
-        let high = base + n;
-        let next = usable_tail(vol, map, y, good, high - good);
-        if next == good {
-            return Found::At(base);
-        }
-        if next == high {
-            base = metadata::bitmap::past_full(vol, y, high, end - high);
-            good = base;
+        let next = unmarked_tail(vol, y, base, n);
+        if next == base {
+            let last = usable_tail(vol, map, y, base, n);
+            if last == base {
+                return Found::At(base);
+            }
+            base = last;
         } else {
-            base = next;
-            good = high;
+            if next == base + n {
+                base = metadata::bitmap::past_full(vol, y, next, end - next);
+            } else {
+                base = next;
+            }
         }
     }
     Found::Nothing
