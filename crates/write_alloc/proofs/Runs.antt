@@ -9,7 +9,7 @@ use native.Mathlib.Omega.{arith}
 use lib.Dec.{eqb, leb}
 use borrow.Author.Tests.{lt-ltb, le-ltb, le-leb, lt-leb, eq-eqb, ne-eqb}
 use Rattle.tables.specs.Count.{count, one}
-use Rattle.boot.proofs.Tests.{and-both, and-left, and-right}
+use Rattle.boot.proofs.Tests.{and-both}
 use Rattle.metadata.specs.declared.usable.Found.the-variants.{At, Nothing}
 use Rattle.write_alloc.specs.declared.choice.Choice.the-variants.{Run, Scattered, TooFew}
 use Rattle.write_alloc.specs.Choice.{allFrom, usableTail, firstRun, runFrom, choose}
