@@ -22,10 +22,10 @@ enough-requires : tie.Need-enough-requires
 enough-requires c κs = search needs
 
 returns-2 : tie.Need-returns-2
-returns-2 c = sym (length-kept _ _ _ _ _ (omega (arith, leb-true _ _ (sym (c .before .enough .ensures) ∙ c .if2 .taken))))
+returns-2 c = sym (length-kept _ _ _ _ _ (leb-true _ _ (cc)))
 
 returns-3 : tie.Need-returns-3
-returns-3 c = sym (length-met _ _ _ _ _ (omega (arith, leb-false _ _ (sym (c .before .enough .ensures) ∙ c .if2 .left))))
+returns-3 c = sym (length-met _ _ _ _ _ (leb-false _ _ (cc)))
 
 pub length-cause-spec : {M : Type 1} → statement M
 length-cause-spec =
