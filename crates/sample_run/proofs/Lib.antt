@@ -1,3 +1,4 @@
+pub mod ReplayLaws
 pub mod RowLaws
 pub mod SameLaws
 pub mod StretchLaws

@@ -7,6 +7,7 @@ mod replay;
 mod row;
 mod same;
 mod stretch;
+mod verdict;
 
 fn main() {
     replay::all();

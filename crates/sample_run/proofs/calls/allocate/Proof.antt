@@ -1,4 +1,9 @@
-use mathlib.Core.Path.{sym}
+use mathlib.Core.Path.{sym, _∙_, ap₂}
+use mathlib.Core.List.{List}
+use Prim.Native.Nat.{ℕ}
+use Rattle.write_alloc.specs.declared.answer.Answer.{Answer}
+use Rattle.sample_run.specs.Held.{heldStream}
+use Rattle.sample_run.specs.Replay.{allocateRow}
 use borrow.Author.Needs.{needs}
 use Rattle.sample_run.proofs.calls.allocate.Statement.{statement}
 use Rattle.sample_run.proofs.calls.allocate.Tie as tie
@@ -28,10 +33,13 @@ same-length : tie.Need-same-length
 same-length c = search needs
 
 returns : tie.Need-returns
+unfolding allocateRow
 returns c =
+    let w = c .before .before .before .before .before .before .before .before .before .before .before .before .before .before .args in
     let g = c .before .before .before .before .before .before .before .before .before .before .geometry in
     let f = c .before .before .before .before .before .before .before .before .before .near-given in
-    rw (sym (g .ensures), sym (f .ensures)) (c .before .before .before .before .allocate-clusters .ensures .1)
+    let e = c .before .before .before .before .allocate-clusters .ensures in
+    rw (sym (g .ensures), sym (f .ensures)) (e .1, c .held .ensures ∙ ap₂ (λ (x : Answer) (v : List ℕ). heldStream (w .row .now) x v (w .after .now)) (e .0) (e .1))
 
 pub allocate-spec : {M : Type 1} → statement M
 allocate-spec =

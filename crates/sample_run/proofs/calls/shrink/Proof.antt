@@ -1,4 +1,9 @@
-use mathlib.Core.Path.{sym}
+use mathlib.Core.Path.{sym, _∙_, ap₂}
+use mathlib.Core.List.{List}
+use Prim.Native.Nat.{ℕ}
+use Rattle.write_alloc.specs.declared.answer.Answer.{Answer}
+use Rattle.sample_run.specs.Held.{heldStream}
+use Rattle.sample_run.specs.Replay.{shrinkRow}
 use borrow.Author.Needs.{needs}
 use Rattle.sample_run.proofs.calls.shrink.Statement.{statement}
 use Rattle.sample_run.proofs.calls.shrink.Tie as tie
@@ -25,10 +30,13 @@ same-length : tie.Need-same-length
 same-length c = search needs
 
 returns : tie.Need-returns
+unfolding shrinkRow
 returns c =
+    let w = c .before .before .before .before .before .before .before .before .before .before .before .before .before .args in
     let g = c .before .before .before .before .before .before .before .before .before .geometry in
-    let a = c .before .before .before .before .before .before .before .before .given in
-    rw (sym (g .ensures), sym (a .ensures)) (c .before .before .before .before .shrink-clusters .ensures .1)
+    let s = c .before .before .before .before .before .before .before .before .given in
+    let e = c .before .before .before .before .shrink-clusters .ensures in
+    rw (sym (g .ensures), sym (s .ensures)) (e .1, c .held .ensures ∙ ap₂ (λ (x : Answer) (v : List ℕ). heldStream (w .row .now) x v (w .after .now)) (e .0) (e .1))
 
 pub shrink-spec : {M : Type 1} → statement M
 shrink-spec =

@@ -1,4 +1,9 @@
-use mathlib.Core.Path.{sym}
+use mathlib.Core.Path.{sym, _∙_, ap₂}
+use mathlib.Core.List.{List}
+use Prim.Native.Nat.{ℕ}
+use Rattle.write_dir.specs.declared.answer.FileAnswer.{FileAnswer}
+use Rattle.sample_run.specs.Held.{heldFile}
+use Rattle.sample_run.specs.Replay.{newFileRow}
 use borrow.Author.Needs.{needs}
 use Rattle.sample_run.proofs.files.new_file.Statement.{statement}
 use Rattle.sample_run.proofs.files.new_file.Tie as tie
@@ -25,11 +30,14 @@ same-length : tie.Need-same-length
 same-length c = search needs
 
 returns : tie.Need-returns
+unfolding newFileRow
 returns c =
+    let w = c .before .before .before .before .before .before .before .before .before .before .before .before .before .before .args in
     let g = c .before .before .before .before .before .before .before .before .before .geometry in
     let a = c .before .before .before .before .before .before .before .before .attributes in
     let h = c .before .before .before .before .before .before .before .hash in
-    rw (sym (g .ensures), sym (a .ensures), sym (h .ensures)) (c .before .before .before .before .make-in .ensures .1)
+    let e = c .before .before .before .before .make-in .ensures in
+    rw (sym (g .ensures), sym (a .ensures), sym (h .ensures)) (e .1, c .held .ensures ∙ ap₂ (λ (x : FileAnswer) (v : List ℕ). heldFile (w .row .now) x v (w .after .now)) (e .0) (e .1))
 
 pub new-file-spec : {M : Type 1} → statement M
 new-file-spec =

@@ -1,4 +1,9 @@
-use mathlib.Core.Path.{sym}
+use mathlib.Core.Path.{sym, _∙_, ap₂}
+use mathlib.Core.List.{List}
+use Prim.Native.Nat.{ℕ}
+use Rattle.write_dir.specs.declared.answer.FileAnswer.{FileAnswer}
+use Rattle.sample_run.specs.Held.{heldFile}
+use Rattle.sample_run.specs.Replay.{removeRow}
 use borrow.Author.Needs.{needs}
 use Rattle.sample_run.proofs.files.remove.Statement.{statement}
 use Rattle.sample_run.proofs.files.remove.Tie as tie
@@ -22,7 +27,12 @@ same-length : tie.Need-same-length
 same-length c = search needs
 
 returns : tie.Need-returns
-returns c = rw (sym (c .before .before .before .before .before .before .before .before .geometry .ensures)) (c .before .before .before .before .remove .ensures .1)
+unfolding removeRow
+returns c =
+    let w = c .before .before .before .before .before .before .before .before .before .before .before .before .args in
+    let g = c .before .before .before .before .before .before .before .before .geometry in
+    let e = c .before .before .before .before .remove .ensures in
+    rw (sym (g .ensures)) (e .1, c .held .ensures ∙ ap₂ (λ (x : FileAnswer) (v : List ℕ). heldFile (w .row .now) x v (w .after .now)) (e .0) (e .1))
 
 pub remove-spec : {M : Type 1} → statement M
 remove-spec =

@@ -1,4 +1,9 @@
-use mathlib.Core.Path.{sym}
+use mathlib.Core.Path.{sym, _∙_, ap₂}
+use mathlib.Core.List.{List}
+use Prim.Native.Nat.{ℕ}
+use Rattle.write_dir.specs.declared.answer.FileAnswer.{FileAnswer}
+use Rattle.sample_run.specs.Held.{heldFile}
+use Rattle.sample_run.specs.Replay.{setLengthRow}
 use borrow.Author.Needs.{needs}
 use Rattle.sample_run.proofs.files.set_length.Statement.{statement}
 use Rattle.sample_run.proofs.files.set_length.Tie as tie
@@ -25,10 +30,13 @@ same-length : tie.Need-same-length
 same-length c = search needs
 
 returns : tie.Need-returns
+unfolding setLengthRow
 returns c =
+    let w = c .before .before .before .before .before .before .before .before .before .before .before .before .before .args in
     let g = c .before .before .before .before .before .before .before .before .before .geometry in
     let l = c .before .before .before .before .before .before .before .before .long in
-    rw (sym (g .ensures), sym (l .ensures)) (c .before .before .before .before .set-length .ensures .1)
+    let e = c .before .before .before .before .set-length .ensures in
+    rw (sym (g .ensures), sym (l .ensures)) (e .1, c .held .ensures ∙ ap₂ (λ (x : FileAnswer) (v : List ℕ). heldFile (w .row .now) x v (w .after .now)) (e .0) (e .1))
 
 pub set-length-spec : {M : Type 1} → statement M
 set-length-spec =

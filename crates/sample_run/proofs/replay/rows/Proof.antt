@@ -5,10 +5,10 @@ use Rattle.sample_run.proofs.replay.rows.Statement.{statement}
 use Rattle.sample_run.proofs.replay.rows.Tie as tie
 
 abbrev Inv-loop : tie.InvT-loop
-Inv-loop src calls i₀ at₀ i at = (i ≤ calls) × (at ≡ 8 + 132 * i)
+Inv-loop src count calls i₀ at₀ i at = (i ≤ calls) × (at ≡ 8 + 132 * i)
 
 abbrev μ-loop : tie.MeasureT-loop
-μ-loop src calls i₀ at₀ i at = calls - i
+μ-loop src count calls i₀ at₀ i at = calls - i
 
 u32-at-requires : tie.Need-u32-at-requires Inv-loop μ-loop
 u32-at-requires c κs = search needs
