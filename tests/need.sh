@@ -18,3 +18,7 @@ need_rt() {
     echo "test: the command rt of the Rattle kit is not on the PATH" >&2
     return 1
 }
+
+# a cargo that rustup put into the home folder, where the PATH does not lead to it
+cargo_bin=${CARGO_HOME:-~/.cargo}/bin
+if [ -x "$cargo_bin/cargo" ]; then PATH=$cargo_bin:$PATH; fi
