@@ -5,7 +5,7 @@ use mathlib.Core.Bool.{Bool, true, false, not}
 use mathlib.Core.List.{List}
 use Prim.Native.Nat.{ℕ, zero, suc, _+_, _-_, _*_, _/_, _%_, _≤_, _<_}
 use native.Mathlib.Decide.{decLe}
-use native.Mathlib.Nat.{sub-zero, suc-mul, mul-assoc, mul-comm, mul-le-mul-right, div-add-mod', mod-lt}
+use native.Mathlib.Nat.{sub-zero, suc-mul, mul-assoc, mul-comm, mul-le-mul-right, div-add-mod', mod-lt, add-mul-div-right, div-eq-of-lt}
 use native.Mathlib.Numerals.{add-one}
 use native.Mathlib.Omega.{arith}
 use lib.Dec.{eqb}
@@ -205,6 +205,64 @@ module _ (y : Layout) (d : List ℕ) (w : Fits y d) (dir : Allocation) (reads : 
     pub cursor-use : (e : Cursor) → e ≡ entryAt y fat run (dir .first) i → eqb (bitOf (clusterByte y d (e .cluster) (e .at)) 7) 1 ≡ inUse (bytesIn y d dir) i
     unfolding inUse
     cursor-use e q = ap (λ (x : ℕ). eqb (bitOf x 7) 1) (cursor-type e q)
+
+-- ---- from an entry to one further on
+
+-- entry i counted from a cluster on, `more` entries of it to go: the clusters before are whole
+pub record Counted (y : Layout) (d : List ℕ) (dir : Allocation) (i cluster more : ℕ) : Type 0 where
+  pub few : more ≤ i
+  pub there : cluster ≡ reached (fatEntry y d) (dir .«no_fat_chain») (dir .first) ((i - more) / (y .size / 32))
+  pub whole : (i - more) / (y .size / 32) * (y .size / 32) + more ≡ i
+
+quotient : (p j : ℕ) → 1 ≤ p → j * p / p ≡ j
+quotient p j h = let e : j * p ≡ 0 + j * p = omega arith in ap (λ (x : ℕ). x / p) e ∙ add-mul-div-right 0 j h ∙ omega (arith, div-eq-of-lt {n = 0} {m = p} h)
+
+module _ (y : Layout) (d : List ℕ) (w : Fits y d) (dir : Allocation) (reads : numberOf (streamOf y d dir) ≡ 0) where
+  abbrev p : ℕ
+  p = y .size / 32
+
+  p-low : 1 ≤ p
+  p-low = let l = w .laid in omega (arith, l .size-low, l .whole)
+
+  counted-by : (i j cluster more : ℕ) → j * p + more ≡ i → cluster ≡ reached (fatEntry y d) (dir .«no_fat_chain») (dir .first) j → Counted y d dir i cluster more
+  counted-by i j cluster more e c =
+      let q : (i - more) / p ≡ j = ap (λ (x : ℕ). x / p) (omega arith) ∙ quotient p j p-low in
+      record {
+        few = omega arith;
+        there = c ∙ ap (reached (fatEntry y d) (dir .«no_fat_chain») (dir .first)) (sym q);
+        whole = ap (λ (x : ℕ). x * p + more) q ∙ e;
+      }
+
+  pub counted-start : (k m : ℕ) → k + m < entryCount (bytesIn y d dir) → (e : Cursor) → e ≡ entryAt y (fatEntry y d) (dir .«no_fat_chain») (dir .first) k
+      → Counted y d dir (k + m) (e .cluster) (e .at / 32 + m)
+  counted-start k m h e q =
+      let t = there-is y d w dir reads k (omega arith) in
+      let s = split y d w dir reads k (omega arith) in
+      let a : e .at ≡ 32 * (k % p) = ap (λ (x : Cursor). x .at) (q ∙ t) in
+      counted-by (k + m) (k / p) (e .cluster) (e .at / 32 + m) (omega arith) (ap (λ (x : Cursor). x .cluster) (q ∙ t))
+
+  module _ (i cluster more : ℕ) (c : Counted y d dir i cluster more) where
+    abbrev j : ℕ
+    j = (i - more) / p
+
+    pub counted-next : p ≤ more → Counted y d dir i (after (fatEntry y d) (dir .«no_fat_chain») cluster) (more - p)
+    counted-next h =
+        counted-by i (suc j) (after (fatEntry y d) (dir .«no_fat_chain») cluster) (more - p) (omega (arith, c .whole, suc-mul j p))
+        (ap (after (fatEntry y d) (dir .«no_fat_chain»)) (c .there) ∙ sym (reach-last (fatEntry y d) (dir .«no_fat_chain») (dir .first) j))
+
+    pub counted-heap : i < entryCount (bytesIn y d dir) → inHeap (y .count) cluster ≡ true
+    counted-heap h =
+        ap (inHeap (y .count)) (c .there)
+        ∙ reached-heap (fatEntry y d) (dir .«no_fat_chain») (y .count) (dir .first) (dir .count) j (dir-heap y d w dir reads)
+        (elim (decLe (dir .count) j) [
+          | yes b ↦ absurd (omega (arith, c .whole, entries-is y d w dir reads, mul-le-mul-right {m = dir .count} {n = j} p b))
+          | no b ↦ omega arith
+        ])
+
+    pub counted-end : more < p → record { cluster = cluster; at = 32 * more } ≡ entryAt y (fatEntry y d) (dir .«no_fat_chain») (dir .first) i
+    counted-end h =
+        ap (λ (x : ℕ). record { cluster = x; at = 32 * more }) (c .there)
+        ∙ sym (ap (entryAt y (fatEntry y d) (dir .«no_fat_chain») (dir .first)) (sym (c .whole)) ∙ entry-place y (fatEntry y d) (dir .«no_fat_chain») p (w .laid .whole) (dir .first) j more h)
 
 -- ---- before the first type 0
 

@@ -1,6 +1,6 @@
 // The entries of a directory gone through one after the other, each cluster entered once.
 ghost use mathlib.Core.Path.{_≡_};
-ghost use mathlib.Core.Bool.{true};
+ghost use mathlib.Core.Bool.{true, not};
 ghost use Prim.Native.Nat.{_+_, _-_, _*_, _/_, _≤_, _<_};
 ghost use lib.Dec.{eqb};
 ghost use lib.ListN.{length};
@@ -10,8 +10,9 @@ ghost use Rattle.metadata.specs.Fat.{fatEntry};
 ghost use Rattle.metadata.specs.Cluster.{clusterByte};
 ghost use Rattle.stream.specs.Stream.{numberOf, streamOf};
 ghost use Rattle.write_dir.specs.Directory.{bytesIn};
-ghost use Rattle.write_dir.specs.Entries.{entryCount, beforeEnd};
-ghost use Rattle.write_dir.specs.Cursor.{nextEntry};
+ghost use Rattle.write_alloc.specs.Choice.{usableTail};
+ghost use Rattle.write_dir.specs.Entries.{entryCount, inUse, beforeEnd};
+ghost use Rattle.write_dir.specs.Cursor.{nextEntry, entryAt};
 ghost use Rattle.write_dir.specs.Place.{roomFor};
 use boot::layout::Layout;
 use stream::allocation::Allocation;
@@ -20,6 +21,12 @@ use stream::allocation::Allocation;
 pub struct Cursor {
     pub cluster: u32,
     pub at: usize,
+}
+
+// An entry by its slot, and where it stands.
+pub struct Tail {
+    pub slot: u32,
+    pub entry: Cursor,
 }
 
 // Where a new set goes: its slot, and the clusters that the directory grows by for it.
@@ -91,7 +98,72 @@ pub fn before_end(vol: &[u8], y: Layout, dir: Allocation, slot: u32) -> bool
     true
 }
 
-// Where a set of so many entries goes (Rust: `free_run`): the lowest sequence of entries not in use, the directory grown where it ends too soon.
+// The entry m entries after entry k, which e is.
+fn skip(vol: &[u8], y: Layout, dir: Allocation, e: Cursor, k: u32, m: u32) -> Cursor
+    requires { ⌜ Laid y × ((length (now vol) ≡ y .len) × (Apart y × ((numberOf (streamOf y (now vol) dir) ≡ 0) × ((e ≡ entryAt y (fatEntry y (now vol)) (dir .«no_fat_chain») (dir .first) k) × ((m ≤ 19) × (k + m < entryCount (bytesIn y (now vol) dir))))))) ⌝ }
+    ensures { λ r. ⌜ r ≡ entryAt y (fatEntry y (now (vol .entry))) (dir .«no_fat_chain») (dir .first) (k + m) ⌝ }
+{
+    let per = (y.size / 32) as u32;
+    let mut cluster = e.cluster;
+    let mut more = (e.at / 32) as u32 + m;
+    while per <= more {
+        cluster = stream::list::next_cluster(vol, y, dir.no_fat_chain, cluster);
+        more -= per;
+    }
+    Cursor {
+        cluster: cluster,
+        at: 32 * (more as usize),
+    }
+}
+
+// The last in use of the n entries from entry base, which e is: one past it, or base where none is.
+fn last_used(vol: &[u8], y: Layout, dir: Allocation, e: Cursor, base: u32, n: u32) -> Tail
+    requires { ⌜ Laid y × ((length (now vol) ≡ y .len) × (Apart y × ((numberOf (streamOf y (now vol) dir) ≡ 0) × ((e ≡ entryAt y (fatEntry y (now vol)) (dir .«no_fat_chain») (dir .first) base) × (base + n ≤ entryCount (bytesIn y (now vol) dir)))))) ⌝ }
+    ensures { λ r. ⌜ (r .slot ≡ usableTail (λ i. not (inUse (bytesIn y (now (vol .entry)) dir) i)) base n) × (r .entry ≡ entryAt y (fatEntry y (now (vol .entry))) (dir .«no_fat_chain») (dir .first) (r .slot)) ⌝ }
+{
+    let mut at = e;
+    let mut tail = e;
+    let mut slot = base;
+    let mut k = base;
+    let mut left = n;
+    while 0 < left {
+        let next = advance(vol, y, dir.no_fat_chain, at);
+        if in_use(vol, y, at) {
+            tail = next;
+            slot = k + 1;
+            at = next;
+            k += 1;
+            left -= 1;
+        } else {
+            at = next;
+            k += 1;
+            left -= 1;
+        }
+    }
+    Tail {
+        slot: slot,
+        entry: tail,
+    }
+}
+
+// The same, where the last of the n entries is looked at first.
+fn past_used(vol: &[u8], y: Layout, dir: Allocation, e: Cursor, base: u32, n: u32) -> Tail
+    requires { ⌜ Laid y × ((length (now vol) ≡ y .len) × (Apart y × ((numberOf (streamOf y (now vol) dir) ≡ 0) × ((e ≡ entryAt y (fatEntry y (now vol)) (dir .«no_fat_chain») (dir .first) base) × ((1 ≤ n) × ((n ≤ 19) × (base + n ≤ entryCount (bytesIn y (now vol) dir)))))))) ⌝ }
+    ensures { λ r. ⌜ (r .slot ≡ usableTail (λ i. not (inUse (bytesIn y (now (vol .entry)) dir) i)) base n) × (r .entry ≡ entryAt y (fatEntry y (now (vol .entry))) (dir .«no_fat_chain») (dir .first) (r .slot)) ⌝ }
+{
+    let last = skip(vol, y, dir, e, base, n - 1);
+    if in_use(vol, y, last) {
+        let next = advance(vol, y, dir.no_fat_chain, last);
+        return Tail {
+            slot: base + n,
+            entry: next,
+        };
+    }
+    last_used(vol, y, dir, e, base, n - 1)
+}
+
+// Where a set of so many entries goes (Rust: `free_run`): the lowest sequence of entries not in use, the directory grown where it ends
+// too soon. A window of so many entries is looked at from its last one; none that starts before base is free.
 pub fn free_run(vol: &[u8], y: Layout, dir: Allocation, need: u32) -> Room
     requires { ⌜ Laid y × ((length (now vol) ≡ y .len) × (Apart y × ((numberOf (streamOf y (now vol) dir) ≡ 0) × ((1 ≤ need) × (need ≤ 19))))) ⌝ }
     ensures { λ r. ⌜ r ≡ roomFor (y .size) (bytesIn y (now (vol .entry)) dir) need ⌝ }
@@ -102,28 +174,21 @@ pub fn free_run(vol: &[u8], y: Layout, dir: Allocation, need: u32) -> Room
         at: 0,
     };
     let mut base: u32 = 0;
-    let mut k: u32 = 0;
-    while k < total {
-        let next = k + 1;
-        let after = advance(vol, y, dir.no_fat_chain, e);
-        if in_use(vol, y, e) {
-            base = next;
-            e = after;
-            k = next;
-        } else {
-            if next - base == need {
-                return Room {
-                    slot: base,
-                    clusters: 0,
-                };
-            }
-            e = after;
-            k = next;
+    while need <= total - base {
+        let t = past_used(vol, y, dir, e, base, need);
+        if t.slot == base {
+            return Room {
+                slot: base,
+                clusters: 0,
+            };
         }
+        base = t.slot;
+        e = t.entry;
     }
-    let missing = (base + need - total) as usize;
+    let t = last_used(vol, y, dir, e, base, total - base);
+    let missing = (t.slot + need - total) as usize;
     Room {
-        slot: base,
+        slot: t.slot,
         clusters: ((32 * missing + (y.size - 1)) / y.size) as u32,
     }
 }
