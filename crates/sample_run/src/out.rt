@@ -1,6 +1,6 @@
 // Lines on standard output. No contract can say what is written: the lines are compared with the file stdout.
-use crate::verdict::Verdict;
 use libc::STDOUT_FILENO;
+use sample::verdict::Verdict;
 
 // Writes a text.
 fn text(s: &[u8]) {

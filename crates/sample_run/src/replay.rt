@@ -2,11 +2,11 @@
 ghost use mathlib.Core.Path.{_≡_};
 ghost use Prim.Native.Nat.{_+_, _≤_};
 ghost use lib.ListN.{length, take, replicate};
-ghost use Rattle.sample_run.specs.Row.{putWords};
-ghost use Rattle.sample_run.specs.Replay.{readVerdict, changeVerdict, callVerdict, sizedVerdict, rowVerdict};
-use crate::calls;
-use crate::verdict::Verdict;
+ghost use Rattle.sample.specs.Row.{putWords};
+ghost use Rattle.sample.specs.Replay.{readVerdict, changeVerdict, callVerdict, sizedVerdict, rowVerdict};
 use libc::STDIN_FILENO;
+use sample::calls;
+use sample::verdict::Verdict;
 
 // The calls that read.
 fn reading(row: &[u32; 33], map: &[u8], vol: &[u8], src: &[u8]) -> Verdict
@@ -55,7 +55,7 @@ fn call(
     if kind < 5 {
         return changing(row, map, vol, n, after);
     }
-    crate::files::call(row, map, vol, n, after, src)
+    sample::files::call(row, map, vol, n, after, src)
 }
 
 // A call with the map and the length of its row.
@@ -63,14 +63,14 @@ fn sized(row: &[u32; 33], before: [u8; 40960], after: [u8; 40960], src: &[u8]) -
     ensures { λ r. ⌜ r ≡ sizedVerdict (now (row .entry)) before after (now (src .entry)) ⌝ }
 {
     let a = 0;
-    let n = crate::row::size(row[3]);
-    let m = crate::row::size(row[15]);
-    let e = m + crate::row::size(row[16]);
+    let n = sample::row::size(row[3]);
+    let m = sample::row::size(row[15]);
+    let e = m + sample::row::size(row[16]);
     if 40960 < n {
-        return crate::verdict::none();
+        return sample::verdict::none();
     }
     if src.len() < e {
-        return crate::verdict::none();
+        return sample::verdict::none();
     }
     call(row, &src[m..e], before, n, &after[a..n], src)
 }
@@ -81,14 +81,14 @@ fn volumes(row: &[u32; 33], src: &[u8]) -> Verdict
 {
     let mut before = [0u8; 40960];
     let mut after = [0u8; 40960];
-    let p = crate::row::size(row[17]);
-    let k = crate::row::size(row[18]);
-    let all = k + crate::row::size(row[19]);
+    let p = sample::row::size(row[17]);
+    let k = sample::row::size(row[18]);
+    let all = k + sample::row::size(row[19]);
     if src.len() < p + 12 * all {
-        return crate::verdict::none();
+        return sample::verdict::none();
     }
-    crate::stretch::all(&mut before, src, p, k);
-    crate::stretch::all(&mut after, src, p, all);
+    sample::stretch::all(&mut before, src, p, k);
+    sample::stretch::all(&mut after, src, p, all);
     sized(row, before, after, src)
 }
 
@@ -98,7 +98,7 @@ fn row_at(src: &[u8], at: usize) -> [u32; 33]
     ensures { λ r. ⌜ r ≡ putWords 4 (now (src .entry)) at 0 33 (replicate 33 0) ⌝ }
 {
     let mut row = [0u32; 33];
-    crate::row::words(&mut row, src, at);
+    sample::row::words(&mut row, src, at);
     row
 }
 
@@ -116,7 +116,7 @@ fn one(src: &[u8], at: usize) {
 fn rows(src: &[u8]) {
     if 8 <= src.len() {
         let count = primitives::words::u32_at(src, 0);
-        let calls = crate::row::size(count);
+        let calls = sample::row::size(count);
         let mut i = 0;
         let mut at = 8;
         while i < calls {

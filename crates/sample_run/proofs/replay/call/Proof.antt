@@ -1,9 +1,9 @@
 use mathlib.Core.Path.{_∙_, ap}
 use mathlib.Core.List.{List}
 use Prim.Native.Nat.{ℕ}
-use Rattle.sample_run.specs.Replay.{readVerdict}
+use Rattle.sample.specs.Replay.{readVerdict}
 use native.Mathlib.Omega.{arith}
-use Rattle.sample_run.proofs.ReplayLaws.{first-part, call-read, call-change, call-file}
+use Rattle.sample.proofs.ReplayLaws.{first-part, call-read, call-change, call-file}
 use borrow.Author.Needs.{needs}
 use Rattle.sample_run.proofs.replay.call.Statement.{statement}
 use Rattle.sample_run.proofs.replay.call.Tie as tie

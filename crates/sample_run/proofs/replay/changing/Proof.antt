@@ -2,9 +2,9 @@ use mathlib.Core.Path.{_∙_, ap}
 use mathlib.Core.List.{List}
 use Prim.Native.Nat.{ℕ}
 use native.Mathlib.Omega.{arith}
-use Rattle.sample_run.specs.Held.{ofStream}
-use Rattle.sample_run.specs.Replay.{allocateRow, extendRow, shrinkRow}
-use Rattle.sample_run.proofs.ReplayLaws.{first-part, change-allocate, change-extend, change-shrink}
+use Rattle.sample.specs.Held.{ofStream}
+use Rattle.sample.specs.Replay.{allocateRow, extendRow, shrinkRow}
+use Rattle.sample.proofs.ReplayLaws.{first-part, change-allocate, change-extend, change-shrink}
 use borrow.Author.Needs.{needs}
 use Rattle.sample_run.proofs.replay.changing.Statement.{statement}
 use Rattle.sample_run.proofs.replay.changing.Tie as tie

@@ -1,6 +1,6 @@
 use mathlib.Core.Path.{_∙_}
 use native.Mathlib.Omega.{arith}
-use Rattle.sample_run.proofs.ReplayLaws.{read-free, read-clusters}
+use Rattle.sample.proofs.ReplayLaws.{read-free, read-clusters}
 use borrow.Author.Needs.{needs}
 use Rattle.sample_run.proofs.replay.reading.Statement.{statement}
 use Rattle.sample_run.proofs.replay.reading.Tie as tie

@@ -1,4 +1,4 @@
-use Rattle.sample_run.proofs.ReplayLaws.{sized-long, sized-out, sized-is}
+use Rattle.sample.proofs.ReplayLaws.{sized-long, sized-out, sized-is}
 use mathlib.Core.Path.{_∙_}
 use native.Mathlib.Omega.{arith}
 use lib.ListN.{getD, drop}

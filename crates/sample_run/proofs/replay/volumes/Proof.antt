@@ -1,4 +1,4 @@
-use Rattle.sample_run.proofs.ReplayLaws.{row-out, row-is}
+use Rattle.sample.proofs.ReplayLaws.{row-out, row-is}
 use mathlib.Core.Path.{_∙_}
 use native.Mathlib.Omega.{arith}
 use borrow.Author.Needs.{needs}
