@@ -42,10 +42,10 @@ use Rattle.write_dir.proofs.PlaceLaws.{clusters-along}
 -- ---- going along
 
 module _ (fat : ℕ → ℕ) (run : Bool) where
-  reach-last : (k n : ℕ) → reached fat run k (suc n) ≡ after fat run (reached fat run k n)
+  reach-next : (k n : ℕ) → reached fat run k (suc n) ≡ after fat run (reached fat run k n)
   unfolding reached
-  reach-last k zero = refl
-  reach-last k (suc n) = reach-last (after fat run k) n
+  reach-next k zero = refl
+  reach-next k (suc n) = reach-next (after fat run k) n
 
   pub along-at : (k n m : ℕ) → m < n → getD (along fat run k n) m 0 ≡ reached fat run k m
   unfolding along reached
@@ -95,7 +95,7 @@ module _ (y : Layout) (fat : ℕ → ℕ) (run : Bool) where
         let z : suc m * p ≡ m * p + (p - 1) + 1 = omega (arith, suc-mul m p) in
         ap (entryAt y fat run first) z ∙ sym (entry-next first (m * p + (p - 1)))
         ∙ ap (nextEntry y fat run) (row m (m * p) (p - 1) (rows m l) (omega arith))
-        ∙ next-over (place m (32 * (p - 1))) (omega arith) ∙ ap (λ (k : ℕ). record { cluster = k; at = 0 }) (sym (reach-last fat run first m))
+        ∙ next-over (place m (32 * (p - 1))) (omega arith) ∙ ap (λ (k : ℕ). record { cluster = k; at = 0 }) (sym (reach-next fat run first m))
 
     pub entry-place : (m j : ℕ) → j < p → entryAt y fat run first (m * p + j) ≡ record { cluster = reached fat run first m; at = 32 * j }
     entry-place m j h = row m (m * p) j (rows m (omega arith)) h
@@ -248,7 +248,7 @@ module _ (y : Layout) (d : List ℕ) (w : Fits y d) (dir : Allocation) (reads : 
     pub counted-next : p ≤ more → Counted y d dir i (after (fatEntry y d) (dir .«no_fat_chain») cluster) (more - p)
     counted-next h =
         counted-by i (suc j) (after (fatEntry y d) (dir .«no_fat_chain») cluster) (more - p) (omega (arith, c .whole, suc-mul j p))
-        (ap (after (fatEntry y d) (dir .«no_fat_chain»)) (c .there) ∙ sym (reach-last (fatEntry y d) (dir .«no_fat_chain») (dir .first) j))
+        (ap (after (fatEntry y d) (dir .«no_fat_chain»)) (c .there) ∙ sym (reach-next (fatEntry y d) (dir .«no_fat_chain») (dir .first) j))
 
     pub counted-heap : i < entryCount (bytesIn y d dir) → inHeap (y .count) cluster ≡ true
     counted-heap h =

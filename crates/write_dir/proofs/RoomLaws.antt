@@ -6,6 +6,7 @@ use Prim.Native.Nat.{ℕ, _+_, _-_, _*_, _≤_, _<_}
 use native.Mathlib.Decide.{decLt}
 use native.Mathlib.Omega.{arith}
 use lib.ListN.{length}
+use borrow.Author.Tests.{not-false}
 use Rattle.entry_set.specs.Fields.{clustersFor}
 use Rattle.metadata.specs.declared.usable.Found.the-variants.{At}
 use Rattle.write_alloc.specs.Choice.{allFrom, usableTail, runFrom}
@@ -21,10 +22,6 @@ Passed bs n base =
 
 pub passed-used : (bs : List ℕ) (n base k : ℕ) → base ≤ k → k < base + n → inUse bs k ≡ true → Passed bs n base → Passed bs n (k + 1)
 passed-used bs n base k l h e p = run-skip (λ i. not (inUse bs i)) (entryCount bs + n) n base k l h (ap not e) ∙ p
-
-not-false : (b : Bool) → not b ≡ false → b ≡ true
-not-false true e = refl
-not-false false e = sym e
 
 -- the last entry in use of a window, by one entry more
 module _ (bs : List ℕ) (base k : ℕ) (l : base ≤ k) where

@@ -1,9 +1,10 @@
 use Prim.Native.Nat.{ℕ, _+_, _-_, _≤_}
 use mathlib.Core.Path.{_≡_, refl, sym, _∙_}
-use mathlib.Core.Bool.{Bool, true, false, not}
+use mathlib.Core.Bool.{false, not}
 use mathlib.Core.List.{List}
 use native.Mathlib.Omega.{arith}
 use borrow.Author.Needs.{needs}
+use borrow.Author.Tests.{not-false}
 use Rattle.boot.specs.declared.layout.Layout.{Layout}
 use Rattle.metadata.specs.Marks.{marked}
 use Rattle.metadata.specs.Usable.{isUsable}
@@ -13,10 +14,6 @@ use Rattle.write_alloc.specs.Choice.{runFrom}
 use Rattle.write_alloc.proofs.Runs.{run-none, window-hit, window-skip, window-beyond}
 use Rattle.write_alloc.proofs.choice.scan.Statement.{statement}
 use Rattle.write_alloc.proofs.choice.scan.Tie as tie
-
-not-false : (b : Bool) → not b ≡ false → b ≡ true
-not-false true e = refl
-not-false false e = sym e
 
 -- a marked cluster is not usable
 weaker : (y : Layout) (d m : List ℕ) (k : ℕ) → not (marked y d k) ≡ false → isUsable y d m k ≡ false
