@@ -1,8 +1,8 @@
-//! Links libexfat.a from EXFAT_LIB_DIR, compiles limits.c, and hears from the package `original` whether the Rust sources were
+//! Compiles limits.c, and hears from the package `original` whether the Rust sources were
 //! found.
 
 use std::env;
-use std::path::{Path, PathBuf};
+use std::path::PathBuf;
 use std::process::Command;
 
 fn run(command: &mut Command) {
@@ -24,7 +24,6 @@ fn version(command: &str) -> String {
 fn main() {
     println!("cargo:rerun-if-changed=build.rs");
     println!("cargo:rerun-if-changed=limits.c");
-    println!("cargo:rerun-if-env-changed=EXFAT_LIB_DIR");
     let out = PathBuf::from(env::var_os("OUT_DIR").expect("set by cargo"));
     let (object, archive) = (out.join("limits.o"), out.join("liblimits.a"));
     run(Command::new("gcc")
@@ -36,16 +35,6 @@ fn main() {
     run(Command::new("ar").arg("rcs").arg(&archive).arg(&object));
     println!("cargo:rustc-link-search=native={}", out.display());
     println!("cargo:rustc-link-lib=static=limits");
-
-    let folder =
-        env::var_os("EXFAT_LIB_DIR").expect("EXFAT_LIB_DIR names the folder of libexfat.a");
-    let library = Path::new(&folder).join("libexfat.a");
-    println!("cargo:rerun-if-changed={}", library.display());
-    println!(
-        "cargo:rustc-link-search=native={}",
-        Path::new(&folder).display()
-    );
-    println!("cargo:rustc-link-lib=static=exfat");
 
     println!("cargo:rustc-env=GCC_VERSION={}", version("gcc"));
     println!(

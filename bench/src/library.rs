@@ -2,83 +2,7 @@
 
 use crate::calls::{Call, List, Shared, STAMP};
 use crate::limits::now;
-
-mod c {
-    extern "C" {
-        pub fn exfat_allocate(
-            volume: *mut u8,
-            volume_length: usize,
-            map: *const u8,
-            map_length: usize,
-            geometry: *const [u32; 11],
-            count: u32,
-            has_near: u32,
-            near: u32,
-            hint: u32,
-            out: *mut [u32; 8],
-        ) -> u32;
-        pub fn exfat_extend(
-            volume: *mut u8,
-            volume_length: usize,
-            map: *const u8,
-            map_length: usize,
-            geometry: *const [u32; 11],
-            allocation: *const [u32; 4],
-            more: u32,
-            hint: u32,
-            out: *mut [u32; 8],
-        ) -> u32;
-        pub fn exfat_shrink(
-            volume: *mut u8,
-            volume_length: usize,
-            map: *const u8,
-            map_length: usize,
-            geometry: *const [u32; 11],
-            allocation: *const [u32; 4],
-            keep: u32,
-            hint: u32,
-            out: *mut [u32; 8],
-        ) -> u32;
-        pub fn exfat_new_file(
-            volume: *mut u8,
-            volume_length: usize,
-            map: *const u8,
-            map_length: usize,
-            geometry: *const [u32; 11],
-            name: *const u16,
-            name_length: usize,
-            attributes: u16,
-            hash: u16,
-            stamps: *const [u8; 18],
-            hint: u32,
-            out: *mut [u32; 8],
-        ) -> u32;
-        pub fn exfat_write(
-            volume: *mut u8,
-            volume_length: usize,
-            map: *const u8,
-            map_length: usize,
-            geometry: *const [u32; 11],
-            slot: u32,
-            offset: u64,
-            data: *const u8,
-            data_length: usize,
-            stamp: *const [u8; 6],
-            hint: u32,
-            out: *mut [u32; 8],
-        ) -> u32;
-        pub fn exfat_remove(
-            volume: *mut u8,
-            volume_length: usize,
-            map: *const u8,
-            map_length: usize,
-            geometry: *const [u32; 11],
-            slot: u32,
-            hint: u32,
-            out: *mut [u32; 8],
-        ) -> u32;
-    }
-}
+use exfat::Setting;
 
 /// What is kept between calls: the bytes, and what the calls gave.
 pub struct Side<'list> {
@@ -117,74 +41,43 @@ impl<'list> Side<'list> {
     pub fn call(&mut self, volume: &mut [u8], call: &Call) {
         let mut out = [0; 8];
         let given = &self.list.volume;
-        let (v, vl, m, ml, g) = (
-            volume.as_mut_ptr(),
-            volume.len(),
-            given.map.as_ptr(),
-            given.map.len(),
-            &given.geometry,
-        );
+        let setting = Setting {
+            geometry: &given.geometry,
+            map: &given.map,
+        };
         let hint = self.hint;
-        // SAFETY: every pointer leads to as many elements as its length or its array says, and what is written overlaps nothing.
-        let number = unsafe {
-            match *call {
-                Call::NewFile { file } => {
-                    let name = &self.list.files[file].name;
-                    let hash = self.list.files[file].hash;
-                    let mut stamps = [0; 18];
-                    stamps
-                        .chunks_exact_mut(6)
-                        .for_each(|stamp| stamp.copy_from_slice(&STAMP));
-                    c::exfat_new_file(
-                        v,
-                        vl,
-                        m,
-                        ml,
-                        g,
-                        name.as_ptr(),
-                        name.len(),
-                        0x20,
-                        hash,
-                        &stamps,
-                        hint,
-                        &mut out,
-                    )
-                }
-                Call::Write {
-                    file,
-                    offset,
-                    from,
-                    length,
-                } => {
-                    let data = &self.data[from..from + length];
-                    let slot = self.slots[file];
-                    c::exfat_write(
-                        v,
-                        vl,
-                        m,
-                        ml,
-                        g,
-                        slot,
-                        offset,
-                        data.as_ptr(),
-                        length,
-                        &STAMP,
-                        hint,
-                        &mut out,
-                    )
-                }
-                Call::Remove { file } => {
-                    c::exfat_remove(v, vl, m, ml, g, self.slots[file], hint, &mut out)
-                }
-                Call::Allocate { count } => {
-                    c::exfat_allocate(v, vl, m, ml, g, count, 0, 0, hint, &mut out)
-                }
-                Call::Extend { more } => {
-                    c::exfat_extend(v, vl, m, ml, g, &self.record, more, hint, &mut out)
-                }
-                Call::Shrink { keep } => {
-                    c::exfat_shrink(v, vl, m, ml, g, &self.record, keep, hint, &mut out)
-                }
+        let number = match *call {
+            Call::NewFile { file } => {
+                let file = &self.list.files[file];
+                let new = exfat::NewFile {
+                    name: &file.name,
+                    attributes: 0x20,
+                    hash: file.hash,
+                    stamps: [STAMP; 3],
+                };
+                exfat::new_file(volume, setting, &new, hint, &mut out)
+            }
+            Call::Write {
+                file,
+                offset,
+                from,
+                length,
+            } => {
+                let data = &self.data[from..from + length];
+                let at = (self.slots[file], offset);
+                exfat::write(volume, setting, at, data, &STAMP, hint, &mut out)
+            }
+            Call::Remove { file } => {
+                exfat::remove(volume, setting, self.slots[file], hint, &mut out)
+            }
+            Call::Allocate { count } => {
+                exfat::allocate(volume, setting, count, None, hint, &mut out)
+            }
+            Call::Extend { more } => {
+                exfat::extend(volume, setting, &self.record, more, hint, &mut out)
+            }
+            Call::Shrink { keep } => {
+                exfat::shrink(volume, setting, &self.record, keep, hint, &mut out)
             }
         };
         assert_eq!(number, 0, "the library refused a call");

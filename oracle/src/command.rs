@@ -4,7 +4,7 @@ use crate::calls::Kinds;
 use crate::cases;
 use crate::compare::{kinds_word, mode_word, Mode, Options, Run, Tally};
 use crate::sample;
-use crate::subject::{Library, HAS_ALLOC, HAS_FILES};
+use crate::subject::Library;
 use std::process::ExitCode;
 
 const USAGE: &str = "\
@@ -14,10 +14,9 @@ oracle --sample FILE
 oracle --replay FILE";
 
 /// Exit statuses beside 0: a difference, a wrong command line or a fault of
-/// the set-up, (3: no Rust sources), no library to compare.
+/// the set-up (3: no Rust sources).
 const DIFFERENT: u8 = 1;
 const WRONG: u8 = 2;
-const NO_LIBRARY: u8 = 4;
 
 enum Command {
     Compare(Options),
@@ -62,18 +61,7 @@ fn parse(words: &[String]) -> Result<Command, String> {
     Ok(Command::Compare(options))
 }
 
-fn has_library(kinds: Kinds) -> bool {
-    match kinds {
-        Kinds::Alloc => HAS_ALLOC,
-        Kinds::Files => HAS_FILES,
-        Kinds::All => HAS_ALLOC && HAS_FILES,
-    }
-}
-
 fn compare(options: Options) -> ExitCode {
-    if !has_library(options.kinds) {
-        return no_library();
-    }
     println!(
         "seed {}, kinds {}, mode {}",
         options.seed,
@@ -96,10 +84,7 @@ fn compare(options: Options) -> ExitCode {
 
 /// Every known difference on its smallest input.
 fn differences() -> ExitCode {
-    if !HAS_ALLOC {
-        return no_library();
-    }
-    match cases::print(&Library, HAS_FILES) {
+    match cases::print(&Library) {
         0 => ExitCode::SUCCESS,
         wrong => {
             println!("{wrong} cases are not as told");
@@ -109,9 +94,6 @@ fn differences() -> ExitCode {
 }
 
 fn replay(file: &str) -> ExitCode {
-    if !HAS_ALLOC || !HAS_FILES {
-        return no_library();
-    }
     match sample::replay(&Library, file) {
         Ok((calls, 0)) => {
             println!("{calls} calls agree");
@@ -128,11 +110,6 @@ fn replay(file: &str) -> ExitCode {
 fn fault(text: &str) -> ExitCode {
     eprintln!("{text}");
     ExitCode::from(WRONG)
-}
-
-fn no_library() -> ExitCode {
-    eprintln!("the library with these calls was not found: set EXFAT_LIB_DIR and build again");
-    ExitCode::from(NO_LIBRARY)
 }
 
 pub fn main() -> ExitCode {

@@ -1,5 +1,5 @@
-//! The proved library: its calls over slices, and its numbers in words. The
-//! only file with foreign functions.
+//! The proved library: its calls as the tool makes them, and its numbers in
+//! words.
 
 use std::fmt;
 
@@ -47,126 +47,19 @@ pub struct Allocation {
     pub no_fat_chain: bool,
 }
 
-/// A time as an entry holds it, its 10 ms increment and its UTC offset.
-pub type Stamp = [u8; 6];
-
-/// Geometry and system map, which every call takes.
-#[derive(Clone, Copy)]
-pub struct Setting<'a> {
-    pub geometry: &'a [u32; 11],
-    pub map: &'a [u8],
-}
-
-mod foreign {
-    extern "C" {
-        pub fn exfat_free_count(
-            vol: *const u8,
-            vol_len: usize,
-            map: *const u8,
-            map_len: usize,
-            geometry: *const u32,
-            out: *mut u32,
-        ) -> u32;
-
-        pub fn exfat_clusters(
-            vol: *const u8,
-            vol_len: usize,
-            map: *const u8,
-            map_len: usize,
-            geometry: *const u32,
-            allocation: *const u32,
-            list: *mut u32,
-            list_len: usize,
-        ) -> u32;
-
-        pub fn exfat_new_file(
-            vol: *mut u8,
-            vol_len: usize,
-            map: *const u8,
-            map_len: usize,
-            geometry: *const u32,
-            name: *const u16,
-            name_len: usize,
-            attributes: u16,
-            hash: u16,
-            stamps: *const u8,
-            hint: u32,
-            out: *mut u32,
-        ) -> u32;
-
-        pub fn exfat_write(
-            vol: *mut u8,
-            vol_len: usize,
-            map: *const u8,
-            map_len: usize,
-            geometry: *const u32,
-            slot: u32,
-            offset: u64,
-            src: *const u8,
-            src_len: usize,
-            stamp: *const u8,
-            hint: u32,
-            out: *mut u32,
-        ) -> u32;
-
-        pub fn exfat_set_length(
-            vol: *mut u8,
-            vol_len: usize,
-            map: *const u8,
-            map_len: usize,
-            geometry: *const u32,
-            slot: u32,
-            length: u64,
-            stamp: *const u8,
-            hint: u32,
-            out: *mut u32,
-        ) -> u32;
-
-        pub fn exfat_remove(
-            vol: *mut u8,
-            vol_len: usize,
-            map: *const u8,
-            map_len: usize,
-            geometry: *const u32,
-            slot: u32,
-            hint: u32,
-            out: *mut u32,
-        ) -> u32;
-    }
-}
-
-// SAFETY of every call below: each pointer and length come from one Rust
-// slice or array of the length that the header names, so they are aligned and
-// not null, and what is written is borrowed mutably, so it overlaps nothing.
+pub use exfat::{Setting, Stamp};
 
 pub fn free_count(vol: &[u8], setting: Setting) -> (Number, u32) {
-    let Setting { geometry, map } = setting;
     let mut out = [0; 8];
-    let number = unsafe {
-        foreign::exfat_free_count(vol.as_ptr(), vol.len(), map.as_ptr(), map.len(), geometry.as_ptr(), out.as_mut_ptr())
-    };
+    let number = exfat::free_count(vol, setting, &mut out);
     (Number(number), out[0])
 }
 
 /// Lists a stream's clusters.
 pub fn clusters(vol: &[u8], setting: Setting, stream: Allocation) -> Result<Vec<u32>, Number> {
-    let Setting { geometry, map } = setting;
-    let run = u32::from(stream.no_fat_chain);
-    let words = [stream.first, stream.last, stream.count, run];
+    let record = [stream.first, stream.last, stream.count, u32::from(stream.no_fat_chain)];
     let mut list = vec![0; stream.count as usize];
-    let number = unsafe {
-        foreign::exfat_clusters(
-            vol.as_ptr(),
-            vol.len(),
-            map.as_ptr(),
-            map.len(),
-            geometry.as_ptr(),
-            words.as_ptr(),
-            list.as_mut_ptr(),
-            list.len(),
-        )
-    };
-    match Number(number) {
+    match Number(exfat::clusters(vol, setting, &record, &mut list)) {
         Number::DONE => Ok(list),
         number => Err(number),
     }
@@ -182,25 +75,10 @@ pub struct NewFile<'a> {
 
 /// Gives the number, the slot and the hint.
 pub fn new_file(vol: &mut [u8], setting: Setting, file: &NewFile, hint: u32) -> (Number, u32, u32) {
-    let Setting { geometry, map } = setting;
-    let stamps = file.stamp.repeat(3);
+    let NewFile { name, attributes, hash, stamp } = *file;
+    let file = exfat::NewFile { name, attributes, hash, stamps: [stamp; 3] };
     let mut out = [0; 8];
-    let number = unsafe {
-        foreign::exfat_new_file(
-            vol.as_mut_ptr(),
-            vol.len(),
-            map.as_ptr(),
-            map.len(),
-            geometry.as_ptr(),
-            file.name.as_ptr(),
-            file.name.len(),
-            file.attributes,
-            file.hash,
-            stamps.as_ptr(),
-            hint,
-            out.as_mut_ptr(),
-        )
-    };
+    let number = exfat::new_file(vol, setting, &file, hint, &mut out);
     (Number(number), out[0], out[1])
 }
 
@@ -214,61 +92,19 @@ pub fn write(
     stamp: &Stamp,
     hint: u32,
 ) -> (Number, u32) {
-    let Setting { geometry, map } = setting;
     let mut out = [0; 8];
-    let number = unsafe {
-        foreign::exfat_write(
-            vol.as_mut_ptr(),
-            vol.len(),
-            map.as_ptr(),
-            map.len(),
-            geometry.as_ptr(),
-            slot,
-            offset,
-            data.as_ptr(),
-            data.len(),
-            stamp.as_ptr(),
-            hint,
-            out.as_mut_ptr(),
-        )
-    };
+    let number = exfat::write(vol, setting, (slot, offset), data, stamp, hint, &mut out);
     (Number(number), out[0])
 }
 
 pub fn set_length(vol: &mut [u8], setting: Setting, slot: u32, length: u64, stamp: &Stamp, hint: u32) -> (Number, u32) {
-    let Setting { geometry, map } = setting;
     let mut out = [0; 8];
-    let number = unsafe {
-        foreign::exfat_set_length(
-            vol.as_mut_ptr(),
-            vol.len(),
-            map.as_ptr(),
-            map.len(),
-            geometry.as_ptr(),
-            slot,
-            length,
-            stamp.as_ptr(),
-            hint,
-            out.as_mut_ptr(),
-        )
-    };
+    let number = exfat::set_length(vol, setting, (slot, length), stamp, hint, &mut out);
     (Number(number), out[0])
 }
 
 pub fn remove(vol: &mut [u8], setting: Setting, slot: u32, hint: u32) -> (Number, u32) {
-    let Setting { geometry, map } = setting;
     let mut out = [0; 8];
-    let number = unsafe {
-        foreign::exfat_remove(
-            vol.as_mut_ptr(),
-            vol.len(),
-            map.as_ptr(),
-            map.len(),
-            geometry.as_ptr(),
-            slot,
-            hint,
-            out.as_mut_ptr(),
-        )
-    };
+    let number = exfat::remove(vol, setting, slot, hint, &mut out);
     (Number(number), out[0])
 }
