@@ -1,15 +1,16 @@
 -- Bits of a bitmap that are skipped by the byte. Assumes nothing.
 use mathlib.Core.Path.{_≡_, refl, sym, _∙_, ap, ap₂}
-use mathlib.Core.Bool.{cond}
+use mathlib.Core.Bool.{true, cond, _&&_, false≢true}
 use mathlib.Core.List.{List}
 use Prim.Native.Nat.{ℕ, zero, suc, _+_, _-_, _*_, _/_, _≤_, _<_}
 use native.Mathlib.Decide.{decLt, ℕ-discrete}
+use native.Mathlib.Numerals.{add-one}
 use native.Mathlib.Omega.{arith}
 use lib.Dec.{eqb, ltb, eqb→eq}
 use lib.ListN.{getD, take}
 use lib.Seq.{getD-take}
 use borrow.Author.Tests.{eq-eqb, ne-eqb, lt-ltb, le-ltb}
-use Rattle.primitives.specs.Bits.{bitOf, pastBytes}
+use Rattle.primitives.specs.Bits.{bitOf, sameBytes, pastBytes}
 use Rattle.primitives.proofs.Every.{at}
 
 module _ (l : List ℕ) (b : ℕ) where
@@ -69,6 +70,37 @@ module _ (l : List ℕ) (b : ℕ) where
             ∙ past-inside (k / 8) (end - k) k 0 e (omega arith) (omega arith) ∙ past-none (k + (end - k)) 0 (omega arith)
             ∙ sym (to-end next end (omega arith) ∙ omega arith)
       ]
+
+  -- ---- blocks of bytes
+
+  pub same-none : (i : ℕ) → sameBytes l b i 0 ≡ true
+  unfolding sameBytes
+  same-none i = refl
+
+  pub same-next : (i n : ℕ) → sameBytes l b i (n + 1) ≡ eqb (getD l (i + n) 0) b && sameBytes l b i n
+  unfolding sameBytes
+  same-next i n = rw add-one refl
+
+  same-last : (i n : ℕ) → sameBytes l b i (suc n) ≡ true → (getD l (i + n) 0 ≡ b) × (sameBytes l b i n ≡ true)
+  unfolding sameBytes
+  same-last i n e =
+      elim (ℕ-discrete (getD l (i + n) 0) b) [
+        | yes q ↦ (q, rw (eq-eqb (getD l (i + n) 0) b q) at e)
+        | no q ↦ absurd (false≢true (rw (ne-eqb (getD l (i + n) 0) b q) at e))
+      ]
+
+  -- bytes that are all b are passed together
+  pub to-bytes : (m k end : ℕ) → sameBytes l b (k / 8) (suc m) ≡ true → 8 * (k / 8) + 8 * suc m ≤ end
+      → pastTo k end ≡ pastTo (8 * (k / 8) + 8 * suc m) end
+  to-bytes zero k end e h =
+      to-byte k end (omega arith) (ap (λ (x : ℕ). getD l x 0) (omega arith) ∙ same-last (k / 8) 0 e .0)
+      ∙ ap (λ (x : ℕ). pastTo x end) (omega arith)
+  to-bytes (suc m) k end e h =
+      let at : ℕ = 8 * (k / 8) + 8 * suc m in
+      let s = same-last (k / 8) (suc m) e in
+      to-bytes m k end (s .1) (omega arith)
+      ∙ to-byte at end (omega arith) (ap (λ (x : ℕ). getD l x 0) (omega arith) ∙ s .0)
+      ∙ ap (λ (x : ℕ). pastTo x end) (omega arith)
 
   -- ---- for callers
 

@@ -1,9 +1,10 @@
 // Bits of a byte, by a mask of one bit, and bits of a bitmap that are skipped by the byte. Bit 0 is the lowest.
 ghost use mathlib.Core.Path.{_≡_};
+ghost use mathlib.Core.Bool.{_&&_};
 ghost use Prim.Native.Nat.{_+_, _*_, _≤_, _<_};
 ghost use lib.Dec.{eqb};
 ghost use lib.ListN.{length};
-ghost use Rattle.primitives.specs.Bits.{bitOf, setBit, clearBit, putBit, pastBytes};
+ghost use Rattle.primitives.specs.Bits.{bitOf, setBit, clearBit, putBit, sameBytes, pastBytes};
 
 // Whether bit j of b is set.
 pub fn bit_test(b: u8, j: u8) -> bool
@@ -40,8 +41,32 @@ pub fn bit_put(b: u8, j: u8, on: bool) -> u8
     bit_clear(b, j)
 }
 
+// Whether both are true.
+fn both(a: bool, b: bool) -> bool
+    ensures { λ r. ⌜ r ≡ a && b ⌝ }
+{
+    if a {
+        return b;
+    }
+    false
+}
+
+// Whether the 64 bytes from i are all b. With no way out of the loop, the compiler compares 16 bytes at a time.
+fn same_block(bitmap: &[u8], i: usize, b: u8) -> bool
+    requires { ⌜ i + 64 ≤ length (now bitmap) ⌝ }
+    ensures { λ r. ⌜ r ≡ sameBytes (now (bitmap .entry)) b i 64 ⌝ }
+{
+    let mut same = true;
+    let mut j: usize = 0;
+    while j < 64 {
+        same = both(bitmap[i + j] == b, same);
+        j += 1;
+    }
+    same
+}
+
 // The first of the n bit numbers from k whose byte is not b; k + n where there is none. One test for each byte.
-pub fn past_bytes(bitmap: &[u8], b: u8, k: u32, n: u32) -> u32
+fn past_each_byte(bitmap: &[u8], b: u8, k: u32, n: u32) -> u32
     requires { ⌜ (k + n ≤ 65536) × (k + n ≤ 8 * length (now bitmap)) ⌝ }
     ensures { λ r. ⌜ r ≡ pastBytes (now (bitmap .entry)) b k n ⌝ }
 {
@@ -55,4 +80,22 @@ pub fn past_bytes(bitmap: &[u8], b: u8, k: u32, n: u32) -> u32
         at = 8 * (at / 8) + 8;
     }
     end
+}
+
+// The same, with one test for each block of 64 bytes as long as they are all b.
+pub fn past_bytes(bitmap: &[u8], b: u8, k: u32, n: u32) -> u32
+    requires { ⌜ (k + n ≤ 65536) × (k + n ≤ 8 * length (now bitmap)) ⌝ }
+    ensures { λ r. ⌜ r ≡ pastBytes (now (bitmap .entry)) b k n ⌝ }
+{
+    let end = k + n;
+    let mut at = k;
+    while 520 <= end - at {
+        let i = (at / 8) as usize;
+        if same_block(bitmap, i, b) {
+            at = 8 * (at / 8) + 512;
+        } else {
+            return past_each_byte(bitmap, b, at, end - at);
+        }
+    }
+    past_each_byte(bitmap, b, at, end - at)
 }

@@ -3,12 +3,12 @@ use mathlib.Core.Path.{_≡_, sym, _∙_}
 use native.Mathlib.Omega.{arith}
 use borrow.Author.Needs.{needs}
 use Rattle.primitives.specs.Bits.{pastBytes}
-use Rattle.primitives.proofs.ByteLaws.{pastTo, to-all, to-stop, to-byte, to-end}
+use Rattle.primitives.proofs.ByteLaws.{pastTo, to-all, to-bytes}
 use Rattle.primitives.proofs.bits.past_bytes.Statement.{statement}
 use Rattle.primitives.proofs.bits.past_bytes.Tie as tie
 
 abbrev Inv-loop : tie.InvT-loop
-Inv-loop bitmap b k n end at₀ at = (at ≤ end + 7) × (pastTo bitmap b at end ≡ pastBytes bitmap b k n)
+Inv-loop bitmap b k n end at₀ at = (at ≤ end) × (pastTo bitmap b at end ≡ pastBytes bitmap b k n)
 
 abbrev μ-loop : tie.MeasureT-loop
 μ-loop bitmap b k n end at₀ at = end - at
@@ -19,14 +19,14 @@ add-end c = search needs
 loop-holds : tie.Need-loop-holds Inv-loop μ-loop
 loop-holds c = (omega arith, to-all _ _ _ _ _ (omega arith))
 
+sub-loop : tie.Need-sub-loop Inv-loop μ-loop
+sub-loop c = search needs
+
 cast-i : tie.Need-cast-i Inv-loop μ-loop
 cast-i c = search needs
 
-shared-slice-read-if1 : tie.Need-shared-slice-read-if1 Inv-loop μ-loop
-shared-slice-read-if1 c = search needs
-
-returns : tie.Need-returns Inv-loop μ-loop
-returns c = sym (sym (c .before .before .before .loop .inv .1) ∙ to-stop _ _ _ _ (omega arith) (λ z. omega arith))
+same-block-requires : tie.Need-same-block-requires Inv-loop μ-loop
+same-block-requires c κs = search needs
 
 mul-at : tie.Need-mul-at Inv-loop μ-loop
 mul-at c = search needs
@@ -38,10 +38,27 @@ loop-less : tie.Need-loop-less Inv-loop μ-loop
 loop-less c = search needs
 
 loop-again : tie.Need-loop-again Inv-loop μ-loop
-loop-again c = (omega arith, sym (to-byte _ _ _ _ (omega arith) (omega arith)) ∙ c .before .before .before .loop .inv .1)
+loop-again c =
+    let l = c .before .before .before .loop in
+    (omega arith, sym (to-bytes _ _ 63 (l .at) _ (sym (c .before .same-block .ensures) ∙ c .if1 .taken) (omega arith)) ∙ l .inv .1)
+
+sub-past-each-byte : tie.Need-sub-past-each-byte Inv-loop μ-loop
+sub-past-each-byte c = search needs
+
+past-each-byte-requires : tie.Need-past-each-byte-requires Inv-loop μ-loop
+past-each-byte-requires c κs = search needs
+
+returns : tie.Need-returns Inv-loop μ-loop
+returns c = c .past-each-byte .ensures ∙ sym (to-all _ _ _ _ _ (omega arith)) ∙ c .before .before .before .before .loop .inv .1
+
+sub-past-each-byte-2 : tie.Need-sub-past-each-byte-2 Inv-loop μ-loop
+sub-past-each-byte-2 c = search needs
+
+past-each-byte-requires-2 : tie.Need-past-each-byte-requires-2 Inv-loop μ-loop
+past-each-byte-requires-2 c κs = search needs
 
 returns-2 : tie.Need-returns-2 Inv-loop μ-loop
-returns-2 c = sym (to-end _ _ _ _ (omega arith)) ∙ c .before .loop .inv .1
+returns-2 c = c .past-each-byte2 .ensures ∙ sym (to-all _ _ _ _ _ (omega arith)) ∙ c .before .before .loop .inv .1
 
 pub past-bytes-spec : {M : Type 1} → statement M
 past-bytes-spec =
@@ -51,11 +68,16 @@ past-bytes-spec =
     μ-loop
     add-end
     loop-holds
+    sub-loop
     cast-i
-    shared-slice-read-if1
-    returns
+    same-block-requires
     mul-at
     add-at
     loop-less
     loop-again
+    sub-past-each-byte
+    past-each-byte-requires
+    returns
+    sub-past-each-byte-2
+    past-each-byte-requires-2
     returns-2)
