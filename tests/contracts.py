@@ -19,7 +19,7 @@ PUBLIC_CALLS = {
     "write_shrink::shrink::shrink_clusters",
     "write_file::new_file::make_in",
     "write_file::write::write_into",
-    "write_file::set_length::set_length",
+    "write_length::set_length::set_length",
     "write_remove::remove::remove",
     "write::replay::replay",
 }

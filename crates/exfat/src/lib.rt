@@ -12,7 +12,7 @@ ghost use Rattle.write_extend.specs.Extend.{extendClusters};
 ghost use Rattle.write_shrink.specs.Shrink.{shrinkClusters};
 ghost use Rattle.write_file.specs.NewFile.{newFile};
 ghost use Rattle.write_file.specs.Write.{writeInto};
-ghost use Rattle.write_file.specs.SetLength.{setLength};
+ghost use Rattle.write_length.specs.SetLength.{setLength};
 ghost use Rattle.write_remove.specs.Remove.{remove};
 ghost use Rattle.exfat.specs.Words.{flagOf, geometryOf, allocationOf, countWords, answerWords, slotWords, hintWords};
 
@@ -163,7 +163,7 @@ pub extern "C" fn exfat_set_length(
 {
     let g = words::geometry_of(geometry);
     let t = words::stamp_of(stamp);
-    let r = write_file::set_length::set_length(vol, map, g, slot, len, t, hint);
+    let r = write_length::set_length::set_length(vol, map, g, slot, len, t, hint);
     words::put_hint(out, r)
 }
 

@@ -15,7 +15,7 @@ use Rattle.write_shrink.specs.Shrink.{shrinkClusters}
 use Rattle.write_dir.specs.Outcome.{Outcome as FileOutcome}
 use Rattle.write_file.specs.NewFile.{newFile}
 use Rattle.write_file.specs.Write.{writeInto}
-use Rattle.write_file.specs.SetLength.{setLength}
+use Rattle.write_length.specs.SetLength.{setLength}
 use Rattle.write_remove.specs.Remove.{remove}
 use Rattle.sample.specs.declared.verdict.Verdict.{Verdict}
 use Rattle.entry_set.specs.Stamps.{stampAt, stampsAt}

@@ -68,7 +68,7 @@ fn set_length(row: &[u32; 33], map: &[u8], vol: &mut [u8], after: &[u8], t: Stam
 {
     let g = row::geometry(row);
     let len = row::long(row);
-    let a = write_file::set_length::set_length(vol, map, g, row[21], len, t, row[20]);
+    let a = write_length::set_length::set_length(vol, map, g, row[21], len, t, row[20]);
     held(row, a, vol, after)
 }
 

@@ -31,7 +31,7 @@ use Rattle.write_dir.specs.Entries.{entryCount, typeAt, beforeEnd, isFile, entr
 use Rattle.write_dir.specs.Open.{fileRecord, entryCause, attributeCause, streamCause, setIn, fileCause}
 use Rattle.write_dir.specs.Outcome.{carried}
 use Rattle.write_file.specs.Refresh.{entriesOf, recorded, stored, missing, lengthCause, openCause}
-use Rattle.write_file.specs.SetLength.{smaller, setLengthCause, zeroEnd, longerFile, resized, setLengthIn, setLength}
+use Rattle.write_length.specs.SetLength.{smaller, setLengthCause, zeroEnd, longerFile, resized, setLengthIn, setLength}
 use Rattle.trials.specs.File.{earlier, given, entries}
 use Rattle.trials.specs.Table.{file700, after11, after12, T11, T12}
 use Rattle.trials.specs.Trial.{Trial, resultOf, sameList, sameFileAnswer, sameResult, said, agrees}

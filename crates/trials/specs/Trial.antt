@@ -14,7 +14,7 @@ use Rattle.write_shrink.specs.Shrink.{shrinkClusters}
 use Rattle.entry_set.specs.declared.stamp.Stamp.{Stamp}
 use Rattle.write_dir.specs.declared.answer.FileAnswer.{FileAnswer}
 use Rattle.write_dir.specs.Outcome as file
-use Rattle.write_file.specs.SetLength.{setLength}
+use Rattle.write_length.specs.SetLength.{setLength}
 use Rattle.trials.specs.Volume.{Volume, geometry, system, bytesOf}
 
 -- a call with its own arguments, in the order of 01

@@ -251,7 +251,7 @@ fn new_length(name: &[u8], len: u64) {
         increment: 150,
         offset: 0xA0,
     };
-    let r = write_file::set_length::set_length(&mut vol, b"\x03\x00", volume(), 0, len, given, 4);
+    let r = write_length::set_length::set_length(&mut vol, b"\x03\x00", volume(), 0, len, given, 4);
     out::text(name);
     out::end();
     out::file_answer(r);

@@ -28,7 +28,7 @@ use Rattle.write_dir.specs.Place.{growBy}
 use Rattle.write_file.specs.NewFile.{newGrowth, newCause, placed, newFileIn, newFile}
 use Rattle.write_file.specs.Refresh.{missing, lengthCause, openCause}
 use Rattle.write_file.specs.Write.{larger, endCause, dataCause, writeCause, written, refreshedOnly, writeIn, writeInto}
-use Rattle.write_file.specs.SetLength.{setLengthCause, shorter, longerFile, resized, setLengthIn, setLength}
+use Rattle.write_length.specs.SetLength.{setLengthCause, shorter, longerFile, resized, setLengthIn, setLength}
 use Rattle.write_file.proofs.OpenLaws.{cause-none}
 use Rattle.write_remove.specs.Remove.{unlinked, removeIn, remove}
 use Rattle.write.specs.Calls.{Call, New, Write, SetLength, Remove, step}

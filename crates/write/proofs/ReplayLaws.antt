@@ -21,7 +21,7 @@ use Rattle.write_dir.specs.declared.answer.FileAnswer.{FileAnswer}
 use Rattle.write_dir.specs.Outcome.{Outcome}
 use Rattle.write_file.specs.NewFile.{newFile}
 use Rattle.write_file.specs.Write.{writeInto}
-use Rattle.write_file.specs.SetLength.{setLength}
+use Rattle.write_length.specs.SetLength.{setLength}
 use Rattle.write_remove.specs.Remove.{remove}
 use Rattle.write.specs.Calls.{Call, step, run, answers}
 use Rattle.write.specs.Replay.{kindAt, ownAt, unitsAt, nextAt, callOk, hintAt, slotAt, numberAt, callAt, before, callsOf, callsIn, wellFormed, answerWords, Replay, replayed, replayCalls, replay}

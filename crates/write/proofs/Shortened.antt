@@ -33,7 +33,7 @@ use Rattle.write_dir.proofs.FitLaws.{Fit}
 use Rattle.write_dir.proofs.StoreLaws.{sets-some, replaced-ordered, replaced-sets}
 use Rattle.write_dir.proofs.PlaceLaws.{clusters-length}
 use Rattle.write_file.specs.Refresh.{entriesOf, recorded, stored, openCause}
-use Rattle.write_file.specs.SetLength.{smaller, setLengthCause, shorter, resized}
+use Rattle.write_length.specs.SetLength.{smaller, setLengthCause, shorter, resized}
 use Rattle.write.specs.Calls.{SetLength, step}
 use Rattle.write.specs.Consistent.{Consistent, lay, root, rootBytes, setOf, streamAt, fileClusters}
 use Rattle.write.specs.Contents.{shown, contents}

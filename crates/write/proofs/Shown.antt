@@ -11,7 +11,7 @@ use lib.Seq.{length-take-le, take-all, take-append-le, take-at, getD-take, getD-
 use Rattle.primitives.specs.Splice.{splice}
 use Rattle.primitives.proofs.SpliceLaws.{length-splice, splice-in, splice-off}
 use Rattle.write_file.specs.Write.{larger}
-use Rattle.write_file.specs.SetLength.{smaller}
+use Rattle.write_length.specs.SetLength.{smaller}
 use Rattle.write.specs.Contents.{shown}
 use Rattle.write.specs.Model.{overwrite, resize}
 

@@ -35,10 +35,10 @@ use Rattle.write_dir.specs.Entries.{sets}
 use Rattle.write_dir.specs.Open.{fileRecord, setIn}
 use Rattle.write_file.specs.Refresh.{recorded, stored, missing, lengthCause, openCause}
 use Rattle.write_file.specs.Write.{larger, dataCause, writeCause, withData, written, refreshedOnly}
-use Rattle.write_file.specs.SetLength.{setLengthCause, zeroEnd, longerFile, resized}
+use Rattle.write_length.specs.SetLength.{setLengthCause, zeroEnd, longerFile, resized}
 use Rattle.write_file.proofs.NewFileLaws.{space-enough}
 use Rattle.write_file.proofs.WriteLaws.{larger-above}
-use Rattle.write_file.proofs.SetLengthLaws as new-length
+use Rattle.write_length.proofs.SetLengthLaws as new-length
 use Rattle.write.specs.Calls.{Call, New, Write, SetLength, step}
 use Rattle.write.specs.Consistent.{Consistent, lay, root, rootBytes, setOf, streamAt}
 use Rattle.write.specs.Contents.{shown, contents}

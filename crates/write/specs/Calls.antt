@@ -8,7 +8,7 @@ use Rattle.write_dir.specs.declared.answer.FileAnswer.{FileAnswer}
 use Rattle.write_dir.specs.Outcome.{Outcome}
 use Rattle.write_file.specs.NewFile.{newFile}
 use Rattle.write_file.specs.Write.{writeInto}
-use Rattle.write_file.specs.SetLength.{setLength}
+use Rattle.write_length.specs.SetLength.{setLength}
 use Rattle.write_remove.specs.Remove.{remove}
 
 -- a call; the last argument of each is the hint

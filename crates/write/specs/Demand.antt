@@ -20,7 +20,7 @@ use Rattle.write_extend.specs.Extend.{extendIn}
 use Rattle.write_shrink.specs.Shrink.{keptRecord}
 use Rattle.write_file.specs.Refresh.{recorded, missing}
 use Rattle.write_file.specs.Write.{larger}
-use Rattle.write_file.specs.SetLength.{smaller}
+use Rattle.write_length.specs.SetLength.{smaller}
 use Rattle.write.specs.Calls.{Call, New, Write, SetLength, Remove, step, run, answers}
 use Rattle.write.specs.Consistent.{Consistent, lay, rootClusters, fileAt, setOf, streamAt, fileClusters}
 use Rattle.write.specs.Contents.{contents}

@@ -80,7 +80,7 @@ fn set_length_at(vol: &mut [u8], map: &[u8], g: Geometry, calls: &[u8], p: usize
     let len = u64_at(calls, p + 13);
     let t = stamp_at(calls, p + 21);
     let hint = u32_at(calls, p + 5);
-    write_file::set_length::set_length(vol, map, g, slot, len, t, hint)
+    write_length::set_length::set_length(vol, map, g, slot, len, t, hint)
 }
 
 // Runs the removal at byte p.

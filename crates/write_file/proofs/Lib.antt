@@ -3,4 +3,3 @@ pub mod RefreshLaws
 pub mod CallLaws
 pub mod NewFileLaws
 pub mod WriteLaws
-pub mod SetLengthLaws

@@ -2,4 +2,3 @@ pub mod NewFile
 pub mod Refresh
 pub mod Opens
 pub mod Write
-pub mod SetLength

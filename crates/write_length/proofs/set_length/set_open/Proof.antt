@@ -2,12 +2,12 @@ use mathlib.Core.Path.{_≡_, sym, _∙_, refl, ap}
 use native.Mathlib.Omega.{arith}
 use mathlib.Core.List.{List}
 use Prim.Native.Nat.{ℕ}
-use Rattle.write_file.specs.SetLength.{resized}
+use Rattle.write_length.specs.SetLength.{resized}
 use Rattle.write_file.proofs.OpenLaws.{open-directory, open-sound, opens-set, opens-none, shown-as, refuse-shown}
-use Rattle.write_file.proofs.SetLengthLaws.{set-not, set-done}
+use Rattle.write_length.proofs.SetLengthLaws.{set-not, set-done}
 use borrow.Author.Needs.{needs}
-use Rattle.write_file.proofs.set_length.set_open.Statement.{statement}
-use Rattle.write_file.proofs.set_length.set_open.Tie as tie
+use Rattle.write_length.proofs.set_length.set_open.Statement.{statement}
+use Rattle.write_length.proofs.set_length.set_open.Tie as tie
 
 copy-set-requires : tie.Need-copy-set-requires
 copy-set-requires c κs =

@@ -1,8 +1,8 @@
 use mathlib.Core.Path.{_≡_, sym, _∙_, refl, ap}
 use native.Mathlib.Omega.{arith}
-use Rattle.write_file.proofs.SetLengthLaws.{smaller-left, smaller-right}
-use Rattle.write_file.proofs.set_length.smaller.Statement.{statement}
-use Rattle.write_file.proofs.set_length.smaller.Tie as tie
+use Rattle.write_length.proofs.SetLengthLaws.{smaller-left, smaller-right}
+use Rattle.write_length.proofs.set_length.smaller.Statement.{statement}
+use Rattle.write_length.proofs.set_length.smaller.Tie as tie
 
 returns : tie.Need-returns
 returns c = sym (smaller-left _ _ (omega arith))

@@ -5,11 +5,11 @@ use Prim.Native.Nat.{ℕ, _-_, _≤_}
 use lib.ListN.{replicate}
 use Rattle.stream.specs.Bytes.{storeAt}
 use Rattle.write_dir.specs.Directory.{clustersIn}
-use Rattle.write_file.specs.SetLength.{zeroEnd}
-use Rattle.write_file.proofs.SetLengthLaws.{end-le}
+use Rattle.write_length.specs.SetLength.{zeroEnd}
+use Rattle.write_length.proofs.SetLengthLaws.{end-le}
 use borrow.Author.Needs.{needs}
-use Rattle.write_file.proofs.set_length.grow_zeroed.Statement.{statement}
-use Rattle.write_file.proofs.set_length.grow_zeroed.Tie as tie
+use Rattle.write_length.proofs.set_length.grow_zeroed.Statement.{statement}
+use Rattle.write_length.proofs.set_length.grow_zeroed.Tie as tie
 
 zero-end-requires : tie.Need-zero-end-requires
 zero-end-requires c κs = search needs

@@ -1,9 +1,9 @@
 use mathlib.Core.Path.{_≡_, sym, _∙_, refl, ap}
 use native.Mathlib.Omega.{arith}
-use Rattle.write_file.proofs.SetLengthLaws.{part-heap, kept-is}
+use Rattle.write_length.proofs.SetLengthLaws.{part-heap, kept-is}
 use borrow.Author.Needs.{needs}
-use Rattle.write_file.proofs.set_length.kept_stream.Statement.{statement}
-use Rattle.write_file.proofs.set_length.kept_stream.Tie as tie
+use Rattle.write_length.proofs.set_length.kept_stream.Statement.{statement}
+use Rattle.write_length.proofs.set_length.kept_stream.Tie as tie
 
 kept-part-requires : tie.Need-kept-part-requires
 kept-part-requires c κs =

@@ -1,10 +1,10 @@
 use mathlib.Core.Path.{_≡_, sym, _∙_, refl, ap}
 use native.Mathlib.Nat.{div-add-mod'}
 use native.Mathlib.Omega.{arith}
-use Rattle.write_file.proofs.SetLengthLaws.{end-whole, end-rest}
+use Rattle.write_length.proofs.SetLengthLaws.{end-whole, end-rest}
 use borrow.Author.Needs.{needs}
-use Rattle.write_file.proofs.set_length.zero_end.Statement.{statement}
-use Rattle.write_file.proofs.set_length.zero_end.Tie as tie
+use Rattle.write_length.proofs.set_length.zero_end.Statement.{statement}
+use Rattle.write_length.proofs.set_length.zero_end.Tie as tie
 
 rem-rest : tie.Need-rem-rest
 rem-rest c = search needs

@@ -1,0 +1,2 @@
+// Set length (from write_file.rs).
+pub mod set_length;
