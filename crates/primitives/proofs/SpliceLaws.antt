@@ -7,7 +7,7 @@ use native.Mathlib.Numerals.{add-one}
 use native.Mathlib.Decide.{decLt}
 use native.Mathlib.Omega.{arith}
 use lib.ListN.{length, getD, take, drop, set, replicate, length-append, length-take, length-drop, length-set, length-replicate, List·getD-append, take-append-drop, replicate-append-replicate}
-use lib.Seq.{length-take-le, getD-take, getD-drop, getD-append-add, drop-cons, set-at, append-snoc, take-suc, drop-drop, set-append-left}
+use lib.Seq.{length-take-le, getD-take, getD-drop, getD-append-add, drop-cons, set-at, append-snoc, take-suc, drop-drop, set-append-left, take-at, drop-at}
 use Rattle.primitives.specs.Splice.{splice}
 
 -- a part that fits: nothing past its end, the part, what is before it
@@ -72,6 +72,21 @@ pub splice-turn : (d : List ℕ) (at : ℕ) (s t : List ℕ) (k x : ℕ) → len
     → set (splice d at s) (at + k) x ≡ splice d at t
 splice-turn d at s t k x e h m =
     ap (λ (n : ℕ). set (splice d at s) (at + n) x) (sym e) ∙ splice-more d at s x (omega arith) ∙ ap (splice d at) m
+
+-- two parts put in place one after the other
+pub splice-join : (d : List ℕ) (p : ℕ) (s t : List ℕ) (q : ℕ) → p + length s ≤ length d → q ≡ p + length s
+    → splice (splice d p s) q t ≡ splice d p (s ++ t)
+unfolding splice
+splice-join d p s t q h e =
+    let f = take p d ++ s in
+    let r = drop (p + length s) d in
+    let n : length f ≡ q = head d p s h ∙ sym e in
+    let k : p + length s + length t ≡ p + length (s ++ t) = omega (arith, length-append s t) in
+    let z : drop (q + length t) (f ++ r) ≡ drop (p + length (s ++ t)) d =
+    sym (drop-drop (length t) q (f ++ r)) ∙ ap (drop (length t)) (drop-at f r q n) ∙ drop-drop (length t) (p + length s) d
+    ∙ ap (λ (x : ℕ). drop x d) k in
+    ap₂ (λ (u v : List ℕ). u ++ t ++ v) (take-at f r q n) z
+    ∙ ap (λ (u : List ℕ). u ++ drop (p + length (s ++ t)) d) (append-assoc (take p d) s t)
 
 -- k bytes of a source from `from`
 module _ (src : List ℕ) (from k : ℕ) (h : from + k < length src) where

@@ -7,8 +7,8 @@ use lib.ListN.{length, take, drop, length-drop}
 use lib.Seq.{length-take-le}
 use Rattle.primitives.proofs.SpliceLaws.{splice-front}
 use borrow.Author.Needs.{needs}
-use Rattle.primitives.proofs.slices.copy_in.Statement.{statement}
-use Rattle.primitives.proofs.slices.copy_in.Tie as tie
+use Rattle.primitives.proofs.slices.copy_block.Statement.{statement}
+use Rattle.primitives.proofs.slices.copy_block.Tie as tie
 
 slice-aggregate-copy-bytes : tie.Need-slice-aggregate-copy-bytes
 slice-aggregate-copy-bytes c = search needs
@@ -33,8 +33,8 @@ returns c =
     c .before .before .copy-bytes2 .ensures
     ∙ ap (splice (a .dst .now) (a .at)) (ap (λ (b : List ℕ). take (a .n) (drop 0 b)) (c .before .before .before .before .before .before .copy-bytes .ensures) ∙ splice-front _ s (a .n) e)
 
-pub copy-in-spec : {M : Type 1} → statement M
-copy-in-spec =
+pub copy-block-spec : {M : Type 1} → statement M
+copy-block-spec =
     tie.close
     (tie.spec
     slice-aggregate-copy-bytes
