@@ -353,6 +353,15 @@ put-two y d w k j a b h f =
     let n = w .long in
     splice-join d (clusterAt y k + j) a b (clusterAt y k + (j + length a)) (omega (arith, cluster-end y (w .laid) (w .apart) k h)) (omega arith)
 
+-- a store that the first cluster has room for
+pub store-first : (y : Layout) (d : List ℕ) (k : ℕ) (ks : List ℕ) (at : ℕ) (bs : List ℕ) → at < y .size → at + length bs ≤ y .size
+    → storeAt y d (k ∷ ks) at bs ≡ putBytes y d k at bs
+store-first y d k ks at bs low h =
+    let n = y .size - at in
+    store-here y d k ks at bs low
+    ∙ ap₂ (λ (u v : List ℕ). storeAt y (putBytes y d k at u) ks 0 v) (take-all n bs (omega arith)) (drop-of-length-le bs {i = n} (omega arith))
+    ∙ store-nothing y (putBytes y d k at bs) ks 0
+
 -- the store of two parts, the second right after the first, is the store of the whole
 pub store-two : (y : Layout) (d : List ℕ) → Fits y d → (ks : List ℕ) → every (inHeap (y .count)) ks ≡ true → (at : ℕ) (a b : List ℕ)
     → storeAt y (storeAt y d ks at a) ks (at + length a) b ≡ storeAt y d ks at (a ++ b)
@@ -382,14 +391,10 @@ store-two y d w (k ∷ ks) e at a b =
             ∙ sym (store-here y d k ks at (a ++ b) (omega arith) ∙ ap₂ (λ (u v : List ℕ). storeAt y (putBytes y d k at u) ks 0 v) p q)
         | no g ↦
             let i : y .size - (at + length a) ≡ n - length a = omega arith in
-            let whole : storeAt y d (k ∷ ks) at a ≡ putBytes y d k at a =
-            store-here y d k ks at a (omega arith)
-            ∙ ap₂ (λ (u v : List ℕ). storeAt y (putBytes y d k at u) ks 0 v) (take-all n a (omega arith)) (drop-of-length-le a {i = n} (omega arith))
-            ∙ store-nothing y (putBytes y d k at a) ks 0 in
             let s : n ≡ length a + (n - length a) = omega arith in
             let p : take n (a ++ b) ≡ a ++ take (n - length a) b = ap (λ (x : ℕ). take x (a ++ b)) s ∙ take-append-add a b (n - length a) in
             let q : drop n (a ++ b) ≡ drop (n - length a) b = ap (λ (x : ℕ). drop x (a ++ b)) s ∙ drop-append-add a b (n - length a) in
-            ap (λ (l : List ℕ). storeAt y l (k ∷ ks) (at + length a) b) whole
+            ap (λ (l : List ℕ). storeAt y l (k ∷ ks) (at + length a) b) (store-first y d k ks at a (omega arith) (omega arith))
             ∙ store-here y (putBytes y d k at a) k ks (at + length a) b (omega arith)
             ∙ ap (λ (x : ℕ). storeAt y (putBytes y (putBytes y d k at a) k (at + length a) (take x b)) ks 0 (drop x b)) i
             ∙ ap (λ (l : List ℕ). storeAt y l ks 0 (drop (n - length a) b)) (put-two y d w k at a (take (n - length a) b) h (omega arith))

@@ -3,3 +3,4 @@ pub mod Stream
 pub mod Along
 pub mod Listing
 pub mod Bytes
+pub mod Stretch

@@ -5,11 +5,12 @@ ghost use Prim.Native.Nat.{_+_, _-_, _*_, _≤_, _<_};
 ghost use lib.ListN.{length, take, drop, replicate};
 ghost use Rattle.primitives.specs.Splice.{splice};
 ghost use Rattle.tables.specs.Lists.{every};
-ghost use Rattle.boot.specs.Layout.{Laid, inHeap, Apart};
+ghost use Rattle.boot.specs.Layout.{Laid, clusterAt, inHeap, Apart};
 ghost use Rattle.metadata.specs.Fat.{fatEntry};
 ghost use Rattle.metadata.specs.Cluster.{putBytes};
 ghost use Rattle.stream.specs.Along.{after, along};
 ghost use Rattle.stream.specs.Bytes.{clusterBytes, bytesOf, storeAt, reached, Known};
+ghost use Rattle.stream.specs.Stretch.{goalOf, stretchOf};
 use crate::allocation::Allocation;
 use boot::layout::Layout;
 
@@ -17,6 +18,14 @@ use boot::layout::Layout;
 pub struct Place {
     pub cluster: u32,
     pub steps: u32,
+}
+
+// Clusters of a stream that follow each other in the heap: the cluster after them, how many are left from there on, and the bytes
+// from a place in the first one to the end of the last.
+pub struct Stretch {
+    pub next: u32,
+    pub left: u32,
+    pub room: usize,
 }
 
 // The lesser of two numbers.
@@ -66,6 +75,15 @@ pub fn put_piece(vol: &mut [u8], y: Layout, k: u32, at: usize, src: &[u8], from:
     primitives::slices::copy_in(vol, start + at, src, from, n);
 }
 
+// Stores n bytes of src, from `from` on, in a stretch that begins with cluster k, from its byte `at` on.
+fn put_stretch(vol: &mut [u8], y: Layout, k: u32, at: usize, src: &[u8], from: usize, n: usize)
+    requires { ⌜ Laid y × ((length (now vol) ≡ y .len) × ((2 ≤ k) × ((k < y .count + 2) × ((clusterAt y k + at + n ≤ y .len) × ((n ≤ 32768) × (from + n ≤ length (now src))))))) ⌝ }
+    ensures { λ _. ⌜ now (vol .exit) ≡ splice (now (vol .entry)) (clusterAt y k + at) (take n (drop from (now (src .entry)))) ⌝ }
+{
+    let start = boot::layout::cluster_offset(y, k);
+    primitives::slices::copy_in(vol, start + at, src, from, n);
+}
+
 // Stores n zeros in cluster k, from its byte `at` on.
 pub fn put_zeros(vol: &mut [u8], y: Layout, k: u32, at: usize, n: usize)
     requires { ⌜ Laid y × ((length (now vol) ≡ y .len) × ((2 ≤ k) × ((k < y .count + 2) × (at + n ≤ y .size)))) ⌝ }
@@ -84,7 +102,46 @@ fn get_piece(vol: &[u8], y: Layout, k: u32, at: usize, dst: &mut [u8], to: usize
     primitives::slices::copy_in(dst, to, vol, start + at, n);
 }
 
-// Stores src in count clusters, from byte `at` of the first one on.
+// The stretch from the first of count clusters on, with so much room in that one, as far as n bytes need it and 32,768 bytes allow.
+fn stretch_from(
+    vol: &[u8],
+    y: Layout,
+    run: bool,
+    first: u32,
+    count: u32,
+    room: usize,
+    n: usize,
+) -> Stretch
+    requires { ⌜ Laid y × ((length (now vol) ≡ y .len) × ((every (inHeap (y .count)) (along (fatEntry y (now vol)) run first count) ≡ true) × ((0 < count) × (n ≤ room + (count - 1) * y .size)))) ⌝ }
+    ensures { λ r. ⌜ r ≡ stretchOf (fatEntry y (now (vol .entry))) run (y .size) (goalOf (y .size) n) first room (count - 1) ⌝ }
+{
+    // With less room than this, one more cluster keeps within 32,768 bytes.
+    let goal = lesser(n, 32769 - y.size);
+    let mut k = first;
+    let mut next = crate::list::next_cluster(vol, y, run, k);
+    let mut left = count;
+    let mut end = room;
+    while end < goal {
+        if next != k + 1 {
+            return Stretch {
+                next: next,
+                left: left - 1,
+                room: end,
+            };
+        }
+        k = next;
+        next = crate::list::next_cluster(vol, y, run, k);
+        left -= 1;
+        end += y.size;
+    }
+    Stretch {
+        next: next,
+        left: left - 1,
+        room: end,
+    }
+}
+
+// Stores src in count clusters, from byte `at` of the first one on. Each stretch is stored by one copy.
 fn store_from(vol: &mut [u8], y: Layout, run: bool, first: u32, count: u32, at: usize, src: &[u8])
     requires { ⌜ Laid y × ((length (now vol) ≡ y .len) × ((every (inHeap (y .count)) (along (fatEntry y (now vol)) run first count) ≡ true) × ((at < y .size) × ((at + length (now src) ≤ count * y .size) × Apart y)))) ⌝ }
     ensures { λ _. ⌜ now (vol .exit) ≡ storeAt y (now (vol .entry)) (along (fatEntry y (now (vol .entry))) run first count) at (now (src .entry)) ⌝ }
@@ -95,11 +152,11 @@ fn store_from(vol: &mut [u8], y: Layout, run: bool, first: u32, count: u32, at: 
     let mut from: usize = 0;
     let mut more = src.len();
     while 0 < more {
-        let m = lesser(y.size - place, more);
-        let next = crate::list::next_cluster(vol, y, run, k);
-        put_piece(vol, y, k, place, src, from, m);
-        k = next;
-        left -= 1;
+        let s = stretch_from(vol, y, run, k, left, y.size - place, more);
+        let m = lesser(s.room, more);
+        put_stretch(vol, y, k, place, src, from, m);
+        k = s.next;
+        left = s.left;
         place = 0;
         from += m;
         more -= m;
