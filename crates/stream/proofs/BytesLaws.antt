@@ -12,7 +12,7 @@ use lib.ListN.{length, getD, take, drop, replicate, length-replicate, replicate-
 use lib.Seq.{take-append-seam, drop-append-seam, length-take-le, take-all, take-append-add, take-append-le, drop-append-le, drop-append-add, take-at, drop-at, getD-take, getD-drop, getD-append-add, ext-getD}
 use borrow.Author.Tests.{ltb-true}
 use Rattle.primitives.specs.Splice.{splice}
-use Rattle.primitives.proofs.SpliceLaws.{splice-nil, length-splice}
+use Rattle.primitives.proofs.SpliceLaws.{splice-nil, length-splice, splice-join}
 use Rattle.tables.specs.Table.{only}
 use Rattle.tables.specs.Lists.{Mem, here, there, Distinct, more, every}
 use Rattle.tables.proofs.ListLaws.{every-head, every-tail, every-mem, mem-every}
@@ -27,7 +27,7 @@ use Rattle.metadata.proofs.Frame.{Fits, fits-kept, length-fat, length-mark, len
 use Rattle.metadata.proofs.View.{plain, plain-heap, plain-off, view, view-byte-at}
 use Rattle.stream.specs.Along.{along}
 use Rattle.stream.specs.Bytes.{clusterBytes, bytesOf, storeAt}
-use Rattle.stream.proofs.BytesSteps.{every-take, splice-join, along-same, store-past, store-here, store-nothing, store-over, length-cluster, bytes-over}
+use Rattle.stream.proofs.BytesSteps.{every-take, along-same, store-past, store-here, store-nothing, store-over, length-cluster, bytes-over}
 
 -- ---- parts of lists
 

@@ -12,7 +12,7 @@ use lib.ListN.{length, take, drop, replicate, length-append, length-drop, drop-o
 use lib.Seq.{length-take-le, take-all, take-nil, drop-nil, take-append-le, drop-append-le, take-append-add, drop-append-add, take-at, drop-at, take-take, drop-drop}
 use borrow.Author.Tests.{le-leb, lt-leb}
 use Rattle.primitives.specs.Splice.{splice}
-use Rattle.primitives.proofs.SpliceLaws.{splice-nil}
+use Rattle.primitives.proofs.SpliceLaws.{splice-nil, splice-join}
 use Rattle.tables.specs.Lists.{every, lastOr}
 use Rattle.tables.proofs.Cases.{cond-case}
 use Rattle.tables.proofs.ListLaws.{every-cons, every-head, every-tail}
@@ -70,21 +70,6 @@ drop-zeros (suc m) (suc n) h =
 pub splice-none : (d : List ℕ) (at n : ℕ) (s : List ℕ) → n ≤ 0 → splice d at (take n s) ≡ d
 splice-none d at zero s h = splice-nil d at
 splice-none d at (suc n) s h = absurd (omega arith)
-
--- two parts put in place one after the other
-pub splice-join : (d : List ℕ) (p : ℕ) (s t : List ℕ) (q : ℕ) → p + length s ≤ length d → q ≡ p + length s
-    → splice (splice d p s) q t ≡ splice d p (s ++ t)
-unfolding splice
-splice-join d p s t q h e =
-    let f = take p d ++ s in
-    let r = drop (p + length s) d in
-    let n : length f ≡ q = length-append (take p d) s ∙ (omega (arith, length-take-le p d (omega arith))) in
-    let k : p + length s + length t ≡ p + length (s ++ t) = omega (arith, length-append s t) in
-    let z : drop (q + length t) (f ++ r) ≡ drop (p + length (s ++ t)) d =
-    sym (drop-drop (length t) q (f ++ r)) ∙ ap (drop (length t)) (drop-at f r q n) ∙ drop-drop (length t) (p + length s) d
-    ∙ ap (λ (x : ℕ). drop x d) k in
-    ap₂ (λ (u v : List ℕ). u ++ t ++ v) (take-at f r q n) z
-    ∙ ap (λ (u : List ℕ). u ++ drop (p + length (s ++ t)) d) (append-assoc (take p d) s t)
 
 -- ---- a test that the numbers of a part pass
 

@@ -12,7 +12,7 @@ use lib.ListN.{length, take, drop, length-drop, take-append-drop}
 use lib.Seq.{length-take-le}
 use borrow.Author.Tests.{lt-ltb, le-ltb, eq-eqb, ne-eqb, eqb-true, ltb-true}
 use Rattle.primitives.specs.Splice.{splice}
-use Rattle.primitives.proofs.SpliceLaws.{length-splice}
+use Rattle.primitives.proofs.SpliceLaws.{length-splice, splice-join}
 use Rattle.tables.specs.Lists.{every, consec}
 use Rattle.tables.proofs.Cases.{cond-case}
 use Rattle.tables.proofs.ListLaws.{every-mem, consec-in, length-consec}
@@ -26,73 +26,72 @@ use Rattle.metadata.proofs.Frame.{Fits}
 use Rattle.stream.specs.declared.bytes.Stretch.{Stretch}
 use Rattle.stream.specs.Along.{after, along}
 use Rattle.stream.specs.Bytes.{storeAt, reached}
-use Rattle.stream.specs.Stretch.{goalOf, stretchOf}
-use Rattle.stream.proofs.BytesSteps.{some-left, take-along, drop-along, every-before, every-from, splice-join, store-here, store-empty}
+use Rattle.stream.specs.Stretch.{stretchOf}
+use Rattle.stream.proofs.StreamLaws.{along-head, consec-along}
+use Rattle.stream.proofs.BytesSteps.{some-left, take-along, drop-along, every-before, every-from, store-here, store-empty}
 use Rattle.stream.proofs.BytesLaws.{store-first, along-store, store-two, store-front, store-rest}
 
 -- ---- a stretch cluster by cluster
 
-module _ (fat : ℕ → ℕ) (run : Bool) (size goal k room : ℕ) where
-  pub stretch-full : (n : ℕ) → goal ≤ room → stretchOf fat run size goal k room n ≡ record { next = after fat run k; left = n; room = room }
+module _ (fat : ℕ → ℕ) (run : Bool) (size bytes k room : ℕ) where
+  pub stretch-full : (n : ℕ) → bytes ≤ room → stretchOf fat run size bytes k room n ≡ record { next = after fat run k; left = n; room = room }
   unfolding stretchOf
   stretch-full zero h = refl
-  stretch-full (suc n) h = rw (le-ltb room goal h) refl
+  stretch-full (suc n) h = rw (le-ltb room bytes h) refl
 
-  pub stretch-ends : (n : ℕ) → (after fat run k ≡ k + 1 → ⊥) → room < goal
-      → stretchOf fat run size goal k room n ≡ record { next = after fat run k; left = n; room = room }
+  pub stretch-ends : (n : ℕ) → (after fat run k ≡ k + 1 → ⊥) → room < bytes
+      → stretchOf fat run size bytes k room n ≡ record { next = after fat run k; left = n; room = room }
   unfolding stretchOf
   stretch-ends zero h i = refl
-  stretch-ends (suc n) h i = rw (lt-ltb room goal i, ne-eqb (after fat run k) (k + 1) h) refl
+  stretch-ends (suc n) h i = rw (lt-ltb room bytes i, ne-eqb (after fat run k) (k + 1) h) refl
 
-  pub stretch-more : (n : ℕ) → after fat run k ≡ k + 1 → room < goal → 0 < n
-      → stretchOf fat run size goal k room n ≡ stretchOf fat run size goal (k + 1) (room + size) (n - 1)
+  pub stretch-more : (n : ℕ) → after fat run k ≡ k + 1 → room < bytes → 0 < n
+      → stretchOf fat run size bytes k room n ≡ stretchOf fat run size bytes (k + 1) (room + size) (n - 1)
   unfolding stretchOf
   stretch-more zero h i p = absurd (omega arith)
-  stretch-more (suc n) h i p = rw (lt-ltb room goal i, eq-eqb (after fat run k) (k + 1) h, sub-one) refl
+  stretch-more (suc n) h i p = rw (lt-ltb room bytes i, eq-eqb (after fat run k) (k + 1) h, sub-one) refl
 
--- a goal that is not reached leaves clusters, and is in reach from the next
-pub goal-left : (goal room n size : ℕ) → room < goal → goal ≤ room + n * size → (0 < n) × (goal ≤ room + size + (n - 1) * size)
-goal-left goal room zero size h i = absurd (omega arith)
-goal-left goal room (suc n) size h i = (omega arith, rw sub-one (omega (arith, suc-mul n size)))
+-- a bytes that is not reached leaves clusters, and is in reach from the next
+pub bytes-reach : (bytes room n size : ℕ) → room < bytes → bytes ≤ room + n * size → (0 < n) × (bytes ≤ room + size + (n - 1) * size)
+bytes-reach bytes room zero size h i = absurd (omega arith)
+bytes-reach bytes room (suc n) size h i = (omega arith, rw sub-one (omega (arith, suc-mul n size)))
 
 -- what holds of one that takes `more` of n clusters after its first
-record Stretched (fat : ℕ → ℕ) (run : Bool) (size goal k room n : ℕ) (s : Stretch) : Type 0 where
+record Stretched (fat : ℕ → ℕ) (run : Bool) (size bytes k room n : ℕ) (s : Stretch) : Type 0 where
   pub more : ℕ
   pub few : more ≤ n
   pub left : s .left ≡ n - more
   pub ends : s .room ≡ room + more * size
-  pub short : s .room < goal + size
   pub row : along fat run k (suc more) ≡ consec k (suc more)
   pub next : reached fat run k (suc more) ≡ s .next
 
-module _ (fat : ℕ → ℕ) (run : Bool) (size goal : ℕ) where
-  alone : (k room n : ℕ) → room < goal + size → Stretched fat run size goal k room n (record { next = after fat run k; left = n; room = room })
+module _ (fat : ℕ → ℕ) (run : Bool) (size bytes : ℕ) where
+  alone : (k room n : ℕ) → Stretched fat run size bytes k room n (record { next = after fat run k; left = n; room = room })
   unfolding along consec reached
-  alone k room n h = record { more = 0; few = omega arith; left = omega arith; ends = omega arith; short = h; row = refl; next = refl }
+  alone k room n = record { more = 0; few = omega arith; left = omega arith; ends = omega arith; row = refl; next = refl }
 
-  longer : (k room n : ℕ) (s : Stretch) → after fat run k ≡ k + 1 → Stretched fat run size goal (k + 1) (room + size) n s
-      → Stretched fat run size goal k room (suc n) s
+  longer : (k room n : ℕ) (s : Stretch) → after fat run k ≡ k + 1 → Stretched fat run size bytes (k + 1) (room + size) n s
+      → Stretched fat run size bytes k room (suc n) s
   unfolding along consec reached
   longer k room n s e t = record {
     more = suc (t .more);
     few = omega (arith, t .few);
     left = t .left ∙ (omega arith);
     ends = t .ends ∙ (omega (arith, suc-mul (t .more) size));
-    short = t .short;
     row = ap (λ (x : ℕ). k ∷ along fat run x (suc (t .more))) e ∙ ap (λ (l : List ℕ). k ∷ l) (t .row);
     next = ap (λ (x : ℕ). reached fat run x (suc (t .more))) e ∙ t .next;
   }
 
-  of-stretch : (n k room : ℕ) → room < goal + size → Stretched fat run size goal k room n (stretchOf fat run size goal k room n)
+  of-stretch : (n k room : ℕ) → Stretched fat run size bytes k room n (stretchOf fat run size bytes k room n)
   unfolding stretchOf
-  of-stretch zero k room h = alone k room zero h
-  of-stretch (suc n) k room h =
-      cond-case (Stretched fat run size goal k room (suc n)) (ltb room goal && eqb (after fat run k) (k + 1))
-      (stretchOf fat run size goal (k + 1) (room + size) n) (record { next = after fat run k; left = suc n; room = room })
-      (λ e. longer k room n (stretchOf fat run size goal (k + 1) (room + size) n)
-      (eqb-true (after fat run k) (k + 1) (and-right (ltb room goal) (eqb (after fat run k) (k + 1)) e))
-      (of-stretch n (k + 1) (room + size) (omega (arith, ltb-true room goal (and-left (ltb room goal) (eqb (after fat run k) (k + 1)) e)))))
-      (λ e. alone k room (suc n) h)
+  of-stretch zero k room = alone k room zero
+  of-stretch (suc n) k room =
+      cond-case (Stretched fat run size bytes k room (suc n)) (ltb room bytes && eqb (after fat run k) (k + 1))
+      (stretchOf fat run size bytes (k + 1) (room + size) n) (record { next = after fat run k; left = suc n; room = room })
+      (λ e. longer k room n (stretchOf fat run size bytes (k + 1) (room + size) n)
+      (eqb-true (after fat run k) (k + 1) (and-right (ltb room bytes) (eqb (after fat run k) (k + 1)) e))
+      (of-stretch n (k + 1) (room + size)))
+      (λ e. alone k room (suc n))
 
 -- ---- one piece of the volume
 
@@ -104,7 +103,7 @@ row-at y c k h =
 
 -- bytes stored in clusters that follow each other
 store-row : (y : Layout) (c : ℕ) (d : List ℕ) (k at : ℕ) (bs : List ℕ) → 2 ≤ k → clusterAt y k + suc c * y .size ≤ length d → at < y .size
-    → at + length bs ≤ suc c * y .size → storeAt y d (consec k (suc c)) at bs ≡ splice d (clusterAt y k + at) bs
+    → at + length bs ≤ suc c * y .size → storeAt y d (consec k (suc c)) at bs ≡ putBytes y d k at bs
 unfolding consec putBytes
 store-row y zero d k at bs two room low fits = store-first y d k [] at bs low (omega (arith, suc-mul 0 (y .size)))
 store-row y (suc c) d k at bs two room low fits =
@@ -122,6 +121,37 @@ store-row y (suc c) d k at bs two room low fits =
           ∙ splice-join d p (take m bs) (drop m bs) (clusterAt y (k + 1) + 0) (omega arith) (omega arith) ∙ ap (splice d p) (take-append-drop m bs)
     ]
 
+-- ---- a run is one stretch
+
+module _ (y : Layout) (d : List ℕ) (w : Fits y d) (run : Bool) (r : run ≡ true) (k n : ℕ)
+    (h : every (inHeap (y .count)) (along (fatEntry y d) run k n) ≡ true) (at bytes : ℕ) (low : at < y .size) (pos : 0 < bytes)
+    (room : at + bytes ≤ n * y .size) where
+  some : 0 < n
+  some = some-left n (y .size) at bytes room pos
+
+  pub run-first : (2 ≤ k) × (k < y .count + 2)
+  run-first = in-heap (y .count) k (along-head (inHeap (y .count)) (fatEntry y d) run k n some h)
+
+  run-row : along (fatEntry y d) run k n ≡ consec k n
+  run-row = rw r (sym (consec-along (fatEntry y d) k n))
+
+  run-long : clusterAt y k + n * y .size ≤ y .len
+  run-long =
+      let last = k + (n - 1) in
+      let i = every-mem (inHeap (y .count)) (consec k n) (ap (every (inHeap (y .count))) (sym run-row) ∙ h) last (consec-in k n last (omega arith) (omega (arith, some))) in
+      let z : suc (n - 1) ≡ n = omega (arith, some) in
+      omega (arith, row-at y (n - 1) k (run-first .0), cluster-end y (w .laid) (w .apart) last i, suc-mul (n - 1) (y .size), ap (λ (x : ℕ). x * y .size) z)
+
+  pub run-inside : clusterAt y k + at + bytes ≤ y .len
+  run-inside = omega (arith, run-long)
+
+  pub store-run : (bs : List ℕ) → length bs ≡ bytes → storeAt y d (along (fatEntry y d) run k n) at bs ≡ putBytes y d k at bs
+  store-run bs e =
+      let z : n ≡ suc (n - 1) = omega (arith, some) in
+      ap (λ (l : List ℕ). storeAt y d l at bs) (run-row ∙ ap (consec k) z)
+      ∙ store-row y (n - 1) d k at bs (run-first .0) (omega (arith, run-long, w .long, ap (λ (x : ℕ). x * y .size) z)) low
+      (omega (arith, ap (λ (x : ℕ). x * y .size) z))
+
 -- ---- a turn of a loop that stores
 
 -- where a stretch lies that begins with k, of n clusters, and what it has room for
@@ -129,16 +159,15 @@ pub record Turn (y : Layout) (k n at : ℕ) (s : Stretch) : Type 0 where
   pub first-low : 2 ≤ k
   pub first-high : k < y .count + 2
   pub some : 0 < s .room
-  pub most : s .room ≤ 32768
   pub inside : clusterAt y k + at + s .room ≤ y .len
   -- the bytes that are left are in the clusters that are left
   pub rest : (m r : ℕ) → at + m ≤ n * y .size → r ≡ s .room - (s .room - m) → 0 + (m - r) ≤ s .left * y .size
 
 module _ (y : Layout) (d : List ℕ) (w : Fits y d) (run : Bool) (k n : ℕ) (h : every (inHeap (y .count)) (along (fatEntry y d) run k n) ≡ true)
     (at bytes : ℕ) (low : at < y .size) (pos : 0 < bytes) (room : at + bytes ≤ n * y .size) (s : Stretch)
-    (is : s ≡ stretchOf (fatEntry y d) run (y .size) (goalOf (y .size) bytes) k (y .size - at) (n - 1)) where
-  t : Stretched (fatEntry y d) run (y .size) (goalOf (y .size) bytes) k (y .size - at) (n - 1) s
-  t = rw is (of-stretch (fatEntry y d) run (y .size) (goalOf (y .size) bytes) (n - 1) k (y .size - at) (omega (arith, w .laid .size-high)))
+    (is : s ≡ stretchOf (fatEntry y d) run (y .size) bytes k (y .size - at) (n - 1)) where
+  t : Stretched (fatEntry y d) run (y .size) bytes k (y .size - at) (n - 1) s
+  t = rw is (of-stretch (fatEntry y d) run (y .size) bytes (n - 1) k (y .size - at))
 
   few : suc (t .more) ≤ n
   few = omega (arith, t .few, some-left n (y .size) at bytes room pos)
@@ -164,13 +193,12 @@ module _ (y : Layout) (d : List ℕ) (w : Fits y d) (run : Bool) (k n : ℕ) (h 
         first-low = i .0;
         first-high = i .1;
         some = omega arith;
-        most = omega (arith, t .short, w .laid .size-high);
         inside = omega (arith, cluster-end y (w .laid) (w .apart) (k + c) (row-in (k + c) (omega arith) (omega arith)));
         rest = λ m x a b. omega (arith, suc-mul c (y .size));
       }
 
   -- the rest of the bytes are stored from the next cluster on
-  pub store-stretch : (bs d′ : List ℕ) (m : ℕ) → m ≡ s .room - (s .room - length bs) → d′ ≡ splice d (clusterAt y k + at) (take m bs)
+  pub store-stretch : (bs d′ : List ℕ) (m : ℕ) → m ≡ s .room - (s .room - length bs) → d′ ≡ putBytes y d k at (take m bs)
       → (every (inHeap (y .count)) (along (fatEntry y d′) run (s .next) (s .left)) ≡ true)
       × (storeAt y d′ (along (fatEntry y d′) run (s .next) (s .left)) 0 (drop m bs) ≡ storeAt y d (along (fatEntry y d) run k n) at bs)
   store-stretch bs d′ m e p =

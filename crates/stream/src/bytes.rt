@@ -1,6 +1,6 @@
 // The bytes of a stream: a part of them read, stored, or filled with zeros. Each cluster is gone through once.
 ghost use mathlib.Core.Path.{_≡_};
-ghost use mathlib.Core.Bool.{true};
+ghost use mathlib.Core.Bool.{true, false};
 ghost use Prim.Native.Nat.{_+_, _-_, _*_, _≤_, _<_};
 ghost use lib.ListN.{length, take, drop, replicate};
 ghost use Rattle.primitives.specs.Splice.{splice};
@@ -10,7 +10,7 @@ ghost use Rattle.metadata.specs.Fat.{fatEntry};
 ghost use Rattle.metadata.specs.Cluster.{putBytes};
 ghost use Rattle.stream.specs.Along.{after, along};
 ghost use Rattle.stream.specs.Bytes.{clusterBytes, bytesOf, storeAt, reached, Known};
-ghost use Rattle.stream.specs.Stretch.{goalOf, stretchOf};
+ghost use Rattle.stream.specs.Stretch.{stretchOf};
 use crate::allocation::Allocation;
 use boot::layout::Layout;
 
@@ -66,19 +66,10 @@ fn seek_from(vol: &[u8], y: Layout, a: Allocation, known: Place, steps: u32) -> 
     seek(vol, y, a.no_fat_chain, a.first, steps)
 }
 
-// Stores n bytes of src, from `from` on, in cluster k, from its byte `at` on.
+// Stores n bytes of src, from `from` on, in cluster k, from its byte `at` on, and past its end in those that follow it in the heap.
 pub fn put_piece(vol: &mut [u8], y: Layout, k: u32, at: usize, src: &[u8], from: usize, n: usize)
-    requires { ⌜ Laid y × ((length (now vol) ≡ y .len) × ((2 ≤ k) × ((k < y .count + 2) × ((at + n ≤ y .size) × (from + n ≤ length (now src)))))) ⌝ }
+    requires { ⌜ Laid y × ((length (now vol) ≡ y .len) × ((2 ≤ k) × ((k < y .count + 2) × ((clusterAt y k + at + n ≤ y .len) × (from + n ≤ length (now src)))))) ⌝ }
     ensures { λ _. ⌜ now (vol .exit) ≡ putBytes y (now (vol .entry)) k at (take n (drop from (now (src .entry)))) ⌝ }
-{
-    let start = boot::layout::cluster_offset(y, k);
-    primitives::slices::copy_in(vol, start + at, src, from, n);
-}
-
-// Stores n bytes of src, from `from` on, in a stretch that begins with cluster k, from its byte `at` on.
-fn put_stretch(vol: &mut [u8], y: Layout, k: u32, at: usize, src: &[u8], from: usize, n: usize)
-    requires { ⌜ Laid y × ((length (now vol) ≡ y .len) × ((2 ≤ k) × ((k < y .count + 2) × ((clusterAt y k + at + n ≤ y .len) × ((n ≤ 32768) × (from + n ≤ length (now src))))))) ⌝ }
-    ensures { λ _. ⌜ now (vol .exit) ≡ splice (now (vol .entry)) (clusterAt y k + at) (take n (drop from (now (src .entry)))) ⌝ }
 {
     let start = boot::layout::cluster_offset(y, k);
     primitives::slices::copy_in(vol, start + at, src, from, n);
@@ -102,26 +93,16 @@ fn get_piece(vol: &[u8], y: Layout, k: u32, at: usize, dst: &mut [u8], to: usize
     primitives::slices::copy_in(dst, to, vol, start + at, n);
 }
 
-// The stretch from the first of count clusters on, with so much room in that one, as far as n bytes need it and 32,768 bytes allow.
-fn stretch_from(
-    vol: &[u8],
-    y: Layout,
-    run: bool,
-    first: u32,
-    count: u32,
-    room: usize,
-    n: usize,
-) -> Stretch
-    requires { ⌜ Laid y × ((length (now vol) ≡ y .len) × ((every (inHeap (y .count)) (along (fatEntry y (now vol)) run first count) ≡ true) × ((0 < count) × (n ≤ room + (count - 1) * y .size)))) ⌝ }
-    ensures { λ r. ⌜ r ≡ stretchOf (fatEntry y (now (vol .entry))) run (y .size) (goalOf (y .size) n) first room (count - 1) ⌝ }
+// The stretch from the first of a chain's count clusters on, with so much room in that one, as far as n bytes need it.
+fn stretch_from(vol: &[u8], y: Layout, first: u32, count: u32, room: usize, n: usize) -> Stretch
+    requires { ⌜ Laid y × ((length (now vol) ≡ y .len) × ((every (inHeap (y .count)) (along (fatEntry y (now vol)) false first count) ≡ true) × ((0 < count) × ((room ≤ y .size) × (n ≤ room + (count - 1) * y .size))))) ⌝ }
+    ensures { λ r. ⌜ r ≡ stretchOf (fatEntry y (now (vol .entry))) false (y .size) n first room (count - 1) ⌝ }
 {
-    // With less room than this, one more cluster keeps within 32,768 bytes.
-    let goal = lesser(n, 32769 - y.size);
     let mut k = first;
-    let mut next = crate::list::next_cluster(vol, y, run, k);
+    let mut next = crate::list::next_cluster(vol, y, false, k);
     let mut left = count;
     let mut end = room;
-    while end < goal {
+    while end < n {
         if next != k + 1 {
             return Stretch {
                 next: next,
@@ -130,7 +111,7 @@ fn stretch_from(
             };
         }
         k = next;
-        next = crate::list::next_cluster(vol, y, run, k);
+        next = crate::list::next_cluster(vol, y, false, k);
         left -= 1;
         end += y.size;
     }
@@ -141,10 +122,10 @@ fn stretch_from(
     }
 }
 
-// Stores src in count clusters, from byte `at` of the first one on. Each stretch is stored by one copy.
-fn store_from(vol: &mut [u8], y: Layout, run: bool, first: u32, count: u32, at: usize, src: &[u8])
-    requires { ⌜ Laid y × ((length (now vol) ≡ y .len) × ((every (inHeap (y .count)) (along (fatEntry y (now vol)) run first count) ≡ true) × ((at < y .size) × ((at + length (now src) ≤ count * y .size) × Apart y)))) ⌝ }
-    ensures { λ _. ⌜ now (vol .exit) ≡ storeAt y (now (vol .entry)) (along (fatEntry y (now (vol .entry))) run first count) at (now (src .entry)) ⌝ }
+// Stores src in count clusters of a chain, from byte `at` of the first one on. Each stretch is stored by one copy.
+fn store_chain(vol: &mut [u8], y: Layout, first: u32, count: u32, at: usize, src: &[u8])
+    requires { ⌜ Laid y × ((length (now vol) ≡ y .len) × ((every (inHeap (y .count)) (along (fatEntry y (now vol)) false first count) ≡ true) × ((at < y .size) × ((at + length (now src) ≤ count * y .size) × Apart y)))) ⌝ }
+    ensures { λ _. ⌜ now (vol .exit) ≡ storeAt y (now (vol .entry)) (along (fatEntry y (now (vol .entry))) false first count) at (now (src .entry)) ⌝ }
 {
     let mut k = first;
     let mut left = count;
@@ -152,14 +133,29 @@ fn store_from(vol: &mut [u8], y: Layout, run: bool, first: u32, count: u32, at: 
     let mut from: usize = 0;
     let mut more = src.len();
     while 0 < more {
-        let s = stretch_from(vol, y, run, k, left, y.size - place, more);
+        let s = stretch_from(vol, y, k, left, y.size - place, more);
         let m = lesser(s.room, more);
-        put_stretch(vol, y, k, place, src, from, m);
+        put_piece(vol, y, k, place, src, from, m);
         k = s.next;
         left = s.left;
         place = 0;
         from += m;
         more -= m;
+    }
+}
+
+// Stores src in count clusters, from byte `at` of the first one on. A run is one stretch.
+fn store_from(vol: &mut [u8], y: Layout, run: bool, first: u32, count: u32, at: usize, src: &[u8])
+    requires { ⌜ Laid y × ((length (now vol) ≡ y .len) × ((every (inHeap (y .count)) (along (fatEntry y (now vol)) run first count) ≡ true) × ((at < y .size) × ((at + length (now src) ≤ count * y .size) × Apart y)))) ⌝ }
+    ensures { λ _. ⌜ now (vol .exit) ≡ storeAt y (now (vol .entry)) (along (fatEntry y (now (vol .entry))) run first count) at (now (src .entry)) ⌝ }
+{
+    if src.len() == 0 {
+        return;
+    }
+    if run {
+        put_piece(vol, y, first, at, src, 0, src.len());
+    } else {
+        store_chain(vol, y, first, count, at, src);
     }
 }
 

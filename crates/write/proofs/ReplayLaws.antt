@@ -10,10 +10,9 @@ use borrow.Author.Tests.{lt-ltb, le-ltb}
 use lib.ListN.{length, take, drop, set}
 use Rattle.primitives.specs.Splice.{splice}
 use Rattle.primitives.specs.Words.{getLe}
-use Rattle.primitives.proofs.SpliceLaws.{splice-nil, splice-turn}
+use Rattle.primitives.proofs.SpliceLaws.{splice-nil, splice-turn, splice-join}
 use Rattle.tables.proofs.Cases.{clash}
 use Rattle.boot.specs.declared.geometry.Geometry.{Geometry}
-use Rattle.stream.proofs.BytesSteps.{splice-join}
 use Rattle.entry_set.specs.declared.stamp.Stamp.{Stamp}
 use Rattle.entry_set.specs.declared.stamp.Stamps.{Stamps}
 use Rattle.entry_set.specs.Stamps.{stampAt, stampsAt}

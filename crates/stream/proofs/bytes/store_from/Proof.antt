@@ -1,127 +1,71 @@
-use Prim.Native.Nat.{_+_, _-_, _*_, _≤_, _<_}
 use mathlib.Core.Path.{_≡_, refl, sym, _∙_, ap}
-use mathlib.Core.Bool.{true}
+use mathlib.Core.Bool.{Bool}
 use native.Mathlib.Omega.{arith}
 use borrow.Author.Needs.{needs}
-use lib.ListN.{length, drop, length-drop}
-use lib.Seq.{drop-drop}
+use lib.ListN.{length}
+use lib.Seq.{take-length}
 use Rattle.tables.specs.Lists.{every}
 use Rattle.boot.specs.Layout.{inHeap}
 use Rattle.metadata.specs.Fat.{fatEntry}
+use Rattle.metadata.specs.Cluster.{putBytes}
 use Rattle.metadata.proofs.Frame.{Fits}
 use Rattle.stream.specs.Along.{along}
 use Rattle.stream.specs.Bytes.{storeAt}
-use Rattle.stream.proofs.BytesSteps.{some-left, left-after, store-empty}
-use Rattle.stream.proofs.StretchLaws.{turn, store-stretch}
+use Rattle.stream.proofs.BytesSteps.{store-empty}
+use Rattle.stream.proofs.StretchLaws.{run-first, run-inside, store-run}
 use Rattle.stream.proofs.bytes.store_from.Statement.{statement}
 use Rattle.stream.proofs.bytes.store_from.Tie as tie
 
-abbrev Inv-loop : tie.InvT-loop
-Inv-loop vol₀ y run first count at src k₀ left₀ place₀ from₀ more₀ vol k left place from more = (length vol ≡ length vol₀) × ((place < y .size) × ((place + more ≤ left * y .size) × ((from + more ≡ length src) × ((every (inHeap (y .count)) (along (fatEntry y vol) run k left) ≡ true) × (storeAt y vol (along (fatEntry y vol) run k left) place (drop from src) ≡ storeAt y vol₀ (along (fatEntry y vol₀) run first count) at src)))))
+returns : tie.Need-returns
+returns c = sym (store-empty _ _ _ _ _ (omega arith))
 
-abbrev μ-loop : tie.MeasureT-loop
-μ-loop vol₀ y run first count at src k₀ left₀ place₀ from₀ more₀ vol k left place from more = more
+put-piece-requires : tie.Need-put-piece-requires
+put-piece-requires c κs =
+    let p = c .before .before .before .before .before .pre in
+    let a = c .before .before .before .before .before .args in
+    let w : Fits (a .y) (a .vol .now) = record { laid = p .0; apart = p .1 .1 .1 .1 .1; long = p .1 .0 } in
+    let r = c .before .if2 .taken in
+    let n = length (a .src .now) in
+    let f = run-first (a .y) (a .vol .now) w (a .run) r (a .first) (a .count) (p .1 .1 .0) (a .at) n (p .1 .1 .1 .0) (omega arith) (p .1 .1 .1 .1 .0) in
+    (p .0, (p .1 .0, (f .0, (f .1, (run-inside (a .y) (a .vol .now) w (a .run) r (a .first) (a .count) (p .1 .1 .0) (a .at) n (p .1 .1 .1 .0) (omega arith) (p .1 .1 .1 .1 .0), omega arith)))))
 
-loop-holds : tie.Need-loop-holds Inv-loop μ-loop
-loop-holds c = let p = c .before .before .pre in (refl, (p .1 .1 .1 .0, (p .1 .1 .1 .1 .0, (omega arith, (p .1 .1 .0, refl)))))
+store-chain-requires : tie.Need-store-chain-requires
+store-chain-requires c κs =
+    let p = c .before .before .before .before .before .pre in
+    let a = c .before .before .before .before .before .args in
+    let r = c .before .if2 .left in
+    (p .0, (p .1 .0, (ap (λ (b : Bool). every (inHeap (a .y .count)) (along (fatEntry (a .y) (a .vol .now)) b (a .first) (a .count))) (sym r) ∙ p .1 .1 .0, p .1 .1 .1)))
 
-sub-stretch-from : tie.Need-sub-stretch-from Inv-loop μ-loop
-sub-stretch-from c = search needs
-
-stretch-from-requires : tie.Need-stretch-from-requires Inv-loop μ-loop
-stretch-from-requires c κs =
-    let p = c .before .before .before .before .before .before .pre in
-    let a = c .before .before .before .before .before .before .args in
-    let l = c .before .before .before .loop in
-    let n = some-left (l .left) (a .y .size) (l .place) (l .more) (l .inv .1 .1 .0) (omega arith) in
-    let m = left-after (l .left) (a .y .size) (l .place) (l .more) _ (l .inv .1 .0) (l .inv .1 .1 .0) refl in
-    (p .0, (l .inv .0 ∙ p .1 .0, (l .inv .1 .1 .1 .1 .0, (n, omega arith))))
-
-lesser-requires : tie.Need-lesser-requires Inv-loop μ-loop
-lesser-requires c κs = search needs
-
-put-stretch-requires : tie.Need-put-stretch-requires Inv-loop μ-loop
-put-stretch-requires c κs =
-    let p = c .before .before .before .before .before .before .before .before .before .pre in
-    let a = c .before .before .before .before .before .before .before .before .before .args in
-    let l = c .before .before .before .before .before .before .loop in
-    let s = c .before .before .stretch-from in
-    let r = c .before .lesser in
-    let w : Fits (a .y) (l .vol) = record { laid = p .0; apart = p .1 .1 .1 .1 .1; long = l .inv .0 ∙ p .1 .0 } in
-    let t = turn (a .y) (l .vol) w (a .run) (l .k) (l .left) (l .inv .1 .1 .1 .1 .0) (l .place) (l .more) (l .inv .1 .0) (omega arith) (l .inv .1 .1 .0) (s .result) (s .ensures) in
-    let e = r .ensures in
-    (p .0, (l .inv .0 ∙ p .1 .0, (t .first-low, (t .first-high, (omega arith, (omega arith, omega arith))))))
-
-add-from : tie.Need-add-from Inv-loop μ-loop
-add-from c =
-    let g = c .before .before .before .before .before .before .before .before .before .before .before .before .good .1 .1 .1 .1 .1 .1 in
-    let l = c .before .before .before .before .before .before .before .before .before .loop in
-    let r = c .before .before .before .before .lesser in
-    search needs
-
-sub-more : tie.Need-sub-more Inv-loop μ-loop
-sub-more c = search needs
-
-loop-less : tie.Need-loop-less Inv-loop μ-loop
-loop-less c =
-    let p = c .before .before .before .before .before .before .before .before .before .before .before .before .pre in
-    let a = c .before .before .before .before .before .before .before .before .before .before .before .before .args in
-    let l = c .before .before .before .before .before .before .before .before .before .loop in
-    let s = c .before .before .before .before .before .stretch-from in
-    let r = c .before .before .before .before .lesser in
-    let w : Fits (a .y) (l .vol) = record { laid = p .0; apart = p .1 .1 .1 .1 .1; long = l .inv .0 ∙ p .1 .0 } in
-    let t = turn (a .y) (l .vol) w (a .run) (l .k) (l .left) (l .inv .1 .1 .1 .1 .0) (l .place) (l .more) (l .inv .1 .0) (omega arith) (l .inv .1 .1 .0) (s .result) (s .ensures) in
-    omega (arith, r .ensures)
-
-loop-again : tie.Need-loop-again Inv-loop μ-loop
-loop-again c =
-    let p = c .before .before .before .before .before .before .before .before .before .before .before .before .pre in
-    let a = c .before .before .before .before .before .before .before .before .before .before .before .before .args in
-    let l = c .before .before .before .before .before .before .before .before .before .loop in
-    let s = c .before .before .before .before .before .stretch-from in
-    let r = c .before .before .before .before .lesser in
-    let w : Fits (a .y) (l .vol) = record { laid = p .0; apart = p .1 .1 .1 .1 .1; long = l .inv .0 ∙ p .1 .0 } in
-    let t = turn (a .y) (l .vol) w (a .run) (l .k) (l .left) (l .inv .1 .1 .1 .1 .0) (l .place) (l .more) (l .inv .1 .0) (omega arith) (l .inv .1 .1 .0) (s .result) (s .ensures) in
-    let o = c .before .before .put-stretch in
-    let v =
-    store-stretch (a .y) (l .vol) w (a .run) (l .k) (l .left) (l .inv .1 .1 .1 .1 .0) (l .place) (l .more) (l .inv .1 .0) (omega arith) (l .inv .1 .1 .0) (s .result) (s .ensures)
-    (drop (l .from) (a .src .now)) (o .last .0) (r .result) (omega (arith, r .ensures, length-drop (l .from) (a .src .now))) (o .ensures) in (
-      o .kept .0 ∙ l .inv .0,
-      (
-        omega arith,
-        (
-          t .rest (l .more) (r .result) (l .inv .1 .1 .0) (r .ensures),
-          (
-            omega arith,
-            (v .0, ap (storeAt (a .y) (o .last .0) _ 0) (sym (drop-drop (r .result) (l .from) (a .src .now))) ∙ v .1 ∙ l .inv .1 .1 .1 .1 .1),
-          ),
-        ),
-      ),
-    )
-
-same-length : tie.Need-same-length Inv-loop μ-loop
+same-length : tie.Need-same-length
 same-length c = search needs
 
-returns : tie.Need-returns Inv-loop μ-loop
-returns c =
-    let a = c .before .before .before .before .args in
-    let l = c .before .loop in
-    sym (store-empty _ _ _ _ _ (omega (arith, length-drop (l .from) (a .src .now)))) ∙ l .inv .1 .1 .1 .1 .1
+returns-2 : tie.Need-returns-2
+returns-2 c =
+    let p = c .before .before .before .before .before .before .before .before .pre in
+    let a = c .before .before .before .before .before .before .before .before .args in
+    let w : Fits (a .y) (a .vol .now) = record { laid = p .0; apart = p .1 .1 .1 .1 .1; long = p .1 .0 } in
+    let r = c .before .before .before .before .if2 .taken in
+    c .before .before .put-piece .ensures
+    ∙ ap (putBytes (a .y) (a .vol .now) (a .first) (a .at)) (take-length (a .src .now))
+    ∙ sym (store-run (a .y) (a .vol .now) w (a .run) r (a .first) (a .count) (p .1 .1 .0) (a .at) _ (p .1 .1 .1 .0) (omega arith) (p .1 .1 .1 .1 .0) (a .src .now) refl)
+
+same-length-2 : tie.Need-same-length-2
+same-length-2 c = search needs
+
+returns-3 : tie.Need-returns-3
+returns-3 c =
+    let a = c .before .before .before .before .before .before .before .before .args in
+    let r = c .before .before .before .before .if2 .left in
+    c .before .before .store-chain .ensures ∙ ap (λ (b : Bool). storeAt (a .y) (a .vol .now) (along (fatEntry (a .y) (a .vol .now)) b (a .first) (a .count)) (a .at) (a .src .now)) (sym r)
 
 pub store-from-spec : {M : Type 1} → statement M
 store-from-spec =
     tie.close
     (tie.spec
-    Inv-loop
-    μ-loop
-    loop-holds
-    sub-stretch-from
-    stretch-from-requires
-    lesser-requires
-    put-stretch-requires
-    add-from
-    sub-more
-    loop-less
-    loop-again
+    returns
+    put-piece-requires
+    store-chain-requires
     same-length
-    returns)
+    returns-2
+    same-length-2
+    returns-3)

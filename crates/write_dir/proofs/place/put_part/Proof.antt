@@ -1,7 +1,9 @@
 use mathlib.Core.Path.{sym}
 use native.Mathlib.Omega.{arith}
 use lib.ListN.{drop}
+use Rattle.boot.specs.Layout.{clusterAt}
 use Rattle.boot.proofs.Apart.{in-heap}
+use Rattle.boot.proofs.Clusters.{cluster-in}
 use Rattle.write_dir.proofs.PlaceLaws.{put-none}
 use borrow.Author.Needs.{needs}
 use Rattle.write_dir.proofs.place.put_part.Statement.{statement}
@@ -16,10 +18,11 @@ sub-room : tie.Need-sub-room
 sub-room c = search needs
 
 put-piece-requires : tie.Need-put-piece-requires
+unfolding clusterAt
 put-piece-requires c κs =
     let p = c .before .before .before .before .before .before .pre in
     let h = in-heap _ _ (p .1 .1 .1 .1 (omega arith)) in
-    (p .0, (p .1 .0, (h .0, (h .1, (omega arith, omega arith)))))
+    (p .0, (p .1 .0, (h .0, (h .1, (omega (arith, cluster-in _ _ (p .0) (h .0) (h .1)), omega arith)))))
 
 same-length : tie.Need-same-length
 same-length c = search needs
@@ -28,10 +31,11 @@ returns-2 : tie.Need-returns-2
 returns-2 c = search needs
 
 put-piece-requires-2 : tie.Need-put-piece-requires-2
+unfolding clusterAt
 put-piece-requires-2 c κs =
     let p = c .before .before .before .before .before .before .pre in
     let h = in-heap _ _ (p .1 .1 .1 .1 (omega arith)) in
-    (p .0, (p .1 .0, (h .0, (h .1, (omega arith, omega arith)))))
+    (p .0, (p .1 .0, (h .0, (h .1, (omega (arith, cluster-in _ _ (p .0) (h .0) (h .1)), omega arith)))))
 
 same-length-2 : tie.Need-same-length-2
 same-length-2 c = search needs
