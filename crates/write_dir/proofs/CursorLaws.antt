@@ -1,20 +1,19 @@
 -- The entries of a directory one after the other: where each lies, and its type byte. Assumes nothing.
-use mathlib.Core.Path.{_≡_, refl, sym, _∙_, ap}
-use mathlib.Core.Logic.{_≢_}
-use mathlib.Core.Bool.{Bool, true, false, not}
+use mathlib.Core.Path.{_≡_, refl, sym, _∙_, ap, ap₂}
+use mathlib.Core.Bool.{Bool, true}
 use mathlib.Core.List.{List}
 use Prim.Native.Nat.{ℕ, zero, suc, _+_, _-_, _*_, _/_, _%_, _≤_, _<_}
 use native.Mathlib.Decide.{decLe}
-use native.Mathlib.Nat.{sub-zero, suc-mul, mul-assoc, mul-comm, mul-le-mul-right, div-add-mod', mod-lt, add-mul-div-right, div-eq-of-lt}
+use native.Mathlib.Nat.{suc-mul, mul-assoc, mul-comm, mul-le-mul-right, div-add-mod', mod-lt, add-mul-div-right, div-eq-of-lt}
 use native.Mathlib.Numerals.{add-one}
 use native.Mathlib.Omega.{arith}
 use lib.Dec.{eqb}
-use lib.ListN.{length, getD}
-use borrow.Author.Tests.{lt-ltb, le-ltb, eq-eqb, ne-eqb}
+use lib.ListN.{length, getD, take, drop}
+use borrow.Author.Tests.{lt-ltb, le-ltb}
 use Rattle.primitives.specs.Bits.{bitOf}
 use Rattle.tables.specs.Lists.{every}
 use Rattle.boot.specs.declared.layout.Layout.{Layout}
-use Rattle.boot.specs.Layout.{inHeap}
+use Rattle.boot.specs.Layout.{clusterAt, inHeap}
 use Rattle.boot.proofs.Apart.{in-heap}
 use Rattle.metadata.specs.Fat.{fatEntry}
 use Rattle.metadata.specs.Marks.{marked}
@@ -22,7 +21,7 @@ use Rattle.metadata.specs.Cluster.{clusterByte}
 use Rattle.metadata.proofs.Frame.{Fits}
 use Rattle.stream.specs.declared.allocation.Allocation.{Allocation}
 use Rattle.stream.specs.Along.{after, along}
-use Rattle.stream.specs.Bytes.{bytesOf, reached}
+use Rattle.stream.specs.Bytes.{clusterBytes, bytesOf, reached}
 use Rattle.stream.specs.Stream.{numberOf, streamOf}
 use Rattle.stream.specs.Listing.{clustersOf}
 use Rattle.stream.proofs.StreamLaws.{length-along, along-head}
@@ -30,12 +29,10 @@ use Rattle.stream.proofs.BytesSteps.{every-from}
 use Rattle.stream.proofs.BytesLaws.{length-of, byte-of}
 use Rattle.stream.proofs.ListingLaws.{stream-read, along-heap}
 use Rattle.stream.proofs.Distinct.{few, read-length, read-distinct}
-use Rattle.write_alloc.specs.Choice.{allFrom}
-use Rattle.write_alloc.proofs.Runs.{all-none, all-next, all-not}
 use Rattle.write_alloc.proofs.GrowLaws.{small}
 use Rattle.write_dir.specs.declared.entries.Cursor.{Cursor}
 use Rattle.write_dir.specs.Directory.{bytesIn}
-use Rattle.write_dir.specs.Entries.{entryCount, typeAt, inUse, beforeEnd}
+use Rattle.write_dir.specs.Entries.{entryCount, typeAt, inUse}
 use Rattle.write_dir.specs.Cursor.{nextEntry, entryAt}
 use Rattle.write_dir.proofs.PlaceLaws.{clusters-along}
 
@@ -56,6 +53,11 @@ module _ (fat : ℕ → ℕ) (run : Bool) where
   pub reached-heap : (C k n m : ℕ) → every (inHeap C) (along fat run k n) ≡ true → m < n → inHeap C (reached fat run k m) ≡ true
   reached-heap C k n m e h =
       along-head (inHeap C) fat run (reached fat run k m) (n - m) (omega arith) (every-from fat run (inHeap C) m k n (omega arith) e)
+
+-- a cluster's part of the volume
+pub cluster-part : (y : Layout) (d : List ℕ) (k a : ℕ) → a ≡ clusterAt y k → take (a + y .size - a) (drop a d) ≡ clusterBytes y d k
+unfolding clusterBytes
+cluster-part y d k a e = let z : a + y .size - a ≡ y .size = omega arith in ap₂ (λ (n p : ℕ). take n (drop p d)) z e
 
 -- ---- from entry to entry
 
@@ -263,21 +265,3 @@ module _ (y : Layout) (d : List ℕ) (w : Fits y d) (dir : Allocation) (reads : 
     counted-end h =
         ap (λ (x : ℕ). record { cluster = x; at = 32 * more }) (c .there)
         ∙ sym (ap (entryAt y (fatEntry y d) (dir .«no_fat_chain») (dir .first)) (sym (c .whole)) ∙ entry-place y (fatEntry y d) (dir .«no_fat_chain») p (w .laid .whole) (dir .first) j more h)
-
--- ---- before the first type 0
-
-module _ (bs : List ℕ) where
-  abbrev on : ℕ → Bool
-  on j = not (eqb (typeAt bs j) 0)
-
-  pub before-none : beforeEnd bs 0 ≡ true
-  unfolding beforeEnd
-  before-none = all-none on 0 0 refl
-
-  pub before-next : (i : ℕ) → beforeEnd bs i ≡ true → typeAt bs i ≢ 0 → beforeEnd bs (i + 1) ≡ true
-  unfolding beforeEnd
-  before-next i e h = all-next on 0 i (i + 1) (omega arith) (omega arith) (ap (allFrom on 0) (sub-zero i) ∙ e) (ap not (ne-eqb (typeAt bs i) 0 h))
-
-  pub before-not : (i n : ℕ) → i < n → typeAt bs i ≡ 0 → beforeEnd bs n ≡ false
-  unfolding beforeEnd
-  before-not i n h e = all-not on 0 n i (omega arith) (omega arith) (ap not (eq-eqb (typeAt bs i) 0 e))

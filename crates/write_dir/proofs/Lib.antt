@@ -7,6 +7,7 @@ pub mod InsertLaws
 pub mod DirectoryLaws
 pub mod PlaceLaws
 pub mod CursorLaws
+pub mod EndLaws
 pub mod RoomLaws
 pub mod AddedLaws
 pub mod GrownLaws

@@ -8,6 +8,7 @@ ghost use Rattle.primitives.specs.Bits.{bitOf};
 ghost use Rattle.boot.specs.Layout.{Laid, Apart};
 ghost use Rattle.metadata.specs.Fat.{fatEntry};
 ghost use Rattle.metadata.specs.Cluster.{clusterByte};
+ghost use Rattle.stream.specs.Bytes.{clusterBytes};
 ghost use Rattle.stream.specs.Stream.{numberOf, streamOf};
 ghost use Rattle.write_dir.specs.Directory.{bytesIn};
 ghost use Rattle.write_alloc.specs.Choice.{usableTail};
@@ -78,24 +79,52 @@ pub fn entry_count(vol: &[u8], y: Layout, dir: Allocation) -> u32
     dir.count * ((y.size / 32) as u32)
 }
 
+// Whether none of the first n entries of a part has type 0.
+fn none_ends(part: &[u8], n: u32) -> bool
+    requires { ⌜ (32 * n ≤ length (now part)) × (n ≤ 1024) ⌝ }
+    ensures { λ r. ⌜ r ≡ beforeEnd (now (part .entry)) n ⌝ }
+{
+    let end = 32 * (n as usize);
+    let mut at: usize = 0;
+    while at < end {
+        if part[at] == 0 {
+            return false;
+        }
+        at += 32;
+    }
+    true
+}
+
+// The same of a cluster. Its part of the volume is handed on.
+fn none_ends_in(vol: &[u8], y: Layout, k: u32, n: u32) -> bool
+    requires { ⌜ Laid y × ((length (now vol) ≡ y .len) × ((2 ≤ k) × ((k < y .count + 2) × (32 * n ≤ y .size)))) ⌝ }
+    ensures { λ r. ⌜ r ≡ beforeEnd (clusterBytes y (now (vol .entry)) k) n ⌝ }
+{
+    let a = boot::layout::cluster_offset(y, k);
+    let e = a + y.size;
+    none_ends(&vol[a..e], n)
+}
+
 // Whether none of the entries before a slot has type 0.
 pub fn before_end(vol: &[u8], y: Layout, dir: Allocation, slot: u32) -> bool
     requires { ⌜ Laid y × ((length (now vol) ≡ y .len) × (Apart y × ((numberOf (streamOf y (now vol) dir) ≡ 0) × (slot ≤ entryCount (bytesIn y (now vol) dir))))) ⌝ }
     ensures { λ r. ⌜ r ≡ beforeEnd (bytesIn y (now (vol .entry)) dir) slot ⌝ }
 {
-    let mut e = Cursor {
-        cluster: dir.first,
-        at: 0,
-    };
-    let mut i: u32 = 0;
-    while i < slot {
-        if type_at(vol, y, e) == 0 {
+    let per = (y.size / 32) as u32;
+    let mut k = dir.first;
+    let mut left = slot;
+    while per <= left {
+        if none_ends_in(vol, y, k, per) {
+            k = stream::list::next_cluster(vol, y, dir.no_fat_chain, k);
+            left -= per;
+        } else {
             return false;
         }
-        e = advance(vol, y, dir.no_fat_chain, e);
-        i += 1;
     }
-    true
+    if left == 0 {
+        return true;
+    }
+    none_ends_in(vol, y, k, left)
 }
 
 // The entry m entries after entry k, which e is.

@@ -1,70 +1,90 @@
-use mathlib.Core.Bool.{true}
-use mathlib.Core.Path.{_≡_, sym, _∙_, ap}
-use Prim.Native.Nat.{_-_, _≤_}
+use mathlib.Core.Path.{sym, _∙_}
 use native.Mathlib.Omega.{arith}
-use borrow.Author.Needs.{needs}
-use Rattle.metadata.specs.Fat.{fatEntry}
 use Rattle.metadata.proofs.Frame.{Fits}
-use Rattle.write_dir.specs.Directory.{bytesIn}
-use Rattle.write_dir.specs.Entries.{beforeEnd}
-use Rattle.write_dir.specs.Cursor.{entryAt}
-use Rattle.write_dir.proofs.CursorLaws.{entry-first, entry-next, cursor-in, cursor-type, before-none, before-next, before-not}
+use Rattle.boot.proofs.Apart.{in-heap}
+use Rattle.write_dir.proofs.EndLaws.{Ahead, ahead-first, ahead-none, ahead-heap, ahead-last, ahead-next, ahead-not}
 use Rattle.write_dir.proofs.entries.before_end.Statement.{statement}
 use Rattle.write_dir.proofs.entries.before_end.Tie as tie
 
 abbrev Inv-loop : tie.InvT-loop
-Inv-loop vol y dir slot e₀ i₀ e i = (i ≤ slot) × ((e ≡ entryAt y (fatEntry y vol) (dir .«no_fat_chain») (dir .first) i) × (beforeEnd (bytesIn y vol dir) i ≡ true))
+Inv-loop vol y dir slot per k₀ left₀ k left = Ahead y vol dir slot k left
 
 abbrev μ-loop : tie.MeasureT-loop
-μ-loop vol y dir slot e₀ i₀ e i = slot - i
+μ-loop vol y dir slot per k₀ left₀ k left = left
+
+cast-per : tie.Need-cast-per Inv-loop μ-loop
+cast-per c = omega (arith, c .before .before .pre .0 .size-high)
 
 loop-holds : tie.Need-loop-holds Inv-loop μ-loop
-loop-holds c = (omega arith, (entry-first _ _ _ _, before-none _))
+loop-holds c =
+    let p = c .before .before .pre in
+    let a = c .before .before .args in
+    let w : Fits (a .y) (a .vol .now) = record { laid = p .0; apart = p .1 .1 .0; long = p .1 .0 } in
+    ahead-first (a .y) (a .vol .now) w (a .dir) (a .slot) (p .1 .1 .1 .0) (p .1 .1 .1 .1)
 
-type-at-requires : tie.Need-type-at-requires Inv-loop μ-loop
-type-at-requires c κs =
-    let p = c .before .before .before .pre in
-    let a = c .before .before .before .args in
+none-ends-in-requires : tie.Need-none-ends-in-requires Inv-loop μ-loop
+none-ends-in-requires c κs =
+    let p = c .before .before .before .before .pre in
+    let a = c .before .before .before .before .args in
+    let w : Fits (a .y) (a .vol .now) = record { laid = p .0; apart = p .1 .1 .0; long = p .1 .0 } in
     let l = c .before .loop in
-    let w : Fits (a .y) (a .vol .now) = record { laid = p .0; apart = p .1 .1 .0; long = p .1 .0 } in
-    (p .0, (p .1 .0, cursor-in (a .y) (a .vol .now) w (a .dir) (p .1 .1 .1 .0) (l .i) (omega arith) (l .e) (l .inv .1 .0)))
+    let h = in-heap _ _ (ahead-heap (a .y) (a .vol .now) w (a .dir) (a .slot) (l .k) (l .left) (l .inv) (omega (arith, p .0 .size-low))) in
+    (p .0, (p .1 .0, (h .0, (h .1, omega (arith, p .0 .whole)))))
 
-returns : tie.Need-returns Inv-loop μ-loop
-returns c =
-    let p = c .before .before .before .before .before .pre in
-    let a = c .before .before .before .before .before .args in
+next-cluster-requires : tie.Need-next-cluster-requires Inv-loop μ-loop
+next-cluster-requires c κs =
+    let p = c .before .before .before .before .before .before .pre in
+    let a = c .before .before .before .before .before .before .args in
+    let w : Fits (a .y) (a .vol .now) = record { laid = p .0; apart = p .1 .1 .0; long = p .1 .0 } in
     let l = c .before .before .before .loop in
-    let w : Fits (a .y) (a .vol .now) = record { laid = p .0; apart = p .1 .1 .0; long = p .1 .0 } in
-    sym (before-not _ (l .i) _ (omega arith) (sym (cursor-type (a .y) (a .vol .now) w (a .dir) (p .1 .1 .1 .0) (l .i) (omega arith) (l .e) (l .inv .1 .0)) ∙ (cc)))
-
-advance-requires : tie.Need-advance-requires Inv-loop μ-loop
-advance-requires c κs =
-    let p = c .before .before .before .before .before .pre in
-    let a = c .before .before .before .before .before .args in
-    let l = c .before .before .before .loop in
-    let w : Fits (a .y) (a .vol .now) = record { laid = p .0; apart = p .1 .1 .0; long = p .1 .0 } in
-    (p .0, (p .1 .0, cursor-in (a .y) (a .vol .now) w (a .dir) (p .1 .1 .1 .0) (l .i) (omega arith) (l .e) (l .inv .1 .0) .1))
-
-add-i : tie.Need-add-i Inv-loop μ-loop
-add-i c = search needs
+    let h = in-heap _ _ (ahead-heap (a .y) (a .vol .now) w (a .dir) (a .slot) (l .k) (l .left) (l .inv) (omega (arith, p .0 .size-low))) in
+    (p .0, (p .1 .0, h .1))
 
 loop-less : tie.Need-loop-less Inv-loop μ-loop
-loop-less c = search needs
+loop-less c =
+    let z = c .before .before .before .before .before .before .before .pre .0 .size-low in
+    omega arith
 
 loop-again : tie.Need-loop-again Inv-loop μ-loop
 loop-again c =
+    let p = c .before .before .before .before .before .before .before .pre in
+    let a = c .before .before .before .before .before .before .before .args in
+    let w : Fits (a .y) (a .vol .now) = record { laid = p .0; apart = p .1 .1 .0; long = p .1 .0 } in
+    let l = c .before .before .before .before .loop in
+    ahead-next (a .y) (a .vol .now) w (a .dir) (a .slot) (l .k) (l .left) (l .inv) (omega (arith, p .0 .size-low)) (omega arith) _ (c .next-cluster .ensures) (cc)
+
+returns : tie.Need-returns Inv-loop μ-loop
+returns c =
     let p = c .before .before .before .before .before .before .pre in
     let a = c .before .before .before .before .before .before .args in
-    let l = c .before .before .before .before .loop in
     let w : Fits (a .y) (a .vol .now) = record { laid = p .0; apart = p .1 .1 .0; long = p .1 .0 } in
-    let t = cursor-type (a .y) (a .vol .now) w (a .dir) (p .1 .1 .1 .0) (l .i) (omega arith) (l .e) (l .inv .1 .0) in
-    (omega arith, ((cc) ∙ entry-next _ _ _ _ (l .i), before-next _ (l .i) (l .inv .1 .1) (λ z. omega (arith, t, z))))
+    let l = c .before .before .before .loop in
+    sym (ahead-not (a .y) (a .vol .now) w (a .dir) (a .slot) (l .k) (l .left) (l .inv) (omega (arith, p .0 .size-low)) (omega arith) (cc))
 
 returns-2 : tie.Need-returns-2 Inv-loop μ-loop
 returns-2 c =
-    let l = c .before .loop in
-    let e : l .i ≡ c .before .before .before .args .slot = omega arith in
-    sym (ap (beforeEnd _) (sym e) ∙ l .inv .1 .1)
+    let p = c .before .before .before .before .before .pre in
+    let a = c .before .before .before .before .before .args in
+    let w : Fits (a .y) (a .vol .now) = record { laid = p .0; apart = p .1 .1 .0; long = p .1 .0 } in
+    let l = c .before .before .loop in
+    sym (ahead-none (a .y) (a .vol .now) w (a .dir) (a .slot) (l .k) (l .left) (l .inv) (omega arith))
+
+none-ends-in-requires-2 : tie.Need-none-ends-in-requires-2 Inv-loop μ-loop
+none-ends-in-requires-2 c κs =
+    let p = c .before .before .before .before .before .pre in
+    let a = c .before .before .before .before .before .args in
+    let w : Fits (a .y) (a .vol .now) = record { laid = p .0; apart = p .1 .1 .0; long = p .1 .0 } in
+    let l = c .before .before .loop in
+    let h = in-heap _ _ (ahead-heap (a .y) (a .vol .now) w (a .dir) (a .slot) (l .k) (l .left) (l .inv) (omega arith)) in
+    (p .0, (p .1 .0, (h .0, (h .1, omega (arith, p .0 .whole)))))
+
+returns-3 : tie.Need-returns-3 Inv-loop μ-loop
+returns-3 c =
+    let p = c .before .before .before .before .before .before .pre in
+    let a = c .before .before .before .before .before .before .args in
+    let w : Fits (a .y) (a .vol .now) = record { laid = p .0; apart = p .1 .1 .0; long = p .1 .0 } in
+    let l = c .before .before .before .loop in
+    c .none-ends-in2 .ensures ∙ ahead-last (a .y) (a .vol .now) w (a .dir) (a .slot) (l .k) (l .left) (l .inv) (omega arith) (omega arith)
 
 pub before-end-spec : {M : Type 1} → statement M
 before-end-spec =
@@ -72,11 +92,13 @@ before-end-spec =
     (tie.spec
     Inv-loop
     μ-loop
+    cast-per
     loop-holds
-    type-at-requires
-    returns
-    advance-requires
-    add-i
+    none-ends-in-requires
+    next-cluster-requires
     loop-less
     loop-again
-    returns-2)
+    returns
+    returns-2
+    none-ends-in-requires-2
+    returns-3)
