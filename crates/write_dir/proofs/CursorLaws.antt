@@ -163,13 +163,13 @@ module _ (y : Layout) (d : List ℕ) (w : Fits y d) (dir : Allocation) (reads : 
 
   -- entry i lies in the cluster at place i / per
   module _ (i : ℕ) (h : i < entryCount (bytesIn y d dir)) where
-    split : i / per * per + i % per ≡ i
+    pub split : i / per * per + i % per ≡ i
     split = div-add-mod' i per
 
-    rest : i % per < per
+    pub rest : i % per < per
     rest = mod-lt i (omega (arith, per-low))
 
-    inside : i / per < dir .count
+    pub inside : i / per < dir .count
     inside =
         elim (decLe (dir .count) (i / per)) [
           | yes b ↦ absurd (omega (arith, split, entries-is, mul-le-mul-right {m = dir .count} {n = i / per} per b))
@@ -179,7 +179,7 @@ module _ (y : Layout) (d : List ℕ) (w : Fits y d) (dir : Allocation) (reads : 
     abbrev there : Cursor
     there = record { cluster = reached fat run (dir .first) (i / per); at = 32 * (i % per) }
 
-    there-is : entryAt y fat run (dir .first) i ≡ there
+    pub there-is : entryAt y fat run (dir .first) i ≡ there
     there-is = ap (entryAt y fat run (dir .first)) (sym split) ∙ entry-place y fat run per (w .laid .whole) (dir .first) (i / per) (i % per) rest
 
     here-in : (2 ≤ there .cluster) × ((there .cluster < y .count + 2) × (there .at + 32 ≤ y .size))
@@ -235,11 +235,11 @@ module _ (y : Layout) (d : List ℕ) (w : Fits y d) (dir : Allocation) (reads : 
         whole = ap (λ (x : ℕ). x * p + more) q ∙ e;
       }
 
-  pub counted-start : (k m : ℕ) → k + m < entryCount (bytesIn y d dir) → (e : Cursor) → e ≡ entryAt y (fatEntry y d) (dir .«no_fat_chain») (dir .first) k
+  pub counted-start : (k m : ℕ) → k < entryCount (bytesIn y d dir) → (e : Cursor) → e ≡ entryAt y (fatEntry y d) (dir .«no_fat_chain») (dir .first) k
       → Counted y d dir (k + m) (e .cluster) (e .at / 32 + m)
   counted-start k m h e q =
-      let t = there-is y d w dir reads k (omega arith) in
-      let s = split y d w dir reads k (omega arith) in
+      let t = there-is y d w dir reads k h in
+      let s = split y d w dir reads k h in
       let a : e .at ≡ 32 * (k % p) = ap (λ (x : Cursor). x .at) (q ∙ t) in
       counted-by (k + m) (k / p) (e .cluster) (e .at / 32 + m) (omega arith) (ap (λ (x : Cursor). x .cluster) (q ∙ t))
 

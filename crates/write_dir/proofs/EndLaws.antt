@@ -41,11 +41,11 @@ module _ (bs : List ℕ) where
   unfolding beforeEnd allFrom
   before-suc i = let z : 0 + i ≡ i = omega arith in rw z refl
 
-  pub before-next : (i : ℕ) → beforeEnd bs i ≡ true → typeAt bs i ≢ 0 → beforeEnd bs (i + 1) ≡ true
+  before-next : (i : ℕ) → beforeEnd bs i ≡ true → typeAt bs i ≢ 0 → beforeEnd bs (i + 1) ≡ true
   unfolding beforeEnd
   before-next i e h = all-next on 0 i (i + 1) (omega arith) (omega arith) (ap (allFrom on 0) (sub-zero i) ∙ e) (ap not (ne-eqb (typeAt bs i) 0 h))
 
-  pub before-not : (i n : ℕ) → i < n → typeAt bs i ≡ 0 → beforeEnd bs n ≡ false
+  before-not : (i n : ℕ) → i < n → typeAt bs i ≡ 0 → beforeEnd bs n ≡ false
   unfolding beforeEnd
   before-not i n h e = all-not on 0 n i (omega arith) (omega arith) (ap not (eq-eqb (typeAt bs i) 0 e))
 
@@ -73,13 +73,13 @@ module _ (xs ys : List ℕ) where
       let z : 32 * (p + i) ≡ length xs + 32 * i = omega arith in
       ap (λ (x : ℕ). getD (xs ++ ys) x 0) z ∙ getD-append-add xs ys (32 * i) 0
 
-  pub before-front : (n : ℕ) → 32 * n ≤ length xs → beforeEnd (xs ++ ys) n ≡ beforeEnd xs n
+  before-front : (n : ℕ) → 32 * n ≤ length xs → beforeEnd (xs ++ ys) n ≡ beforeEnd xs n
   before-front zero h = before-none (xs ++ ys) ∙ sym (before-none xs)
   before-front (suc n) h =
       before-suc (xs ++ ys) n
       ∙ ap₂ (λ (a : Bool) (t : ℕ). a && not (eqb t 0)) (before-front n (omega arith)) (type-front n (omega arith)) ∙ sym (before-suc xs n)
 
-  pub before-join : (p n : ℕ) → length xs ≡ 32 * p → beforeEnd (xs ++ ys) (p + n) ≡ (beforeEnd xs p && beforeEnd ys n)
+  before-join : (p n : ℕ) → length xs ≡ 32 * p → beforeEnd (xs ++ ys) (p + n) ≡ (beforeEnd xs p && beforeEnd ys n)
   before-join p zero h =
       let z : p + zero ≡ p = omega arith in
       ap (beforeEnd (xs ++ ys)) z ∙ before-front p (omega arith) ∙ sym (ap (λ (b : Bool). beforeEnd xs p && b) (before-none ys) ∙ and-true (beforeEnd xs p))

@@ -9,6 +9,7 @@ pub mod PlaceLaws
 pub mod CursorLaws
 pub mod EndLaws
 pub mod RoomLaws
+pub mod WindowLaws
 pub mod AddedLaws
 pub mod GrownLaws
 pub mod OpenLaws

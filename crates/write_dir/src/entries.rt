@@ -13,7 +13,7 @@ ghost use Rattle.stream.specs.Stream.{numberOf, streamOf};
 ghost use Rattle.write_dir.specs.Directory.{bytesIn};
 ghost use Rattle.write_alloc.specs.Choice.{usableTail};
 ghost use Rattle.write_dir.specs.Entries.{entryCount, inUse, beforeEnd};
-ghost use Rattle.write_dir.specs.Cursor.{nextEntry, entryAt};
+ghost use Rattle.write_dir.specs.Cursor.{nextEntry, entryAt, pastUsed};
 ghost use Rattle.write_dir.specs.Place.{roomFor};
 use boot::layout::Layout;
 use stream::allocation::Allocation;
@@ -191,8 +191,68 @@ fn past_used(vol: &[u8], y: Layout, dir: Allocation, e: Cursor, base: u32, n: u3
     last_used(vol, y, dir, e, base, n - 1)
 }
 
+// Windows of n entries of a part, from entry `first` on, passed one after the other while the last entry of each is in use: the entry
+// where that stops.
+fn used_windows(part: &[u8], first: u32, n: u32) -> u32
+    requires { ⌜ (length (now part) ≤ 32768) × ((first ≤ 1024) × ((1 ≤ n) × (n ≤ 19))) ⌝ }
+    ensures { λ r. ⌜ r ≡ pastUsed (now (part .entry)) n first ⌝ }
+{
+    let end = part.len();
+    let last = 32 * ((n - 1) as usize);
+    let mut at = 32 * (first as usize);
+    while at + last < end {
+        if primitives::bits::bit_test(part[at + last], 7) {
+            at += last + 32;
+        } else {
+            return (at / 32) as u32;
+        }
+    }
+    (at / 32) as u32
+}
+
+// The same of a cluster. Its part of the volume is handed on.
+fn used_windows_in(vol: &[u8], y: Layout, k: u32, first: u32, n: u32) -> u32
+    requires { ⌜ Laid y × ((length (now vol) ≡ y .len) × ((2 ≤ k) × ((k < y .count + 2) × ((32 * first ≤ y .size) × ((1 ≤ n) × (n ≤ 19)))))) ⌝ }
+    ensures { λ r. ⌜ r ≡ pastUsed (clusterBytes y (now (vol .entry)) k) n first ⌝ }
+{
+    let a = boot::layout::cluster_offset(y, k);
+    let e = a + y.size;
+    used_windows(&vol[a..e], first, n)
+}
+
+// The same from entry base on, which e is, in e's cluster.
+fn pass_used(vol: &[u8], y: Layout, dir: Allocation, e: Cursor, base: u32, n: u32) -> Tail
+    requires { ⌜ Laid y × ((length (now vol) ≡ y .len) × (Apart y × ((numberOf (streamOf y (now vol) dir) ≡ 0) × ((e ≡ entryAt y (fatEntry y (now vol)) (dir .«no_fat_chain») (dir .first) base) × ((1 ≤ n) × ((n ≤ 19) × (base < entryCount (bytesIn y (now vol) dir)))))))) ⌝ }
+    ensures { λ r. ⌜ (r .slot ≡ base + (pastUsed (clusterBytes y (now (vol .entry)) (e .cluster)) n (e .at / 32) - e .at / 32)) × (r .entry ≡ entryAt y (fatEntry y (now (vol .entry))) (dir .«no_fat_chain») (dir .first) (r .slot)) ⌝ }
+{
+    let from = (e.at / 32) as u32;
+    let to = used_windows_in(vol, y, e.cluster, from, n);
+    let slot = base + (to - from);
+    let at = 32 * (to as usize);
+    if at < y.size {
+        let here = Cursor {
+            cluster: e.cluster,
+            at: at,
+        };
+        return Tail {
+            slot: slot,
+            entry: here,
+        };
+    }
+    let cluster = stream::list::next_cluster(vol, y, dir.no_fat_chain, e.cluster);
+    let next = Cursor {
+        cluster: cluster,
+        at: 0,
+    };
+    Tail {
+        slot: slot,
+        entry: next,
+    }
+}
+
 // Where a set of so many entries goes (Rust: `free_run`): the lowest sequence of entries not in use, the directory grown where it ends
-// too soon. A window of so many entries is looked at from its last one; none that starts before base is free.
+// too soon. A window of so many entries is looked at from its last one, those inside a cluster in the cluster's part; none that starts
+// before base is free.
 pub fn free_run(vol: &[u8], y: Layout, dir: Allocation, need: u32) -> Room
     requires { ⌜ Laid y × ((length (now vol) ≡ y .len) × (Apart y × ((numberOf (streamOf y (now vol) dir) ≡ 0) × ((1 ≤ need) × (need ≤ 19))))) ⌝ }
     ensures { λ r. ⌜ r ≡ roomFor (y .size) (bytesIn y (now (vol .entry)) dir) need ⌝ }
@@ -204,15 +264,21 @@ pub fn free_run(vol: &[u8], y: Layout, dir: Allocation, need: u32) -> Room
     };
     let mut base: u32 = 0;
     while need <= total - base {
-        let t = past_used(vol, y, dir, e, base, need);
-        if t.slot == base {
-            return Room {
-                slot: base,
-                clusters: 0,
-            };
+        let p = pass_used(vol, y, dir, e, base, need);
+        if total - p.slot < need {
+            base = p.slot;
+            e = p.entry;
+        } else {
+            let t = past_used(vol, y, dir, p.entry, p.slot, need);
+            if t.slot == p.slot {
+                return Room {
+                    slot: p.slot,
+                    clusters: 0,
+                };
+            }
+            base = t.slot;
+            e = t.entry;
         }
-        base = t.slot;
-        e = t.entry;
     }
     let t = last_used(vol, y, dir, e, base, total - base);
     let missing = (t.slot + need - total) as usize;

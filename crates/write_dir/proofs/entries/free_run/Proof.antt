@@ -14,6 +14,7 @@ use Rattle.write_dir.specs.Entries.{entryCount, inUse}
 use Rattle.write_dir.specs.Cursor.{entryAt}
 use Rattle.write_dir.proofs.CursorLaws.{entry-first, length-entries, entries-is}
 use Rattle.write_dir.proofs.RoomLaws.{Passed, window-in, window-rest, window-whole, window-passed, room-here, room-past}
+use Rattle.write_dir.proofs.WindowLaws.{slot-in, slot-passed}
 use Rattle.write_dir.proofs.entries.free_run.Statement.{statement}
 use Rattle.write_dir.proofs.entries.free_run.Tie as tie
 
@@ -32,24 +33,27 @@ loop-holds c = (omega arith, (entry-first _ _ _ _, refl))
 sub-loop : tie.Need-sub-loop Inv-loop μ-loop
 sub-loop c = search needs
 
-past-used-requires : tie.Need-past-used-requires Inv-loop μ-loop
-past-used-requires c κs =
+pass-used-requires : tie.Need-pass-used-requires Inv-loop μ-loop
+pass-used-requires c κs =
     let p = c .before .before .before .before .pre in
-    let l = c .before .loop in
-    (p .0, (p .1 .0, (p .1 .1 .0, (p .1 .1 .1 .0, (l .inv .1 .0, (omega arith, (omega arith, omega (arith, c .before .before .entry-count .ensures .0))))))))
-
-returns : tie.Need-returns Inv-loop μ-loop
-returns c =
-    let p = c .before .before .before .before .before .before .before .pre in
-    let a = c .before .before .before .before .before .before .before .args in
+    let a = c .before .before .before .before .args in
     let w : Fits (a .y) (a .vol .now) = record { laid = p .0; apart = p .1 .1 .0; long = p .1 .0 } in
     let r = p .1 .1 .1 .0 in
-    let l = c .before .before .before .before .loop in
-    let t = c .before .before .past-used in
-    let m = c .before .before .before .before .before .entry-count in
-    let n : length (bytesIn (a .y) (a .vol .now) (a .dir)) ≡ 32 * entryCount (bytesIn (a .y) (a .vol .now) (a .dir)) = omega (arith, length-entries (a .y) (a .vol .now) w (a .dir) r, entries-is (a .y) (a .vol .now) w (a .dir) r) in
-    room-here (a .y .size) (a .y .size / 32) (p .0 .whole) (omega (arith, p .0 .size-low)) (bytesIn (a .y) (a .vol .now) (a .dir)) (a .need) n (l .base) (omega (arith, m .ensures .0)) (l .inv .1 .1) (omega (arith, m .ensures .0))
-    (window-whole (bytesIn (a .y) (a .vol .now) (a .dir)) (l .base) (a .need) (t .result .slot) (t .ensures .0) (omega arith))
+    let l = c .before .loop in
+    let m = c .before .before .entry-count in
+    (p .0, (p .1 .0, (p .1 .1 .0, (r, (l .inv .1 .0, (p .1 .1 .1 .1 .0, (p .1 .1 .1 .1 .1, omega (arith, m .ensures .0))))))))
+
+sub-if1 : tie.Need-sub-if1 Inv-loop μ-loop
+sub-if1 c =
+    let p = c .before .before .before .before .before .before .pre in
+    let a = c .before .before .before .before .before .before .args in
+    let w : Fits (a .y) (a .vol .now) = record { laid = p .0; apart = p .1 .1 .0; long = p .1 .0 } in
+    let r = p .1 .1 .1 .0 in
+    let l = c .before .before .before .loop in
+    let m = c .before .before .before .before .entry-count in
+    let g = c .before .pass-used in
+    let i = slot-in (a .y) (a .vol .now) w (a .dir) r (l .base) (omega (arith, m .ensures .0)) (l .e) (l .inv .1 .0) (a .need) (g .result .slot) (p .1 .1 .1 .1 .0) (g .ensures .0) in
+    omega (arith, m .ensures .0)
 
 loop-less : tie.Need-loop-less Inv-loop μ-loop
 loop-less c =
@@ -58,10 +62,10 @@ loop-less c =
     let w : Fits (a .y) (a .vol .now) = record { laid = p .0; apart = p .1 .1 .0; long = p .1 .0 } in
     let r = p .1 .1 .1 .0 in
     let l = c .before .before .before .before .before .loop in
-    let t = c .before .before .before .past-used in
     let m = c .before .before .before .before .before .before .entry-count in
-    let i = window-in (bytesIn (a .y) (a .vol .now) (a .dir)) (l .base) (a .need) (t .result .slot) (t .ensures .0) in
-    omega arith
+    let g = c .before .before .before .pass-used in
+    let i = slot-in (a .y) (a .vol .now) w (a .dir) r (l .base) (omega (arith, m .ensures .0)) (l .e) (l .inv .1 .0) (a .need) (g .result .slot) (p .1 .1 .1 .1 .0) (g .ensures .0) in
+    omega (arith, m .ensures .0)
 
 loop-again : tie.Need-loop-again Inv-loop μ-loop
 loop-again c =
@@ -70,10 +74,65 @@ loop-again c =
     let w : Fits (a .y) (a .vol .now) = record { laid = p .0; apart = p .1 .1 .0; long = p .1 .0 } in
     let r = p .1 .1 .1 .0 in
     let l = c .before .before .before .before .before .loop in
-    let t = c .before .before .before .past-used in
     let m = c .before .before .before .before .before .before .entry-count in
-    let i = window-in (bytesIn (a .y) (a .vol .now) (a .dir)) (l .base) (a .need) (t .result .slot) (t .ensures .0) in
-    (omega arith, (t .ensures .1, window-passed (bytesIn (a .y) (a .vol .now) (a .dir)) (l .base) (a .need) (t .result .slot) (t .ensures .0) (a .need) (omega arith) (l .inv .1 .1)))
+    let g = c .before .before .before .pass-used in
+    let i = slot-in (a .y) (a .vol .now) w (a .dir) r (l .base) (omega (arith, m .ensures .0)) (l .e) (l .inv .1 .0) (a .need) (g .result .slot) (p .1 .1 .1 .1 .0) (g .ensures .0) in
+    (omega (arith, m .ensures .0), (g .ensures .1, slot-passed (a .y) (a .vol .now) w (a .dir) r (l .base) (omega (arith, m .ensures .0)) (l .e) (l .inv .1 .0) (a .need) (g .result .slot) (p .1 .1 .1 .1 .0) (g .ensures .0) (l .inv .1 .1)))
+
+past-used-requires : tie.Need-past-used-requires Inv-loop μ-loop
+past-used-requires c κs =
+    let p = c .before .before .before .before .before .before .before .pre in
+    let a = c .before .before .before .before .before .before .before .args in
+    let w : Fits (a .y) (a .vol .now) = record { laid = p .0; apart = p .1 .1 .0; long = p .1 .0 } in
+    let r = p .1 .1 .1 .0 in
+    let l = c .before .before .before .before .loop in
+    let m = c .before .before .before .before .before .entry-count in
+    let g = c .before .before .pass-used in
+    let i = slot-in (a .y) (a .vol .now) w (a .dir) r (l .base) (omega (arith, m .ensures .0)) (l .e) (l .inv .1 .0) (a .need) (g .result .slot) (p .1 .1 .1 .1 .0) (g .ensures .0) in
+    (p .0, (p .1 .0, (p .1 .1 .0, (r, (g .ensures .1, (p .1 .1 .1 .1 .0, (p .1 .1 .1 .1 .1, omega (arith, m .ensures .0))))))))
+
+returns : tie.Need-returns Inv-loop μ-loop
+returns c =
+    let p = c .before .before .before .before .before .before .before .before .before .before .before .pre in
+    let a = c .before .before .before .before .before .before .before .before .before .before .before .args in
+    let w : Fits (a .y) (a .vol .now) = record { laid = p .0; apart = p .1 .1 .0; long = p .1 .0 } in
+    let r = p .1 .1 .1 .0 in
+    let l = c .before .before .before .before .before .before .before .before .loop in
+    let m = c .before .before .before .before .before .before .before .before .before .entry-count in
+    let g = c .before .before .before .before .before .before .pass-used in
+    let t = c .before .before .before .past-used in
+    let i = slot-in (a .y) (a .vol .now) w (a .dir) r (l .base) (omega (arith, m .ensures .0)) (l .e) (l .inv .1 .0) (a .need) (g .result .slot) (p .1 .1 .1 .1 .0) (g .ensures .0) in
+    let n : length (bytesIn (a .y) (a .vol .now) (a .dir)) ≡ 32 * entryCount (bytesIn (a .y) (a .vol .now) (a .dir)) = omega (arith, length-entries (a .y) (a .vol .now) w (a .dir) r, entries-is (a .y) (a .vol .now) w (a .dir) r) in
+    room-here (a .y .size) (a .y .size / 32) (p .0 .whole) (omega (arith, p .0 .size-low)) (bytesIn (a .y) (a .vol .now) (a .dir)) (a .need) n (g .result .slot) (i .1) (slot-passed (a .y) (a .vol .now) w (a .dir) r (l .base) (omega (arith, m .ensures .0)) (l .e) (l .inv .1 .0) (a .need) (g .result .slot) (p .1 .1 .1 .1 .0) (g .ensures .0) (l .inv .1 .1)) (omega (arith, m .ensures .0))
+    (window-whole (bytesIn (a .y) (a .vol .now) (a .dir)) (g .result .slot) (a .need) (t .result .slot) (t .ensures .0) (omega arith))
+
+loop-less-2 : tie.Need-loop-less-2 Inv-loop μ-loop
+loop-less-2 c =
+    let p = c .before .before .before .before .before .before .before .before .before .before .before .before .pre in
+    let a = c .before .before .before .before .before .before .before .before .before .before .before .before .args in
+    let w : Fits (a .y) (a .vol .now) = record { laid = p .0; apart = p .1 .1 .0; long = p .1 .0 } in
+    let r = p .1 .1 .1 .0 in
+    let l = c .before .before .before .before .before .before .before .before .before .loop in
+    let m = c .before .before .before .before .before .before .before .before .before .before .entry-count in
+    let g = c .before .before .before .before .before .before .before .pass-used in
+    let t = c .before .before .before .before .past-used in
+    let i = slot-in (a .y) (a .vol .now) w (a .dir) r (l .base) (omega (arith, m .ensures .0)) (l .e) (l .inv .1 .0) (a .need) (g .result .slot) (p .1 .1 .1 .1 .0) (g .ensures .0) in
+    let j = window-in (bytesIn (a .y) (a .vol .now) (a .dir)) (g .result .slot) (a .need) (t .result .slot) (t .ensures .0) in
+    omega (arith, m .ensures .0)
+
+loop-again-2 : tie.Need-loop-again-2 Inv-loop μ-loop
+loop-again-2 c =
+    let p = c .before .before .before .before .before .before .before .before .before .before .before .before .pre in
+    let a = c .before .before .before .before .before .before .before .before .before .before .before .before .args in
+    let w : Fits (a .y) (a .vol .now) = record { laid = p .0; apart = p .1 .1 .0; long = p .1 .0 } in
+    let r = p .1 .1 .1 .0 in
+    let l = c .before .before .before .before .before .before .before .before .before .loop in
+    let m = c .before .before .before .before .before .before .before .before .before .before .entry-count in
+    let g = c .before .before .before .before .before .before .before .pass-used in
+    let t = c .before .before .before .before .past-used in
+    let i = slot-in (a .y) (a .vol .now) w (a .dir) r (l .base) (omega (arith, m .ensures .0)) (l .e) (l .inv .1 .0) (a .need) (g .result .slot) (p .1 .1 .1 .1 .0) (g .ensures .0) in
+    let j = window-in (bytesIn (a .y) (a .vol .now) (a .dir)) (g .result .slot) (a .need) (t .result .slot) (t .ensures .0) in
+    (omega (arith, m .ensures .0), (t .ensures .1, window-passed (bytesIn (a .y) (a .vol .now) (a .dir)) (g .result .slot) (a .need) (t .result .slot) (t .ensures .0) (a .need) (omega arith) (slot-passed (a .y) (a .vol .now) w (a .dir) r (l .base) (omega (arith, m .ensures .0)) (l .e) (l .inv .1 .0) (a .need) (g .result .slot) (p .1 .1 .1 .1 .0) (g .ensures .0) (l .inv .1 .1))))
 
 sub-last-used : tie.Need-sub-last-used Inv-loop μ-loop
 sub-last-used c = search needs
@@ -111,20 +170,20 @@ sub-missing c =
 cast-missing : tie.Need-cast-missing Inv-loop μ-loop
 cast-missing c = search needs
 
-mul-t15 : tie.Need-mul-t15 Inv-loop μ-loop
-mul-t15 c = search needs
+mul-t17 : tie.Need-mul-t17 Inv-loop μ-loop
+mul-t17 c = search needs
 
-sub-t16 : tie.Need-sub-t16 Inv-loop μ-loop
-sub-t16 c = search needs
+sub-t18 : tie.Need-sub-t18 Inv-loop μ-loop
+sub-t18 c = search needs
 
-add-t17 : tie.Need-add-t17 Inv-loop μ-loop
-add-t17 c = search needs
+add-t19 : tie.Need-add-t19 Inv-loop μ-loop
+add-t19 c = search needs
 
-div-t18 : tie.Need-div-t18 Inv-loop μ-loop
-div-t18 c = search needs
+div-t20 : tie.Need-div-t20 Inv-loop μ-loop
+div-t20 c = search needs
 
-cast-t13 : tie.Need-cast-t13 Inv-loop μ-loop
-cast-t13 c =
+cast-t15 : tie.Need-cast-t15 Inv-loop μ-loop
+cast-t15 c =
     let p = c .before .before .before .before .before .before .before .before .pre in
     let a = c .before .before .before .before .before .before .before .before .args in
     let w : Fits (a .y) (a .vol .now) = record { laid = p .0; apart = p .1 .1 .0; long = p .1 .0 } in
@@ -164,18 +223,22 @@ free-run-spec =
     entry-count-requires
     loop-holds
     sub-loop
-    past-used-requires
-    returns
+    pass-used-requires
+    sub-if1
     loop-less
     loop-again
+    past-used-requires
+    returns
+    loop-less-2
+    loop-again-2
     sub-last-used
     last-used-requires
     add-missing
     sub-missing
     cast-missing
-    mul-t15
-    sub-t16
-    add-t17
-    div-t18
-    cast-t13
+    mul-t17
+    sub-t18
+    add-t19
+    div-t20
+    cast-t15
     returns-2)

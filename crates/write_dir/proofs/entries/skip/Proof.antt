@@ -42,7 +42,7 @@ loop-holds c =
     let p = c .before .before .before .pre in
     let a = c .before .before .before .args in
     let w : Fits (a .y) (a .vol .now) = record { laid = p .0; apart = p .1 .1 .0; long = p .1 .0 } in
-    counted-start (a .y) (a .vol .now) w (a .dir) (p .1 .1 .1 .0) (a .k) (a .m) (p .1 .1 .1 .1 .1 .1) (a .e) (p .1 .1 .1 .1 .0)
+    counted-start (a .y) (a .vol .now) w (a .dir) (p .1 .1 .1 .0) (a .k) (a .m) (omega arith) (a .e) (p .1 .1 .1 .1 .0)
 
 next-cluster-requires : tie.Need-next-cluster-requires Inv-loop μ-loop
 next-cluster-requires c κs =
