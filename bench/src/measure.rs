@@ -148,12 +148,23 @@ fn run_copy(at: usize, data: &[u8], volume: &Shared, cold: bool) -> u64 {
     now() - start
 }
 
-/// All sides of a workload. `cold`: the volume and the source are taken out of the processor's caches before the calls.
+/// The sides of a workload, in the order in which a round takes them.
+#[derive(Clone, Copy)]
+enum Turn {
+    Library,
+    Limit,
+    OneMount,
+    Fresh,
+}
+
+/// All sides of a workload. `cold`: the volume and the source are taken out of the processor's caches before the calls. Each side
+/// goes first in its turn, since what ran before a side decides what of the memory is near the processor.
 pub fn measure(work: &Workload, data: &[u8], cold: bool, rounds: Rounds) -> Times {
     let list = &work.list;
     let volume = shared(&list.volume.bytes);
     let mut times = Times::default();
-    let mut ours = list.volume.bytes.clone();
+    run_library(work, data, &volume, cold);
+    let ours = volume.borrow().clone();
     // One call is short, and its time differs more from round to round.
     let more = if work.repeated { 7 } else { 1 };
     let fresh = more
@@ -162,35 +173,49 @@ pub fn measure(work: &Workload, data: &[u8], cold: bool, rounds: Rounds) -> Time
         } else {
             rounds.fresh
         };
+    let mut turns = [Turn::Library, Turn::Limit, Turn::OneMount, Turn::Fresh];
     for round in 0..more * rounds.all {
-        times.library.push(run_library(work, data, &volume, cold));
-        ours.copy_from_slice(&volume.borrow());
-        match work.limit {
-            Limit::None => {}
-            Limit::Walk => times.limit.push(run_walks(list, data, &volume)),
-            Limit::Copy { first } => {
-                times
-                    .limit
-                    .push(run_copy(list.volume.cluster_at(first), data, &volume, cold))
+        for turn in turns {
+            let title = &work.title;
+            match turn {
+                Turn::Library => {
+                    times.library.push(run_library(work, data, &volume, cold));
+                    let bytes = volume.borrow();
+                    assert!(
+                        same(&ours, &bytes),
+                        "{title}: the library leaves other bytes"
+                    );
+                }
+                Turn::Limit => match work.limit {
+                    Limit::None => {}
+                    Limit::Walk => times.limit.push(run_walks(list, data, &volume)),
+                    Limit::Copy { first } => {
+                        let at = list.volume.cluster_at(first);
+                        times.limit.push(run_copy(at, data, &volume, cold));
+                    }
+                },
+                #[cfg(rust_sources)]
+                Turn::OneMount => {
+                    times.warm.push(run_warm(work, data, &volume, cold));
+                    let bytes = volume.borrow();
+                    assert!(
+                        same(&ours, &bytes),
+                        "{title}: the Rust on one mount leaves other bytes"
+                    );
+                }
+                #[cfg(rust_sources)]
+                Turn::Fresh if round < fresh => {
+                    times.fresh.push(run_fresh(work, data, &volume, cold));
+                    let bytes = volume.borrow();
+                    assert!(
+                        same(&ours, &bytes),
+                        "{title}: the Rust, mounted anew, leaves other bytes"
+                    );
+                }
+                _ => {}
             }
         }
-        #[cfg(rust_sources)]
-        {
-            times.warm.push(run_warm(work, data, &volume, cold));
-            assert!(
-                same(&ours, &volume.borrow()),
-                "{}: the Rust on one mount leaves other bytes",
-                work.title
-            );
-            if round < fresh {
-                times.fresh.push(run_fresh(work, data, &volume, cold));
-                assert!(
-                    same(&ours, &volume.borrow()),
-                    "{}: the Rust, mounted anew, leaves other bytes",
-                    work.title
-                );
-            }
-        }
+        turns.rotate_left(1);
     }
     times
 }

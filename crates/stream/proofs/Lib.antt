@@ -4,4 +4,4 @@ pub mod ListingLaws
 pub mod Distinct
 pub mod BytesSteps
 pub mod BytesLaws
-pub mod StretchLaws
+pub mod RowLaws

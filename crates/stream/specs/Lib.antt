@@ -3,4 +3,3 @@ pub mod Stream
 pub mod Along
 pub mod Listing
 pub mod Bytes
-pub mod Stretch

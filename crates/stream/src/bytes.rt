@@ -10,7 +10,6 @@ ghost use Rattle.metadata.specs.Fat.{fatEntry};
 ghost use Rattle.metadata.specs.Cluster.{putBytes};
 ghost use Rattle.stream.specs.Along.{after, along};
 ghost use Rattle.stream.specs.Bytes.{clusterBytes, bytesOf, storeAt, reached, Known};
-ghost use Rattle.stream.specs.Stretch.{stretchOf};
 use crate::allocation::Allocation;
 use boot::layout::Layout;
 
@@ -18,14 +17,6 @@ use boot::layout::Layout;
 pub struct Place {
     pub cluster: u32,
     pub steps: u32,
-}
-
-// Clusters of a stream that follow each other in the heap: the cluster after them, how many are left from there on, and the bytes
-// from a place in the first one to the end of the last.
-pub struct Stretch {
-    pub next: u32,
-    pub left: u32,
-    pub room: usize,
 }
 
 // The lesser of two numbers.
@@ -93,36 +84,7 @@ fn get_piece(vol: &[u8], y: Layout, k: u32, at: usize, dst: &mut [u8], to: usize
     primitives::slices::copy_in(dst, to, vol, start + at, n);
 }
 
-// The stretch from the first of a chain's count clusters on, with so much room in that one, as far as n bytes need it.
-fn stretch_from(vol: &[u8], y: Layout, first: u32, count: u32, room: usize, n: usize) -> Stretch
-    requires { ⌜ Laid y × ((length (now vol) ≡ y .len) × ((every (inHeap (y .count)) (along (fatEntry y (now vol)) false first count) ≡ true) × ((0 < count) × ((room ≤ y .size) × (n ≤ room + (count - 1) * y .size))))) ⌝ }
-    ensures { λ r. ⌜ r ≡ stretchOf (fatEntry y (now (vol .entry))) false (y .size) n first room (count - 1) ⌝ }
-{
-    let mut k = first;
-    let mut next = crate::list::next_cluster(vol, y, false, k);
-    let mut left = count;
-    let mut end = room;
-    while end < n {
-        if next != k + 1 {
-            return Stretch {
-                next: next,
-                left: left - 1,
-                room: end,
-            };
-        }
-        k = next;
-        next = crate::list::next_cluster(vol, y, false, k);
-        left -= 1;
-        end += y.size;
-    }
-    Stretch {
-        next: next,
-        left: left - 1,
-        room: end,
-    }
-}
-
-// Stores src in count clusters of a chain, from byte `at` of the first one on. Each stretch is stored by one copy.
+// Stores src in count clusters of a chain, from byte `at` of the first one on.
 fn store_chain(vol: &mut [u8], y: Layout, first: u32, count: u32, at: usize, src: &[u8])
     requires { ⌜ Laid y × ((length (now vol) ≡ y .len) × ((every (inHeap (y .count)) (along (fatEntry y (now vol)) false first count) ≡ true) × ((at < y .size) × ((at + length (now src) ≤ count * y .size) × Apart y)))) ⌝ }
     ensures { λ _. ⌜ now (vol .exit) ≡ storeAt y (now (vol .entry)) (along (fatEntry y (now (vol .entry))) false first count) at (now (src .entry)) ⌝ }
@@ -133,18 +95,18 @@ fn store_chain(vol: &mut [u8], y: Layout, first: u32, count: u32, at: usize, src
     let mut from: usize = 0;
     let mut more = src.len();
     while 0 < more {
-        let s = stretch_from(vol, y, k, left, y.size - place, more);
-        let m = lesser(s.room, more);
+        let m = lesser(y.size - place, more);
+        let next = crate::list::next_cluster(vol, y, false, k);
         put_piece(vol, y, k, place, src, from, m);
-        k = s.next;
-        left = s.left;
+        k = next;
+        left -= 1;
         place = 0;
         from += m;
         more -= m;
     }
 }
 
-// Stores src in count clusters, from byte `at` of the first one on. A run is one stretch.
+// Stores src in count clusters, from byte `at` of the first one on. A run's clusters are one piece of the volume, and take one copy.
 fn store_from(vol: &mut [u8], y: Layout, run: bool, first: u32, count: u32, at: usize, src: &[u8])
     requires { ⌜ Laid y × ((length (now vol) ≡ y .len) × ((every (inHeap (y .count)) (along (fatEntry y (now vol)) run first count) ≡ true) × ((at < y .size) × ((at + length (now src) ≤ count * y .size) × Apart y)))) ⌝ }
     ensures { λ _. ⌜ now (vol .exit) ≡ storeAt y (now (vol .entry)) (along (fatEntry y (now (vol .entry))) run first count) at (now (src .entry)) ⌝ }

@@ -7,12 +7,13 @@ use lib.ListN.{length, drop, length-drop}
 use lib.Seq.{drop-drop}
 use Rattle.tables.specs.Lists.{every}
 use Rattle.boot.specs.Layout.{inHeap}
+use Rattle.boot.proofs.Apart.{in-heap, cluster-end}
 use Rattle.metadata.specs.Fat.{fatEntry}
 use Rattle.metadata.proofs.Frame.{Fits}
 use Rattle.stream.specs.Along.{along}
 use Rattle.stream.specs.Bytes.{storeAt}
-use Rattle.stream.proofs.BytesSteps.{some-left, left-after, store-empty}
-use Rattle.stream.proofs.StretchLaws.{turn, store-stretch}
+use Rattle.stream.proofs.StreamLaws.{along-head}
+use Rattle.stream.proofs.BytesSteps.{some-left, left-after, store-next, store-empty}
 use Rattle.stream.proofs.bytes.store_chain.Statement.{statement}
 use Rattle.stream.proofs.bytes.store_chain.Tie as tie
 
@@ -25,75 +26,70 @@ abbrev μ-loop : tie.MeasureT-loop
 loop-holds : tie.Need-loop-holds Inv-loop μ-loop
 loop-holds c = let p = c .before .before .pre in (refl, (p .1 .1 .1 .0, (p .1 .1 .1 .1 .0, (omega arith, (p .1 .1 .0, refl)))))
 
-sub-stretch-from : tie.Need-sub-stretch-from Inv-loop μ-loop
-sub-stretch-from c = search needs
-
-stretch-from-requires : tie.Need-stretch-from-requires Inv-loop μ-loop
-stretch-from-requires c κs =
-    let p = c .before .before .before .before .before .before .pre in
-    let a = c .before .before .before .before .before .before .args in
-    let l = c .before .before .before .loop in
-    let n = some-left (l .left) (a .y .size) (l .place) (l .more) (l .inv .1 .1 .0) (omega arith) in
-    let m = left-after (l .left) (a .y .size) (l .place) (l .more) _ (l .inv .1 .0) (l .inv .1 .1 .0) refl in
-    (p .0, (l .inv .0 ∙ p .1 .0, (l .inv .1 .1 .1 .1 .0, (n, omega arith))))
+sub-lesser : tie.Need-sub-lesser Inv-loop μ-loop
+sub-lesser c = search needs
 
 lesser-requires : tie.Need-lesser-requires Inv-loop μ-loop
 lesser-requires c κs = search needs
+
+next-cluster-requires : tie.Need-next-cluster-requires Inv-loop μ-loop
+next-cluster-requires c κs =
+    let p = c .before .before .before .before .before .before .before .pre in
+    let a = c .before .before .before .before .before .before .before .args in
+    let l = c .before .before .before .before .loop in
+    let n = some-left (l .left) (a .y .size) (l .place) (l .more) (l .inv .1 .1 .0) (omega arith) in
+    let h = in-heap _ _ (along-head _ _ _ _ _ n (l .inv .1 .1 .1 .1 .0)) in
+    (p .0, (l .inv .0 ∙ p .1 .0, omega arith))
 
 put-piece-requires : tie.Need-put-piece-requires Inv-loop μ-loop
 put-piece-requires c κs =
     let p = c .before .before .before .before .before .before .before .before .before .pre in
     let a = c .before .before .before .before .before .before .before .before .before .args in
     let l = c .before .before .before .before .before .before .loop in
-    let s = c .before .before .stretch-from in
-    let r = c .before .lesser in
-    let w : Fits (a .y) (l .vol) = record { laid = p .0; apart = p .1 .1 .1 .1 .1; long = l .inv .0 ∙ p .1 .0 } in
-    let t = turn (a .y) (l .vol) w false (l .k) (l .left) (l .inv .1 .1 .1 .1 .0) (l .place) (l .more) (l .inv .1 .0) (omega arith) (l .inv .1 .1 .0) (s .result) (s .ensures) in
-    let e = r .ensures in
-    (p .0, (l .inv .0 ∙ p .1 .0, (t .first-low, (t .first-high, (omega arith, omega arith)))))
+    let r = c .before .before .before .lesser .ensures in
+    let n = some-left (l .left) (a .y .size) (l .place) (l .more) (l .inv .1 .1 .0) (omega arith) in
+    let i = along-head _ _ _ _ _ n (l .inv .1 .1 .1 .1 .0) in
+    let h = in-heap _ _ i in
+    (p .0, (l .inv .0 ∙ p .1 .0, (h .0, (h .1, (omega (arith, cluster-end (a .y) (p .0) (p .1 .1 .1 .1 .1) (l .k) i), omega arith)))))
+
+sub-left : tie.Need-sub-left Inv-loop μ-loop
+sub-left c =
+    let a = c .before .before .before .before .before .before .before .before .before .before .before .before .args in
+    let l = c .before .before .before .before .before .before .before .before .before .loop in
+    some-left (l .left) (a .y .size) (l .place) (l .more) (l .inv .1 .1 .0) (omega arith)
 
 add-from : tie.Need-add-from Inv-loop μ-loop
-add-from c =
-    let g = c .before .before .before .before .before .before .before .before .before .before .before .before .good .1 .1 .1 .1 .1 in
-    let l = c .before .before .before .before .before .before .before .before .before .loop in
-    let r = c .before .before .before .before .lesser in
-    search needs
+add-from c = search needs
 
 sub-more : tie.Need-sub-more Inv-loop μ-loop
 sub-more c = search needs
 
 loop-less : tie.Need-loop-less Inv-loop μ-loop
-loop-less c =
-    let p = c .before .before .before .before .before .before .before .before .before .before .before .before .pre in
-    let a = c .before .before .before .before .before .before .before .before .before .before .before .before .args in
-    let l = c .before .before .before .before .before .before .before .before .before .loop in
-    let s = c .before .before .before .before .before .stretch-from in
-    let r = c .before .before .before .before .lesser in
-    let w : Fits (a .y) (l .vol) = record { laid = p .0; apart = p .1 .1 .1 .1 .1; long = l .inv .0 ∙ p .1 .0 } in
-    let t = turn (a .y) (l .vol) w false (l .k) (l .left) (l .inv .1 .1 .1 .1 .0) (l .place) (l .more) (l .inv .1 .0) (omega arith) (l .inv .1 .1 .0) (s .result) (s .ensures) in
-    omega (arith, r .ensures)
+loop-less c = search needs
 
 loop-again : tie.Need-loop-again Inv-loop μ-loop
 loop-again c =
     let p = c .before .before .before .before .before .before .before .before .before .before .before .before .pre in
     let a = c .before .before .before .before .before .before .before .before .before .before .before .before .args in
     let l = c .before .before .before .before .before .before .before .before .before .loop in
-    let s = c .before .before .before .before .before .stretch-from in
-    let r = c .before .before .before .before .lesser in
+    let r = c .before .before .before .before .before .before .lesser in
+    let n = some-left (l .left) (a .y .size) (l .place) (l .more) (l .inv .1 .1 .0) (omega arith) in
     let w : Fits (a .y) (l .vol) = record { laid = p .0; apart = p .1 .1 .1 .1 .1; long = l .inv .0 ∙ p .1 .0 } in
-    let t = turn (a .y) (l .vol) w false (l .k) (l .left) (l .inv .1 .1 .1 .1 .0) (l .place) (l .more) (l .inv .1 .0) (omega arith) (l .inv .1 .1 .0) (s .result) (s .ensures) in
-    let o = c .before .before .put-piece in
-    let v =
-    store-stretch (a .y) (l .vol) w false (l .k) (l .left) (l .inv .1 .1 .1 .1 .0) (l .place) (l .more) (l .inv .1 .0) (omega arith) (l .inv .1 .1 .0) (s .result) (s .ensures)
-    (drop (l .from) (a .src .now)) (o .last .0) (r .result) (omega (arith, r .ensures, length-drop (l .from) (a .src .now))) (o .ensures) in (
-      o .kept .0 ∙ l .inv .0,
+    let t =
+    store-next (a .y) (l .vol) w false (l .k) (l .left) n (l .inv .1 .1 .1 .1 .0) (l .place) (l .inv .1 .0) (drop (l .from) (a .src .now))
+    (c .before .before .put-piece .last .0) (r .result) (c .before .before .before .before .next-cluster .result)
+    (omega (arith, r .ensures, length-drop (l .from) (a .src .now))) (c .before .before .put-piece .ensures) (c .before .before .before .before .next-cluster .ensures) in (
+      c .before .before .put-piece .kept .0 ∙ l .inv .0,
       (
         omega arith,
         (
-          t .rest (l .more) (r .result) (l .inv .1 .1 .0) (r .ensures),
+          left-after (l .left) (a .y .size) (l .place) (l .more) (r .result) (l .inv .1 .0) (l .inv .1 .1 .0) (r .ensures),
           (
             omega arith,
-            (v .0, ap (storeAt (a .y) (o .last .0) _ 0) (sym (drop-drop (r .result) (l .from) (a .src .now))) ∙ v .1 ∙ l .inv .1 .1 .1 .1 .1),
+            (
+              t .0,
+              ap (storeAt (a .y) (c .before .before .put-piece .last .0) _ 0) (sym (drop-drop (r .result) (l .from) (a .src .now))) ∙ t .1 ∙ l .inv .1 .1 .1 .1 .1,
+            ),
           ),
         ),
       ),
@@ -115,10 +111,11 @@ store-chain-spec =
     Inv-loop
     μ-loop
     loop-holds
-    sub-stretch-from
-    stretch-from-requires
+    sub-lesser
     lesser-requires
+    next-cluster-requires
     put-piece-requires
+    sub-left
     add-from
     sub-more
     loop-less

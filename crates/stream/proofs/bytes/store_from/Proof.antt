@@ -1,4 +1,4 @@
-use mathlib.Core.Path.{_≡_, refl, sym, _∙_, ap}
+use mathlib.Core.Path.{refl, sym, _∙_, ap}
 use mathlib.Core.Bool.{Bool}
 use native.Mathlib.Omega.{arith}
 use borrow.Author.Needs.{needs}
@@ -12,7 +12,7 @@ use Rattle.metadata.proofs.Frame.{Fits}
 use Rattle.stream.specs.Along.{along}
 use Rattle.stream.specs.Bytes.{storeAt}
 use Rattle.stream.proofs.BytesSteps.{store-empty}
-use Rattle.stream.proofs.StretchLaws.{run-first, run-inside, store-run}
+use Rattle.stream.proofs.RowLaws.{run-first, run-inside, store-run}
 use Rattle.stream.proofs.bytes.store_from.Statement.{statement}
 use Rattle.stream.proofs.bytes.store_from.Tie as tie
 
