@@ -3,7 +3,7 @@ use mathlib.Core.Path.{_≡_, refl, sym, _∙_, ap}
 use mathlib.Core.Logic.{_≢_, _↔_}
 use mathlib.Core.Bool.{Bool, true, false, cond}
 use mathlib.Core.List.{List}
-use Prim.Native.Nat.{ℕ, _+_, _-_, _<_}
+use Prim.Native.Nat.{ℕ, _+_, _-_, _≤_, _<_}
 use native.Mathlib.Decide.{ℕ-discrete, decLt}
 use native.Mathlib.Omega.{arith}
 use lib.Dec.{eqb, ltb}
@@ -121,9 +121,12 @@ module _ (g : Geometry) (m d : List ℕ) (l : limits g (length d) m ≡ true) wh
 
 -- ---- when the number is 7
 
--- what the last clause says of a volume
+-- what the last two clauses say of a volume
 abbrev pub Seven : Geometry → List ℕ → List ℕ → Type 0
 Seven g m d = (c : Call) → otherCause g m d c ≡ 0 → (step g m d c .answer .number ≡ 7) ↔ (usable g m d < mustAdd g d c)
+
+abbrev pub CarriedOut : Geometry → List ℕ → List ℕ → Type 0
+CarriedOut g m d = (c : Call) → otherCause g m d c ≡ 0 → mustAdd g d c ≤ usable g m d → step g m d c .answer .number ≡ 0
 
 space-seven : (wanted there : ℕ) → (spaceCause wanted there ≡ 7) ↔ (there < wanted)
 unfolding spaceCause
@@ -133,14 +136,9 @@ space-seven wanted there =
       | no l ↦ (λ e. absurd (let z : _≡_ {A = ℕ} 0 7 = rw (le-ltb there wanted (omega arith)) at e in omega arith), λ q. absurd (l q))
     ]
 
--- a number that is 0 where nothing must be added
-none-seven : (n there : ℕ) → n ≡ 0 → (n ≡ 7) ↔ (there < 0)
-none-seven n there z = (λ e. absurd (omega arith), λ l. absurd (omega arith))
-
-along : (n wanted wanted′ there : ℕ) → n ≡ spaceCause wanted there → wanted ≡ wanted′ → (n ≡ 7) ↔ (there < wanted′)
-along n wanted wanted′ there e q =
-    let s = space-seven wanted there in
-    (λ z. let l = s .0 (sym e ∙ z) in omega arith, λ l. e ∙ s .1 (omega arith))
+space-enough : (wanted there : ℕ) → wanted ≤ there → spaceCause wanted there ≡ 0
+unfolding spaceCause
+space-enough wanted there h = rw (le-ltb there wanted h) refl
 
 module _ (g : Geometry) (m d : List ℕ) where
   kept : limitsCause g d m ≡ 0 → limits g (length d) m ≡ true
@@ -152,16 +150,16 @@ module _ (g : Geometry) (m d : List ℕ) where
   unfolding missing beyond setIn setOf rootBytes
   must i len = ap (λ (x : ℕ). clustersFor (lay g d .size) len - x) (record-count (lay g d) d _)
 
-  pub seven : Seven g m d
+  -- the number of a call that meets no other cause
+  by-space : (c : Call) → otherCause g m d c ≡ 0 → step g m d c .answer .number ≡ spaceCause (mustAdd g d c) (usable g m d)
   unfolding otherCause mustAdd
-  seven (New name attributes hash t hint) e =
+  by-space (New name attributes hash t hint) e =
       let a = cause-none _ _ e in
       let b = cause-none _ _ (a .1) in
       let x = cause-none _ _ (b .1) in
       let y = both-clear _ _ (x .1) in
-      along _ (newGrowth (lay g d) d (root g d) (length name)) _ (usable g m d)
-      (decided-number (new-decided g m d (kept (a .0)) name attributes hash t hint) ∙ (unfold newCause in (unfold usable in (cause-skip _ _ (b .0) ∙ cause-skip _ _ (x .0) ∙ cause-skip _ _ (y .0) ∙ cause-skip _ _ (y .1) ∙ cause-last _)))) refl
-  seven (Write i offset bs t hint) e = by (eqb (length bs) 0) refl
+      decided-number (new-decided g m d (kept (a .0)) name attributes hash t hint) ∙ (unfold newCause in (unfold usable in (cause-skip _ _ (b .0) ∙ cause-skip _ _ (x .0) ∙ cause-skip _ _ (y .0) ∙ cause-skip _ _ (y .1) ∙ cause-last _)))
+  by-space (Write i offset bs t hint) e = by (eqb (length bs) 0) refl
     where
       len : ℕ
       len = larger (dataLength (setOf g d i)) (offset + length bs)
@@ -177,15 +175,14 @@ module _ (g : Geometry) (m d : List ℕ) where
       number = decided-number (write-decided g m d (kept (open-clear .0)) i offset bs t hint) ∙ (unfold writeCause in (cause-skip _ _ (open-clear .1) ∙ cause-last _))
 
       by : (b : Bool) → eqb (length bs) 0 ≡ b
-          → (step g m d (Write i offset bs t hint) .answer .number ≡ 7)
-          ↔ (usable g m d < cond b 0 (beyond g d i (larger (dataLength (setOf g d i)) (offset + length bs))))
+          → step g m d (Write i offset bs t hint) .answer .number
+          ≡ spaceCause (cond b 0 (beyond g d i (larger (dataLength (setOf g d i)) (offset + length bs)))) (usable g m d)
       by true q =
-          none-seven _ (usable g m d)
-          (number ∙ ap (λ (b : Bool). cond b 0 (dataCause (lay g d) d m (setIn (lay g d) d (root g d) i) offset (length bs))) q)
+          number ∙ ap (λ (b : Bool). cond b 0 (dataCause (lay g d) d m (setIn (lay g d) d (root g d) i) offset (length bs))) q
+          ∙ sym (space-enough 0 (usable g m d) (omega arith))
       by false q =
-          along _ (missing (lay g d) (fileRecord (lay g d) d (setIn (lay g d) d (root g d) i)) len) _ (usable g m d)
-          (number ∙ ap (λ (b : Bool). cond b 0 (dataCause (lay g d) d m (setIn (lay g d) d (root g d) i) offset (length bs))) q ∙ data-clear q)
-          (must i len)
+          number ∙ ap (λ (b : Bool). cond b 0 (dataCause (lay g d) d m (setIn (lay g d) d (root g d) i) offset (length bs))) q ∙ data-clear q
+          ∙ ap (λ (x : ℕ). spaceCause x (usable g m d)) (must i len)
         where
           data-clear : eqb (length bs) 0 ≡ false
               → dataCause (lay g d) d m (setIn (lay g d) d (root g d) i) offset (length bs)
@@ -193,8 +190,21 @@ module _ (g : Geometry) (m d : List ℕ) where
           data-clear q =
               unfold dataCause in (unfold lengthCause in (unfold usable in (unfold setIn in (unfold setOf in (unfold rootBytes in (
               cause-skip _ _ (sym (ap (λ (b : Bool). cond b 0 (endCause offset (length bs))) q) ∙ end-clear) ∙ cause-last _))))))
-  seven (SetLength i len t hint) e =
+  by-space (SetLength i len t hint) e =
       let a = both-clear _ _ e in
-      along _ (missing (lay g d) (fileRecord (lay g d) d (setIn (lay g d) d (root g d) i)) len) _ (usable g m d)
-      (decided-number (set-decided g m d (kept (a .0)) i len t hint) ∙ (unfold setLengthCause in (unfold lengthCause in (unfold usable in (cause-skip _ _ (a .1) ∙ cause-last _))))) (must i len)
-  seven (Remove i hint) e = let a = both-clear _ _ e in none-seven _ (usable g m d) (decided-number (remove-decided g m d (kept (a .0)) i hint) ∙ a .1)
+      let wanted = missing (lay g d) (fileRecord (lay g d) d (setIn (lay g d) d (root g d) i)) len in
+      let n : setLengthCause (lay g d) d m (root g d) i len hint ≡ spaceCause wanted (usable g m d) =
+      unfold setLengthCause in (unfold lengthCause in (unfold usable in (cause-skip _ _ (a .1) ∙ cause-last _))) in
+      decided-number (set-decided g m d (kept (a .0)) i len t hint) ∙ n ∙ ap (λ (x : ℕ). spaceCause x (usable g m d)) (must i len)
+  by-space (Remove i hint) e =
+      let a = both-clear _ _ e in
+      decided-number (remove-decided g m d (kept (a .0)) i hint) ∙ a .1 ∙ sym (space-enough 0 (usable g m d) (omega arith))
+
+  pub seven : Seven g m d
+  seven c e =
+      let n = by-space c e in
+      let s = space-seven (mustAdd g d c) (usable g m d) in
+      (λ z. s .0 (sym n ∙ z), λ l. n ∙ s .1 l)
+
+  pub carried-out : CarriedOut g m d
+  carried-out c e h = by-space c e ∙ space-enough (mustAdd g d c) (usable g m d) h

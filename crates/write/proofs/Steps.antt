@@ -27,7 +27,7 @@ use Rattle.write.specs.Demand.{slotOf, setAfter, entriesAtSlot, Lost, De
 use Rattle.write.proofs.Family.{Untouched, untouched-same, untouched-again}
 use Rattle.write.proofs.Scene.{lay-same}
 use Rattle.write.proofs.Change.{contentsOf, Change, change-consistent, change-untouched, change-lost, change-sets, change-contents, change-marks}
-use Rattle.write.proofs.Answers.{refused-same, seven}
+use Rattle.write.proofs.Answers.{refused-same, seven, carried-out}
 
 -- ---- one call
 
@@ -199,4 +199,5 @@ module _ (g : Geometry) (m : List ℕ) (one : (d : List ℕ) (c : Call) → Cons
     lost-entry = λ k l. run-untouched d cs w k l .entry;
     lost-bytes = λ k l. run-untouched d cs w k l .bytes;
     seven = seven g m (run g m d cs);
+    carried-out = carried-out g m (run g m d cs);
   }

@@ -4,7 +4,7 @@ use mathlib.Core.Logic.{_↔_}
 use mathlib.Core.Bool.{true, false, cond}
 use mathlib.Core.List.{List, [], _∷_, _++_}
 use mathlib.Core.Option.{Option, none, some}
-use Prim.Native.Nat.{ℕ, _+_, _<_}
+use Prim.Native.Nat.{ℕ, _+_, _≤_, _<_}
 use lib.Dec.{eqb, ltb}
 use lib.ListN.{length, take}
 use Rattle.tables.specs.Lists.{Mem}
@@ -94,3 +94,6 @@ pub record Demand (g : Geometry) (m d : List ℕ) (cs : List Call) : Type 0 wher
   -- a further call that meets no other cause gets 7 exactly when it must add more clusters than are usable
   pub seven : (c : Call) → otherCause g m (run g m d cs) c ≡ 0
       → (step g m (run g m d cs) c .answer .number ≡ 7) ↔ (usable g m (run g m d cs) < mustAdd g (run g m d cs) c)
+  -- .. and else it is carried out
+  pub carried-out : (c : Call) → otherCause g m (run g m d cs) c ≡ 0 → mustAdd g (run g m d cs) c ≤ usable g m (run g m d cs)
+      → step g m (run g m d cs) c .answer .number ≡ 0
