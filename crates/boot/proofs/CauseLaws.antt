@@ -3,7 +3,7 @@ use mathlib.Core.Path.{_≡_, refl, sym, _∙_}
 use mathlib.Core.Bool.{Bool, true, false, cond}
 use mathlib.Core.List.{List, [], _∷_}
 use Prim.Native.Nat.{ℕ}
-use native.Mathlib.Omega.{arith}
+use native.Mathlib.Decide.{ℕ-discrete}
 use lib.Dec.{eqb}
 use lib.ListN.{length}
 use borrow.Author.Tests.{eq-eqb, ne-eqb, eqb-true}
@@ -21,6 +21,14 @@ cause-skip c cs e = rw (eq-eqb c 0 e) refl
 pub cause-met : (c : ℕ) (cs : List ℕ) → (c ≡ 0 → ⊥) → firstCause (c ∷ cs) ≡ c
 unfolding firstCause
 cause-met c cs n = rw (ne-eqb c 0 n) refl
+
+-- none is met
+pub cause-none : (c : ℕ) (cs : List ℕ) → firstCause (c ∷ cs) ≡ 0 → (c ≡ 0) × (firstCause cs ≡ 0)
+cause-none c cs e =
+    elim (ℕ-discrete c 0) [
+      | yes z ↦ (z, sym (cause-skip c cs z) ∙ e)
+      | no z ↦ absurd (z (sym (cause-met c cs z) ∙ e))
+    ]
 
 -- the last one decides where no other did
 pub cause-last : (c : ℕ) → firstCause (c ∷ []) ≡ c

@@ -31,7 +31,7 @@ use Rattle.stream.proofs.BytesSteps.{every-take, along-same, store-past
 
 -- ---- parts of lists
 
-take-short : (n : ℕ) (s : List ℕ) → length (take n s) ≤ n
+pub take-short : (n : ℕ) (s : List ℕ) → length (take n s) ≤ n
 take-short zero s = omega arith
 take-short (suc n) [] = omega arith
 take-short (suc n) (x ∷ s) = omega (arith, take-short n s)

@@ -42,6 +42,15 @@ take-lesser a s m e =
       )
     ]
 
+-- a part of a part
+pub drop-take : (i j : ℕ) (s : List ℕ) → i ≤ j → drop i (take j s) ≡ take (j - i) (drop i s)
+drop-take zero j s h = rw sub-zero refl
+drop-take (suc i) zero s h = absurd (omega arith)
+drop-take (suc i) (suc j) [] h = sym (take-nil {A = ℕ} (suc j - suc i))
+drop-take (suc i) (suc j) (x ∷ s) h =
+    let e : j - i ≡ suc j - suc i = omega arith in
+    drop-take i j s (omega arith) ∙ ap (λ (n : ℕ). take n (drop i s)) e
+
 -- the front of two lists
 pub take-two : (n : ℕ) (s t : List ℕ) (m : ℕ) → m ≡ length s - (length s - n) → take n (s ++ t) ≡ take m s ++ take (n - m) t
 take-two n s t m e =
@@ -343,14 +352,6 @@ module _ (y : Layout) (d : List ℕ) (l : Laid y) (long : length d ≡ y .len) w
       sym
       (ap (λ (x : List ℕ). take n x) (drop-take at (y .size) s (omega arith)) ∙ take-take n (y .size - at) (drop at s) (omega arith)
       ∙ ap (λ (x : List ℕ). take n x) (drop-drop at (clusterAt y k) d))
-    where
-      drop-take : (i j : ℕ) (s : List ℕ) → i ≤ j → drop i (take j s) ≡ take (j - i) (drop i s)
-      drop-take zero j s h = rw sub-zero refl
-      drop-take (suc i) zero s h = absurd (omega arith)
-      drop-take (suc i) (suc j) [] h = sym (take-nil {A = ℕ} (suc j - suc i))
-      drop-take (suc i) (suc j) (x ∷ s) h =
-          let e : j - i ≡ suc j - suc i = omega arith in
-          drop-take i j s (omega arith) ∙ ap (λ (n : ℕ). take n (drop i s)) e
 
   -- a turn of a loop that reads
   module _ (fat : ℕ → ℕ) (run : Bool) (k n : ℕ) (some : 0 < n) (h : every (inHeap (y .count)) (along fat run k n) ≡ true) (at : ℕ) (low : at < y .size) where

@@ -26,8 +26,8 @@ use Rattle.write_extend.specs.Extend.{moreCause, inPlace, longerRun, longer, ex
 use Rattle.write_alloc.specs.Outcome.{wrap, spaceCause}
 use Rattle.write_shrink.specs.Shrink.{systemCause}
 use Rattle.write_alloc.specs.Take.{markRun}
-use Rattle.write_dir.specs.Directory.{chainRecord, rootRecord, bitmapCause, directoryCause, clustersIn, bytesIn}
-use Rattle.write_dir.specs.Entries.{entryCount, typeAt, beforeEnd, isFile, entriesAt, setAt, isSound}
+use Rattle.directory.specs.Directory.{chainRecord, rootRecord, bitmapCause, directoryCause, clustersIn, bytesIn}
+use Rattle.directory.specs.Entries.{entryCount, typeAt, beforeEnd, isFile, entriesAt, setAt, isSound}
 use Rattle.write_dir.specs.Open.{fileRecord, entryCause, attributeCause, streamCause, setIn, fileCause}
 use Rattle.write_dir.specs.Outcome.{carried}
 use Rattle.write_file.specs.Refresh.{entriesOf, recorded, stored, missing, lengthCause, openCause}

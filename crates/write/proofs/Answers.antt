@@ -13,7 +13,7 @@ use Rattle.boot.specs.declared.geometry.Geometry.{Geometry}
 use Rattle.boot.specs.declared.layout.Layout.{Layout}
 use Rattle.boot.specs.Limits.{limits}
 use Rattle.boot.specs.Causes.{limitsCause}
-use Rattle.boot.proofs.CauseLaws.{cause-skip, cause-last}
+use Rattle.boot.proofs.CauseLaws.{cause-skip, cause-last, cause-none}
 use Rattle.stream.specs.declared.allocation.Allocation.{Allocation}
 use Rattle.entry_set.specs.declared.stamp.Stamp.{Stamp}
 use Rattle.entry_set.specs.declared.stamp.Stamps.{Stamps}
@@ -21,15 +21,14 @@ use Rattle.entry_set.specs.Fields.{dataLength, clustersFor}
 use Rattle.entry_set.specs.New.{newEntries, newSet}
 use Rattle.write_alloc.specs.Outcome.{spaceCause}
 use Rattle.write_shrink.specs.Shrink.{shrinkIn}
+use Rattle.directory.specs.Directory.{clustersIn}
 use Rattle.write_dir.specs.Outcome.{Outcome, refuse, carried}
-use Rattle.write_dir.specs.Directory.{clustersIn}
 use Rattle.write_dir.specs.Open.{fileRecord, setIn}
 use Rattle.write_dir.specs.Place.{growBy}
 use Rattle.write_file.specs.NewFile.{newGrowth, newCause, placed, newFileIn, newFile}
 use Rattle.write_file.specs.Refresh.{missing, lengthCause, openCause}
 use Rattle.write_file.specs.Write.{larger, endCause, dataCause, writeCause, written, refreshedOnly, writeIn, writeInto}
 use Rattle.write_length.specs.SetLength.{setLengthCause, shorter, longerFile, resized, setLengthIn, setLength}
-use Rattle.write_file.proofs.OpenLaws.{cause-none}
 use Rattle.write_remove.specs.Remove.{unlinked, removeIn, remove}
 use Rattle.write.specs.Calls.{Call, New, Write, SetLength, Remove, step}
 use Rattle.write.specs.Consistent.{lay, root, rootBytes, setOf}

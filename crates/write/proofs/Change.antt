@@ -24,13 +24,13 @@ use Rattle.stream.specs.Chain.{Clusters}
 use Rattle.stream.specs.Stream.{streamOf}
 use Rattle.stream.specs.Listing.{clustersOf}
 use Rattle.entry_set.specs.Fields.{isDirectory, validLength, dataLength, clustersFor}
-use Rattle.write_dir.specs.Directory.{rootRecord, clustersIn, bytesIn}
-use Rattle.write_dir.specs.Entries.{entryCount, isFile, entriesAt, setAt, isSound, sets}
+use Rattle.directory.specs.Directory.{rootRecord, clustersIn, bytesIn}
+use Rattle.directory.specs.Entries.{entryCount, isFile, entriesAt, setAt, isSound, sets}
+use Rattle.directory.proofs.EntryLaws.{sound-file}
+use Rattle.directory.proofs.FitLaws.{fit-low}
+use Rattle.directory.proofs.OrderedLaws.{Ordered, file-room, file-fit, files-apart}
+use Rattle.directory.proofs.StoreLaws.{sets-file, sets-none}
 use Rattle.write_dir.specs.Open.{fileRecord}
-use Rattle.write_dir.proofs.EntryLaws.{sound-file}
-use Rattle.write_dir.proofs.FitLaws.{fit-low}
-use Rattle.write_dir.proofs.OrderedLaws.{Ordered, file-room, file-fit, files-apart}
-use Rattle.write_dir.proofs.StoreLaws.{sets-file, sets-none}
 use Rattle.write.specs.Consistent.{Consistent, lay, root, rootClusters, rootBytes, fileAt, setOf, streamAt, fileClusters}
 use Rattle.write.specs.Contents.{shown, hasFile, contents}
 use Rattle.write.specs.Space.{lengthTakes, sum, clustersTaken}

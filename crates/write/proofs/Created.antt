@@ -16,6 +16,7 @@ use Rattle.boot.specs.declared.geometry.Geometry.{Geometry}
 use Rattle.boot.specs.declared.layout.Layout.{Layout}
 use Rattle.boot.specs.Layout.{inHeap}
 use Rattle.boot.specs.Causes.{heapCause}
+use Rattle.boot.proofs.CauseLaws.{cause-none}
 use Rattle.metadata.specs.Usable.{isUsable}
 use Rattle.metadata.proofs.Frame.{Fits, fits-kept}
 use Rattle.stream.specs.declared.allocation.Allocation.{Allocation}
@@ -28,16 +29,16 @@ use Rattle.entry_set.specs.New.{newEntries, newSet}
 use Rattle.entry_set.proofs.SetLaws.{new-length, new-zero, new-entries, new-valid, new-data, new-directory, new-few, new-formed}
 use Rattle.entry_set.proofs.LengthLaws.{clusters-none}
 use Rattle.write_alloc.specs.Outcome.{empty, spaceCause}
+use Rattle.directory.specs.Directory.{rootRecord, clustersIn, bytesIn}
+use Rattle.directory.specs.Entries.{entryCount, sets}
+use Rattle.directory.specs.Room.{freeRun, slotOf, withZeros, growth}
+use Rattle.directory.proofs.FitLaws.{Fit}
+use Rattle.directory.proofs.DirectoryLaws.{clusters-length}
 use Rattle.write_dir.specs.Outcome.{carried}
-use Rattle.write_dir.specs.Directory.{rootRecord, clustersIn, bytesIn}
-use Rattle.write_dir.specs.Entries.{entryCount, sets}
 use Rattle.write_dir.specs.Open.{fileRecord}
-use Rattle.write_dir.specs.Place.{Grown, freeRun, slotOf, withZeros, growth, growBy}
-use Rattle.write_dir.proofs.FitLaws.{Fit}
+use Rattle.write_dir.specs.Place.{Grown, growBy}
 use Rattle.write_dir.proofs.InsertLaws.{insert-room, insert-free, insert-ordered, insert-sets}
-use Rattle.write_dir.proofs.PlaceLaws.{clusters-length}
 use Rattle.write_file.specs.NewFile.{newGrowth, newCause, placed}
-use Rattle.write_file.proofs.OpenLaws.{cause-none}
 use Rattle.write_file.proofs.NewFileLaws.{space-enough}
 use Rattle.write.specs.Calls.{New, step}
 use Rattle.write.specs.Consistent.{Consistent, lay, root, rootBytes}

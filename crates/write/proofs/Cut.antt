@@ -21,12 +21,12 @@ use Rattle.stream.specs.Stream.{streamOf}
 use Rattle.stream.specs.Bytes.{storeAt}
 use Rattle.entry_set.specs.Fields.{dataLength, clustersFor}
 use Rattle.write_shrink.specs.Shrink.{keptRecord, shrinkIn}
-use Rattle.write_dir.specs.Directory.{clustersIn, bytesIn}
-use Rattle.write_dir.specs.Entries.{entriesAt, sets}
+use Rattle.directory.specs.Directory.{clustersIn, bytesIn}
+use Rattle.directory.specs.Entries.{entriesAt, sets}
+use Rattle.directory.proofs.FitLaws.{Fit, fit-high}
+use Rattle.directory.proofs.OrderedLaws.{Ordered, file-room}
+use Rattle.directory.proofs.StoreLaws.{sets-some}
 use Rattle.write_dir.specs.Open.{fileRecord}
-use Rattle.write_dir.proofs.FitLaws.{Fit, fit-high}
-use Rattle.write_dir.proofs.OrderedLaws.{Ordered, file-room}
-use Rattle.write_dir.proofs.StoreLaws.{sets-some}
 use Rattle.write_file.specs.Refresh.{entriesOf, openCause}
 use Rattle.write.specs.Consistent.{Consistent, lay, root, rootClusters, rootBytes, setOf}
 use Rattle.write.proofs.Family.{Moved, Stored, same-clusters, moved-clusters, kept-member, store-member}

@@ -24,8 +24,8 @@ use Rattle.entry_set.specs.Fields.{entryType, secondaryCount, setChecksum, isDi
 use Rattle.entry_set.specs.Sound.{headOk, streamEntryOk, namesOk, lengthsOk, wellFormed}
 use Rattle.write_alloc.specs.Choice.{allFrom}
 use Rattle.write_shrink.specs.Shrink.{systemCause}
-use Rattle.write_dir.specs.Directory.{chainRecord, rootRecord, bitmapCause, directoryCause, clustersIn, bytesIn}
-use Rattle.write_dir.specs.Entries.{entryCount, typeAt, inUse, beforeEnd, isFile, entriesAt, setAt, isSound}
+use Rattle.directory.specs.Directory.{chainRecord, rootRecord, bitmapCause, directoryCause, clustersIn, bytesIn}
+use Rattle.directory.specs.Entries.{entryCount, typeAt, inUse, beforeEnd, isFile, entriesAt, setAt, isSound}
 use Rattle.write_dir.specs.Open.{fileRecord, streamCause}
 use Rattle.write.specs.Consistent.{Consistent, lay, root, rootClusters, rootBytes, setOf, streamAt}
 use Rattle.write.specs.Contents.{shown, hasFile, contents}

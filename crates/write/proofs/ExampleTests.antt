@@ -20,8 +20,8 @@ use Rattle.boot.proofs.Tests.{and-left, and-right, and-both}
 use Rattle.metadata.specs.Marks.{marked}
 use Rattle.write_alloc.specs.Choice.{allFrom}
 use Rattle.write_alloc.proofs.ChoiceLaws.{all-whole}
-use Rattle.write_dir.specs.Directory.{directoryCause, clustersIn}
-use Rattle.write_dir.specs.Entries.{typeAt, inUse, beforeEnd, isFile, entriesAt, setAt, isSound}
+use Rattle.directory.specs.Directory.{directoryCause, clustersIn}
+use Rattle.directory.specs.Entries.{typeAt, inUse, beforeEnd, isFile, entriesAt, setAt, isSound}
 use Rattle.write_dir.specs.Open.{fileRecord, streamCause}
 use Rattle.write.specs.Consistent.{Consistent, lay, root, rootClusters, rootBytes, fileAt, setOf, streamAt, fileClusters}
 use Rattle.write.specs.Demand.{Lost}

@@ -34,8 +34,8 @@ use Rattle.stream.specs.Bytes.{clusterBytes, bytesOf, storeAt}
 use Rattle.stream.proofs.Distinct.{stream-frame}
 use Rattle.stream.proofs.BytesLaws.{length-store, fat-store, mark-store, cluster-store, bytes-store-apart, bytes-store}
 use Rattle.write_alloc.proofs.GrowLaws.{small}
-use Rattle.write_dir.specs.Directory.{clustersIn, bytesIn}
-use Rattle.write_dir.proofs.PlaceLaws.{clusters-heap}
+use Rattle.directory.specs.Directory.{clustersIn, bytesIn}
+use Rattle.directory.proofs.DirectoryLaws.{clusters-heap}
 use Rattle.write.proofs.Reading.{clusters-of, number-of, reads-as, empty-reads, clusters-distinct}
 
 -- records that read, with no bitmap cluster, and no two of them with a cluster in common

@@ -17,10 +17,10 @@ use Rattle.boot.specs.Limits.{inMap}
 use Rattle.metadata.proofs.Counting.{markedCount}
 use Rattle.stream.specs.declared.allocation.Allocation.{Allocation}
 use Rattle.stream.specs.Stream.{streamOf}
-use Rattle.write_dir.specs.Directory.{rootRecord, clustersIn, bytesIn}
-use Rattle.write_dir.specs.Entries.{sets}
+use Rattle.directory.specs.Directory.{rootRecord, clustersIn, bytesIn}
+use Rattle.directory.specs.Entries.{sets}
+use Rattle.directory.proofs.OrderedLaws.{Ordered}
 use Rattle.write_dir.specs.Open.{fileRecord}
-use Rattle.write_dir.proofs.OrderedLaws.{Ordered}
 use Rattle.write.specs.Consistent.{lay, rootClusters, rootBytes}
 use Rattle.write.proofs.Family.{Family, Outside, Untouched, Moved, untouched-same, untouched-again}
 use Rattle.write.proofs.Scene.{members, member-file}

@@ -8,13 +8,13 @@ use native.Mathlib.Omega.{arith}
 use Rattle.boot.specs.declared.geometry.Geometry.{Geometry}
 use Rattle.boot.specs.Layout.{inHeap}
 use Rattle.boot.specs.Causes.{heapCause}
+use Rattle.boot.proofs.CauseLaws.{cause-none}
 use Rattle.entry_set.specs.Fields.{isDirectory}
-use Rattle.write_dir.specs.Entries.{isSound, sets}
+use Rattle.directory.specs.Entries.{isSound, sets}
+use Rattle.directory.proofs.EntryLaws.{sound-file}
+use Rattle.directory.proofs.StoreLaws.{sets-file}
 use Rattle.write_dir.specs.Open.{entryCause, attributeCause, setIn, fileCause}
-use Rattle.write_dir.proofs.EntryLaws.{sound-file}
-use Rattle.write_dir.proofs.StoreLaws.{sets-file}
 use Rattle.write_file.specs.Refresh.{openCause}
-use Rattle.write_file.proofs.OpenLaws.{cause-none}
 use Rattle.write.specs.Consistent.{lay, root, rootBytes, setOf}
 use Rattle.write.proofs.Scene.{both-clear, if-clear}
 

@@ -31,7 +31,7 @@ use Rattle.stream.proofs.BytesLaws.{length-of}
 use Rattle.entry_set.specs.Fields.{noFatChain, firstCluster, dataLength, clustersFor}
 use Rattle.write_alloc.specs.Outcome.{empty}
 use Rattle.write_alloc.proofs.GrowLaws.{small}
-use Rattle.write_dir.specs.Directory.{chainRecord, rootRecord, clustersIn, bytesIn}
+use Rattle.directory.specs.Directory.{chainRecord, rootRecord, clustersIn, bytesIn}
 use Rattle.write_dir.specs.Open.{fileRecord}
 use Rattle.write_file.proofs.RefreshLaws.{stream-is}
 

@@ -18,9 +18,9 @@ use Rattle.entry_set.specs.Fields.{isDirectory, noFatChain, validLength, firstC
 use Rattle.entry_set.proofs.SetLaws.{StreamFits, refreshed-length, refreshed-byte, refreshed-count, refreshed-directory, refreshed-run, refreshed-valid, refreshed-first, refreshed-data, refreshed-formed}
 use Rattle.entry_set.proofs.LengthLaws.{clusters-hold, clusters-none, clusters-some}
 use Rattle.write_alloc.specs.Outcome.{empty}
+use Rattle.directory.proofs.FitLaws.{Fit, fit-low}
+use Rattle.directory.proofs.CursorLaws.{count-few}
 use Rattle.write_dir.specs.Open.{fileRecord}
-use Rattle.write_dir.proofs.FitLaws.{Fit, fit-low}
-use Rattle.write_dir.proofs.CursorLaws.{count-few}
 use Rattle.write_file.specs.Refresh.{entriesOf, recorded}
 use Rattle.write.proofs.Reading.{number-of, first-heap, run-ends, file-back}
 

@@ -18,12 +18,12 @@ use Rattle.entry_set.specs.Fields.{entryType, secondaryCount}
 use Rattle.entry_set.specs.Put.{cleared}
 use Rattle.entry_set.proofs.SetLaws.{cleared-length, cleared-unused, cleared-not-end}
 use Rattle.write_shrink.specs.Shrink.{shrinkIn}
+use Rattle.directory.specs.Directory.{clustersIn}
+use Rattle.directory.specs.Entries.{entriesAt, sets}
+use Rattle.directory.proofs.FitLaws.{Fit, fit-high}
+use Rattle.directory.proofs.StoreLaws.{sets-some, removed-ordered, removed-sets}
 use Rattle.write_dir.specs.Outcome.{carried}
-use Rattle.write_dir.specs.Directory.{clustersIn}
-use Rattle.write_dir.specs.Entries.{entriesAt, sets}
 use Rattle.write_dir.specs.Open.{fileRecord, setIn}
-use Rattle.write_dir.proofs.FitLaws.{Fit, fit-high}
-use Rattle.write_dir.proofs.StoreLaws.{sets-some, removed-ordered, removed-sets}
 use Rattle.write_file.specs.Refresh.{entriesOf, openCause}
 use Rattle.write_remove.specs.Remove.{unlinked}
 use Rattle.write.specs.Calls.{Remove, step}

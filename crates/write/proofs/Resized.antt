@@ -41,8 +41,8 @@ use Rattle.write_alloc.proofs.GrowLaws.{Grown, small, grown-other}
 use Rattle.write_extend.proofs.EnoughLaws.{Took, extend-done}
 use Rattle.write_shrink.proofs.Cutting.{shrink-by}
 use Rattle.write_shrink.proofs.ShrinkLaws.{Shrunk, cut-reads, cut-shrunk}
-use Rattle.write_dir.specs.Directory.{clustersIn, bytesIn}
-use Rattle.write_dir.proofs.PlaceLaws.{clusters-heap, clusters-length}
+use Rattle.directory.specs.Directory.{clustersIn, bytesIn}
+use Rattle.directory.proofs.DirectoryLaws.{clusters-heap, clusters-length}
 use Rattle.write.proofs.Reading.{clusters-of, number-of, reads-as, empty-reads, reads, clusters-marked, count-is}
 use Rattle.write.proofs.Family.{Family, Outside, Moved, plain-at, moved}
 

@@ -30,14 +30,14 @@ use Rattle.entry_set.specs.Fields.{isDirectory, validLength, dataLength, cluste
 use Rattle.entry_set.proofs.LengthLaws.{clusters-hold, clusters-mono}
 use Rattle.write_alloc.specs.Outcome.{empty}
 use Rattle.write_extend.specs.Extend.{extendIn}
+use Rattle.directory.specs.Directory.{clustersIn, bytesIn}
+use Rattle.directory.specs.Entries.{isFile, entriesAt, sets}
+use Rattle.directory.proofs.DirectoryLaws.{clusters-length}
+use Rattle.directory.proofs.FitLaws.{Fit}
+use Rattle.directory.proofs.OrderedLaws.{file-room}
+use Rattle.directory.proofs.StoreLaws.{sets-some, replaced-ordered, replaced-sets}
 use Rattle.write_dir.specs.Outcome.{carried}
-use Rattle.write_dir.specs.Directory.{clustersIn, bytesIn}
-use Rattle.write_dir.specs.Entries.{isFile, entriesAt, sets}
 use Rattle.write_dir.specs.Open.{fileRecord}
-use Rattle.write_dir.proofs.PlaceLaws.{clusters-length}
-use Rattle.write_dir.proofs.FitLaws.{Fit}
-use Rattle.write_dir.proofs.OrderedLaws.{file-room}
-use Rattle.write_dir.proofs.StoreLaws.{sets-some, replaced-ordered, replaced-sets}
 use Rattle.write_file.specs.Refresh.{entriesOf, recorded, stored, missing}
 use Rattle.write.specs.Calls.{Call, New, step}
 use Rattle.write.specs.Consistent.{Consistent, lay, root, rootClusters, rootBytes}

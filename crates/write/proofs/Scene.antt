@@ -21,7 +21,7 @@ use Rattle.boot.specs.Causes.{firstCause}
 use Rattle.boot.proofs.Accepted.{accepted-of}
 use Rattle.boot.proofs.Places.{laid-of}
 use Rattle.boot.proofs.Apart.{apart-of}
-use Rattle.boot.proofs.CauseLaws.{cause-skip, cause-last}
+use Rattle.boot.proofs.CauseLaws.{cause-skip, cause-last, cause-none}
 use Rattle.metadata.specs.Fat.{fatEntry}
 use Rattle.metadata.specs.Marks.{marked}
 use Rattle.metadata.proofs.Frame.{Fits}
@@ -36,14 +36,13 @@ use Rattle.stream.proofs.ListingLaws.{stream-read}
 use Rattle.stream.proofs.BytesLaws.{length-of}
 use Rattle.entry_set.specs.Fields.{dataLength, clustersFor}
 use Rattle.write_shrink.specs.Shrink.{systemCause}
-use Rattle.write_dir.specs.Directory.{chainRecord, rootRecord, bitmapCause, directoryCause, clustersIn, bytesIn}
-use Rattle.write_dir.specs.Entries.{entryCount, entriesAt, sets}
+use Rattle.directory.specs.Directory.{chainRecord, rootRecord, bitmapCause, directoryCause, clustersIn, bytesIn}
+use Rattle.directory.specs.Entries.{entryCount, entriesAt, sets}
+use Rattle.directory.proofs.FitLaws.{Fit}
+use Rattle.directory.proofs.OrderedLaws.{Ordered, file-fit}
+use Rattle.directory.proofs.StoreLaws.{sets-some}
 use Rattle.write_dir.specs.Open.{fileRecord, streamCause}
-use Rattle.write_dir.proofs.FitLaws.{Fit}
-use Rattle.write_file.proofs.OpenLaws.{cause-none}
 use Rattle.write_file.proofs.CallLaws as call
-use Rattle.write_dir.proofs.OrderedLaws.{Ordered, file-fit}
-use Rattle.write_dir.proofs.StoreLaws.{sets-some}
 use Rattle.write.specs.Consistent.{Consistent, lay, root, rootClusters, rootBytes, fileAt, setOf, streamAt, fileClusters}
 use Rattle.write.specs.Demand.{Lost}
 use Rattle.write.proofs.Reading.{reads-as, root-back, record-count}

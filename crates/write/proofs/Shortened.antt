@@ -25,13 +25,13 @@ use Rattle.entry_set.proofs.SetLaws.{formed-lengths}
 use Rattle.entry_set.proofs.LengthLaws.{clusters-hold, clusters-mono}
 use Rattle.write_alloc.specs.Outcome.{empty}
 use Rattle.write_shrink.specs.Shrink.{keptRecord, shrinkIn}
+use Rattle.directory.specs.Directory.{clustersIn, bytesIn}
+use Rattle.directory.specs.Entries.{entriesAt, sets}
+use Rattle.directory.proofs.FitLaws.{Fit}
+use Rattle.directory.proofs.StoreLaws.{sets-some, replaced-ordered, replaced-sets}
+use Rattle.directory.proofs.DirectoryLaws.{clusters-length}
 use Rattle.write_dir.specs.Outcome.{carried}
-use Rattle.write_dir.specs.Directory.{clustersIn, bytesIn}
-use Rattle.write_dir.specs.Entries.{entriesAt, sets}
 use Rattle.write_dir.specs.Open.{fileRecord, setIn}
-use Rattle.write_dir.proofs.FitLaws.{Fit}
-use Rattle.write_dir.proofs.StoreLaws.{sets-some, replaced-ordered, replaced-sets}
-use Rattle.write_dir.proofs.PlaceLaws.{clusters-length}
 use Rattle.write_file.specs.Refresh.{entriesOf, recorded, stored, openCause}
 use Rattle.write_length.specs.SetLength.{smaller, setLengthCause, shorter, resized}
 use Rattle.write.specs.Calls.{SetLength, step}

@@ -6,10 +6,11 @@ use mathlib.Core.List.{[], List, _++_, append-assoc, append-nil}
 use Prim.Native.Nat.{ℕ, _+_, _-_, _≤_, _<_}
 use native.Mathlib.Decide.{decLt}
 use native.Mathlib.Omega.{arith}
-use lib.ListN.{length, getD, take, drop, replicate, length-append, length-take, length-drop, length-replicate, getD-replicate, replicate-append-replicate, List·getD-append, List·getD-eq-default}
+use lib.ListN.{length, getD, take, drop, replicate, length-append, length-take, length-drop, length-replicate, replicate-append-replicate, List·getD-append, List·getD-eq-default}
 use lib.Seq.{length-take-le, take-all, take-append-le, take-at, getD-take, getD-drop, getD-append-add, ext-getD}
 use Rattle.primitives.specs.Splice.{splice}
 use Rattle.primitives.proofs.SpliceLaws.{length-splice, splice-in, splice-off}
+use Rattle.entry_set.proofs.NewLaws.{getD-zeros}
 use Rattle.write_file.specs.Write.{larger}
 use Rattle.write_length.specs.SetLength.{smaller}
 use Rattle.write.specs.Contents.{shown}
@@ -24,13 +25,6 @@ at-right : (a b : List ℕ) (i : ℕ) → length a ≤ i → getD (a ++ b) i 0 �
 at-right a b i h =
     let e : i ≡ length a + (i - length a) = omega arith in
     ap (λ (x : ℕ). getD (a ++ b) x 0) e ∙ getD-append-add a b (i - length a) 0
-
-at-zeros : (n i : ℕ) → _≡_ {A = ℕ} (getD (replicate n 0) i 0) 0
-at-zeros n i =
-    elim (decLt i n) [
-      | yes h ↦ getD-replicate n i 0 0 h
-      | no h ↦ List·getD-eq-default (replicate n 0) 0 (rw length-replicate (omega arith))
-    ]
 
 -- ---- what is shown, by place
 
@@ -47,7 +41,7 @@ module _ (bs : List ℕ) (valid len : ℕ) (stored : valid ≤ length bs) (v : v
   unfolding shown
   shown-above i h =
       at-right (take valid bs) (replicate (len - valid) 0) i (rw (length-take-le valid bs stored) h)
-      ∙ at-zeros (len - valid) (i - length (take valid bs))
+      ∙ getD-zeros (len - valid) (i - length (take valid bs))
 
 -- it depends on the bytes below valid alone
 pub shown-front : (bs cs : List ℕ) (valid len : ℕ) → valid ≤ length bs → shown (bs ++ cs) valid len ≡ shown bs valid len
@@ -88,7 +82,7 @@ module _ (l : List ℕ) (offset : ℕ) (bs : List ℕ) where
       ∙ getD-take offset (l ++ replicate (offset - length l) 0) i 0 h
       ∙ elim (decLt i (length l)) [
         | yes p ↦ at-left l (replicate (offset - length l) 0) i p
-        | no p ↦ at-right l (replicate (offset - length l) 0) i (omega arith) ∙ at-zeros (offset - length l) (i - length l)
+        | no p ↦ at-right l (replicate (offset - length l) 0) i (omega arith) ∙ getD-zeros (offset - length l) (i - length l)
             ∙ sym (List·getD-eq-default l 0 (omega arith))
       ]
 
@@ -141,7 +135,7 @@ module _ (R : List ℕ) (valid len offset : ℕ) (bs : List ℕ) (stored : valid
       let e : i ≡ valid + (i - valid) = omega arith in
       ap (λ (x : ℕ). getD zeroed x 0) e
       ∙ splice-in R valid (replicate (offset - valid) 0) (omega (arith, zeros)) (i - valid) (omega (arith, zeros))
-      ∙ at-zeros (offset - valid) (i - valid)
+      ∙ getD-zeros (offset - valid) (i - valid)
 
   write-all : 1 ≤ length bs
       → shown written (larger valid (offset + length bs)) (larger len (offset + length bs)) ≡ overwrite (shown R valid len) offset bs

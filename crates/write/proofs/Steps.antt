@@ -15,9 +15,9 @@ use Rattle.boot.specs.declared.geometry.Geometry.{Geometry}
 use Rattle.boot.specs.declared.layout.Layout.{Layout}
 use Rattle.metadata.specs.Marks.{allocatedCount}
 use Rattle.entry_set.specs.declared.stamp.Stamps.{Stamps}
+use Rattle.directory.specs.Entries.{sets}
 use Rattle.write_dir.specs.declared.answer.FileAnswer.{FileAnswer}
 use Rattle.write_dir.specs.Outcome.{Outcome, carried}
-use Rattle.write_dir.specs.Entries.{sets}
 use Rattle.write.specs.Calls.{Call, New, Write, SetLength, Remove, step, run, answers}
 use Rattle.write.specs.Consistent.{Consistent, lay, rootBytes, fileAt, setOf}
 use Rattle.write.specs.Contents.{contents}

@@ -29,9 +29,9 @@ use Rattle.entry_set.proofs.LengthLaws.{clusters-some}
 use Rattle.write_alloc.specs.Outcome.{Outcome}
 use Rattle.write_extend.specs.Extend.{extendIn}
 use Rattle.write_extend.proofs.ExtendLaws.{extend-none}
+use Rattle.directory.specs.Directory.{clustersIn, bytesIn}
+use Rattle.directory.specs.Entries.{sets}
 use Rattle.write_dir.specs.Outcome.{carried}
-use Rattle.write_dir.specs.Directory.{clustersIn, bytesIn}
-use Rattle.write_dir.specs.Entries.{sets}
 use Rattle.write_dir.specs.Open.{fileRecord, setIn}
 use Rattle.write_file.specs.Refresh.{recorded, stored, missing, lengthCause, openCause}
 use Rattle.write_file.specs.Write.{larger, dataCause, writeCause, withData, written, refreshedOnly}

@@ -23,11 +23,12 @@ use Rattle.stream.specs.Chain.{listed}
 use Rattle.stream.specs.Stream.{streamOf}
 use Rattle.stream.proofs.Distinct.{stream-frame}
 use Rattle.write_alloc.proofs.GrowLaws.{small}
-use Rattle.write_dir.specs.Directory.{clustersIn, bytesIn}
-use Rattle.write_dir.specs.Place.{withZeros, Grown, growBy}
+use Rattle.directory.specs.Directory.{clustersIn, bytesIn}
+use Rattle.directory.specs.Room.{withZeros}
+use Rattle.directory.proofs.DirectoryLaws.{clusters-heap, clusters-length}
+use Rattle.write_dir.specs.Place.{Grown, growBy}
 use Rattle.write_dir.proofs.AddedLaws.{Zeroed, zeroed-clusters, zeroed-count, grow-many}
 use Rattle.write_dir.proofs.GrownLaws.{zeroed-off, zeroed-bytes, zeroed-in, Led, grow-led}
-use Rattle.write_dir.proofs.PlaceLaws.{clusters-heap, clusters-length}
 use Rattle.write.proofs.Reading.{number-of, reads-as}
 use Rattle.write.proofs.Family.{Family, Outside, Moved, plain-at, moved}
 use Rattle.write.proofs.Resized.{Mapped}

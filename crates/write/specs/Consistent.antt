@@ -12,8 +12,8 @@ use Rattle.boot.specs.Geometry.{rootCluster}
 use Rattle.boot.specs.Limits.{limits}
 use Rattle.boot.specs.Layout.{layoutOf}
 use Rattle.stream.specs.declared.allocation.Allocation.{Allocation}
-use Rattle.write_dir.specs.Directory.{rootRecord, directoryCause, clustersIn, bytesIn}
-use Rattle.write_dir.specs.Entries.{typeAt, inUse, isFile, entriesAt, setAt, isSound}
+use Rattle.directory.specs.Directory.{rootRecord, directoryCause, clustersIn, bytesIn}
+use Rattle.directory.specs.Entries.{typeAt, inUse, isFile, entriesAt, setAt, isSound}
 use Rattle.write_dir.specs.Open.{fileRecord, streamCause}
 
 -- the places of the volume's parts

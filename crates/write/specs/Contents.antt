@@ -6,8 +6,8 @@ use Prim.Native.Nat.{ℕ, _-_}
 use lib.ListN.{take, replicate}
 use Rattle.boot.specs.declared.geometry.Geometry.{Geometry}
 use Rattle.entry_set.specs.Fields.{isDirectory, validLength, dataLength}
-use Rattle.write_dir.specs.Directory.{bytesIn}
-use Rattle.write_dir.specs.Entries.{isSound}
+use Rattle.directory.specs.Directory.{bytesIn}
+use Rattle.directory.specs.Entries.{isSound}
 use Rattle.write.specs.Consistent.{lay, rootBytes, setOf, streamAt}
 
 -- a stream's bytes as a file shows them

@@ -10,8 +10,8 @@ use Rattle.boot.specs.Causes.{firstCause, limitsCause, heapCause}
 use Rattle.metadata.specs.Usable.{isUsable}
 use Rattle.entry_set.specs.Fields.{dataLength, clustersFor}
 use Rattle.entry_set.specs.Name.{nameCause, attributeCause}
-use Rattle.write_dir.specs.Directory.{directoryCause}
-use Rattle.write_dir.specs.Entries.{entryCount}
+use Rattle.directory.specs.Directory.{directoryCause}
+use Rattle.directory.specs.Entries.{entryCount}
 use Rattle.write_file.specs.NewFile.{newGrowth}
 use Rattle.write_file.specs.Refresh.{openCause}
 use Rattle.write_file.specs.Write.{larger, endCause}

@@ -39,8 +39,8 @@ use Rattle.write_alloc.specs.Outcome.{Outcome}
 use Rattle.write_extend.specs.Extend.{extendIn}
 use Rattle.write_alloc.proofs.GrowLaws.{small, fresh-unmarked}
 use Rattle.write_extend.proofs.EnoughLaws.{Took, extend-done, usable-grown}
+use Rattle.directory.specs.Directory.{clustersIn}
 use Rattle.write_dir.specs.declared.place.Added.{Added}
-use Rattle.write_dir.specs.Directory.{clustersIn}
 use Rattle.write_dir.specs.Place.{Grown, standing, addedOf, growOne, growBy, Growable}
 
 -- ---- lists

@@ -29,8 +29,9 @@ use Rattle.write_alloc.specs.Outcome.{Outcome}
 use Rattle.write_extend.specs.Extend.{extendIn, inPlace, longer, longerRun, longerChain}
 use Rattle.write_extend.proofs.ExtendLaws.{longer-in, longer-out}
 use Rattle.write_extend.proofs.EnoughLaws.{grow-longer}
-use Rattle.write_dir.specs.Directory.{clustersIn, bytesIn}
-use Rattle.write_dir.specs.Place.{withZeros, Grown, growOne, growBy}
+use Rattle.directory.specs.Directory.{clustersIn, bytesIn}
+use Rattle.directory.specs.Room.{withZeros}
+use Rattle.write_dir.specs.Place.{Grown, growOne, growBy}
 use Rattle.write_dir.proofs.AddedLaws.{Zeroed, zeroed-clusters, zeroed-count, grow-one}
 
 module _ (y : Layout) (d m : List ℕ) (w : Grown) (old new : List ℕ) (fits : Fits y d) (z : Zeroed y d m w old new) where

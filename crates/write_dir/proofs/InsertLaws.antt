@@ -11,12 +11,12 @@ use lib.ListN.{take}
 use Rattle.primitives.specs.Splice.{splice}
 use Rattle.tables.specs.Table.{upd}
 use Rattle.metadata.specs.declared.usable.Found.the-variants.{At}
-use Rattle.write_dir.specs.Entries.{entryCount, sets}
-use Rattle.write_dir.specs.Place.{freeRun, slotOf, withZeros, growth}
-use Rattle.write_dir.proofs.FitLaws.{Fit}
-use Rattle.write_dir.proofs.OrderedLaws.{Ordered}
-use Rattle.write_dir.proofs.StoreLaws.{new-room, new-free, new-ordered, new-sets}
-use Rattle.write_dir.proofs.GrowthLaws.{grown-ordered, grown-sets, place-at, grown-at}
+use Rattle.directory.specs.Entries.{entryCount, sets}
+use Rattle.directory.specs.Room.{freeRun, slotOf, withZeros, growth}
+use Rattle.directory.proofs.FitLaws.{Fit}
+use Rattle.directory.proofs.OrderedLaws.{Ordered}
+use Rattle.directory.proofs.StoreLaws.{new-room, new-free, new-ordered, new-sets}
+use Rattle.directory.proofs.GrowthLaws.{grown-ordered, grown-sets, place-at, grown-at}
 
 upd-at {ℓ} : {A : Type ℓ} (f f′ : ℕ → A) (k : ℕ) (v : A) (j : ℕ) → f′ j ≡ f j → upd f′ k v j ≡ upd f k v j
 unfolding upd

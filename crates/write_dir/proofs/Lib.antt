@@ -1,15 +1,5 @@
-pub mod EntryLaws
-pub mod FitLaws
-pub mod OrderedLaws
-pub mod StoreLaws
-pub mod GrowthLaws
 pub mod InsertLaws
-pub mod DirectoryLaws
 pub mod PlaceLaws
-pub mod CursorLaws
-pub mod EndLaws
-pub mod RoomLaws
-pub mod WindowLaws
 pub mod AddedLaws
 pub mod GrownLaws
 pub mod OpenLaws

@@ -39,14 +39,14 @@ use Rattle.entry_set.specs.Fields.{noFatChain, firstCluster, dataLength, cluste
 use Rattle.entry_set.specs.Sound.{wellFormed}
 use Rattle.write_alloc.specs.Outcome.{empty}
 use Rattle.write_shrink.specs.Shrink.{systemCause}
+use Rattle.directory.specs.Directory.{clustersIn, bytesIn}
+use Rattle.directory.specs.Entries.{entryCount, typeAt, isFile, entriesAt, wholeSet, setAt, isSound}
+use Rattle.directory.proofs.EntryLaws.{sound-file, sound-few, sound-room, sound-formed, sound-of}
+use Rattle.directory.proofs.CursorLaws.{bytes-along, dir-heap, slot-bytes, along-at}
+use Rattle.directory.proofs.DirectoryLaws.{clusters-along}
 use Rattle.write_dir.specs.declared.place.Spot.{Spot}
-use Rattle.write_dir.specs.Directory.{clustersIn, bytesIn}
-use Rattle.write_dir.specs.Entries.{entryCount, typeAt, isFile, entriesAt, wholeSet, setAt, isSound}
 use Rattle.write_dir.specs.Place.{spotOf}
 use Rattle.write_dir.specs.Open.{fileRecord, entryCause, attributeCause, streamCause, setIn, fileCause, opened, openedStream, openFile}
-use Rattle.write_dir.proofs.EntryLaws.{sound-file, sound-few, sound-room, sound-formed, sound-of}
-use Rattle.write_dir.proofs.CursorLaws.{bytes-along, dir-heap, slot-bytes, along-at}
-use Rattle.write_dir.proofs.PlaceLaws.{clusters-along}
 
 -- ---- choices
 

@@ -1,47 +1,30 @@
--- Where a set stands in a directory, the set stored there, and clusters added to a directory. Assumes nothing.
+-- Where a set stands in a directory, and the set stored there. Assumes nothing.
 use mathlib.Core.Path.{_≡_, refl, sym, _∙_, ap, ap₂}
 use mathlib.Core.Bool.{Bool, true}
 use mathlib.Core.List.{List, [], _∷_}
 use Prim.Native.Nat.{ℕ, zero, suc, _+_, _-_, _*_, _/_, _%_, _≤_, _<_}
 use native.Mathlib.Decide.{decLe}
-use native.Mathlib.Nat.{sub-zero, mul-le-mul-right}
+use native.Mathlib.Nat.{mul-le-mul-right}
 use native.Mathlib.Omega.{arith}
 use lib.ListN.{length, getD, take, drop, length-drop}
-use lib.Seq.{length-take-le, take-nil, take-take, drop-drop, getD-drop}
+use lib.Seq.{length-take-le, take-take, drop-drop, getD-drop}
 use Rattle.tables.specs.Lists.{every}
 use Rattle.tables.proofs.ListLaws.{every-head, every-tail}
 use Rattle.boot.specs.declared.layout.Layout.{Layout}
 use Rattle.boot.specs.Layout.{Laid, inHeap}
 use Rattle.metadata.specs.Fat.{fatEntry}
-use Rattle.metadata.specs.Marks.{marked}
 use Rattle.metadata.specs.Cluster.{putBytes}
 use Rattle.stream.specs.declared.allocation.Allocation.{Allocation}
 use Rattle.stream.specs.Stream.{numberOf, streamOf}
-use Rattle.stream.specs.Listing.{clustersOf}
 use Rattle.stream.specs.Along.{after, along}
 use Rattle.stream.specs.Bytes.{storeAt, reached}
-use Rattle.stream.proofs.ListingLaws.{stream-read, along-heap}
-use Rattle.stream.proofs.BytesSteps.{take-lesser, splice-none, every-drop, drop-along, every-before, every-from, place-is, place-low, place-count, place-room, store-here, store-empty, store-over}
+use Rattle.stream.proofs.ListingLaws.{along-heap}
+use Rattle.stream.proofs.BytesSteps.{take-lesser, splice-none, every-drop, drop-along, every-before, every-from, place-is, place-low, place-count, place-room, store-here, store-empty, store-over, drop-take}
 use Rattle.stream.proofs.BytesLaws.{store-front}
-use Rattle.stream.proofs.Distinct.{read-length}
+use Rattle.directory.specs.Directory.{clustersIn}
+use Rattle.directory.proofs.DirectoryLaws.{clusters-along, clusters-heap, clusters-length}
 use Rattle.write_dir.specs.declared.place.Spot.{Spot}
-use Rattle.write_dir.specs.Directory.{clustersIn}
 use Rattle.write_dir.specs.Place.{spotOf, spotClusters, Reaches}
-
--- ---- the clusters of a directory
-
-module _ (y : Layout) (d : List ℕ) (a : Allocation) (e : numberOf (streamOf y d a) ≡ 0) where
-  pub clusters-along : clustersIn y d a ≡ along (fatEntry y d) (a .«no_fat_chain») (a .first) (a .count)
-  unfolding clustersIn
-  clusters-along = stream-read y d a e .goes
-
-  pub clusters-heap : every (inHeap (y .count)) (clustersIn y d a) ≡ true
-  unfolding clustersIn
-  clusters-heap = stream-read y d a e .heap
-
-  pub clusters-length : length (clustersIn y d a) ≡ a .count
-  unfolding clustersIn
-  clusters-length = read-length (y .count) (fatEntry y d) (marked y d) a (clustersOf (streamOf y d a)) (stream-read y d a e)
 
 -- ---- a spot located
 
@@ -133,15 +116,6 @@ pub put-none : (y : Layout) (d : List ℕ) (k at : ℕ) (s : List ℕ) → putBy
 unfolding putBytes
 put-none y d k at s = splice-none d _ 0 s (omega arith)
 
--- a part of a part
-drop-part : (i j : ℕ) (s : List ℕ) → i ≤ j → drop i (take j s) ≡ take (j - i) (drop i s)
-drop-part zero j s h = rw sub-zero refl
-drop-part (suc i) zero s h = absurd (omega arith)
-drop-part (suc i) (suc j) [] h = sym (take-nil {A = ℕ} (suc j - suc i))
-drop-part (suc i) (suc j) (x ∷ s) h =
-    let e : j - i ≡ suc j - suc i = omega arith in
-    drop-part i j s (omega arith) ∙ ap (λ (n : ℕ). take n (drop i s)) e
-
 -- parts of x bytes, each no more than is left
 lesser-low : (a n r : ℕ) → r ≡ a - (a - n) → r ≤ n
 lesser-low a n r e = omega arith
@@ -196,7 +170,7 @@ module _ (y : Layout) where
       let q = take-lesser (y .size - at) bs r (omega arith) in
       let t : take (y .size - at) bs ≡ take r (drop from s) = q .0 ∙ take-take r n (drop from s) (omega arith) in
       let u : drop (y .size - at) bs ≡ take (n - r) (drop next s) =
-      q .1 ∙ drop-part r n (drop from s) (omega arith) ∙ ap (take (n - r)) (drop-drop r from s ∙ ap (λ (x : ℕ). drop x s) i) in
+      q .1 ∙ drop-take r n (drop from s) (omega arith) ∙ ap (take (n - r)) (drop-drop r from s ∙ ap (λ (x : ℕ). drop x s) i) in
       store-here y d k ks at bs low ∙ ap₂ (λ (a b : List ℕ). storeAt y (putBytes y d k at a) ks 0 b) t u
 
   -- one cluster after the other

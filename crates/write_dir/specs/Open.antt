@@ -14,9 +14,9 @@ use Rattle.stream.specs.Listing.{clustersOf}
 use Rattle.entry_set.specs.Fields.{isDirectory, noFatChain, firstCluster, dataLength, clustersFor}
 use Rattle.write_alloc.specs.Outcome.{empty}
 use Rattle.write_shrink.specs.Shrink.{systemCause}
+use Rattle.directory.specs.Directory.{clustersIn, bytesIn}
+use Rattle.directory.specs.Entries.{setAt, isSound}
 use Rattle.write_dir.specs.declared.open_file.Opened.{Opened}
-use Rattle.write_dir.specs.Directory.{clustersIn, bytesIn}
-use Rattle.write_dir.specs.Entries.{setAt, isSound}
 
 -- the record of the stream of set s: the clusters that its length takes, from its first cluster; a chain's last is the walk's
 unfoldable pub fileRecord : Layout → List ℕ → List ℕ → Allocation

@@ -12,8 +12,8 @@ ghost use Rattle.stream.specs.Stream.{numberOf, streamOf, walkCause};
 ghost use Rattle.stream.specs.Listing.{clustersOf};
 ghost use Rattle.entry_set.specs.Sound.{wellFormed};
 ghost use Rattle.write_alloc.specs.Outcome.{empty};
-ghost use Rattle.write_dir.specs.Directory.{bytesIn};
-ghost use Rattle.write_dir.specs.Entries.{entryCount, beforeEnd, entriesAt, wholeSet, isSound};
+ghost use Rattle.directory.specs.Directory.{bytesIn};
+ghost use Rattle.directory.specs.Entries.{entryCount, beforeEnd, entriesAt, wholeSet, isSound};
 ghost use Rattle.write_dir.specs.Open.{fileRecord, attributeCause, setIn, openedStream, openFile};
 use crate::place::Spot;
 use boot::layout::Layout;
@@ -67,11 +67,11 @@ fn file_entries(vol: &[u8], y: Layout, dir: Allocation, slot: u32) -> usize
     requires { ⌜ Laid y × ((length (now vol) ≡ y .len) × (Apart y × (numberOf (streamOf y (now vol) dir) ≡ 0))) ⌝ }
     ensures { λ r. ⌜ r ≡ wholeSet (bytesIn y (now (vol .entry)) dir) slot ⌝ }
 {
-    let total = crate::entries::entry_count(vol, y, dir);
+    let total = directory::entries::entry_count(vol, y, dir);
     if total <= slot {
         return 0;
     }
-    if crate::entries::before_end(vol, y, dir, slot) {
+    if directory::entries::before_end(vol, y, dir, slot) {
         return entries_here(vol, y, dir, slot, total);
     }
     0

@@ -18,16 +18,15 @@ use Rattle.boot.proofs.Tests.{and-left, and-right, and-both, each-of}
 use Rattle.boot.proofs.Accepted.{accepted-of}
 use Rattle.boot.proofs.Places.{first-zero, first-suc}
 use Rattle.boot.proofs.Apart.{bitmap-second}
-use Rattle.boot.proofs.CauseLaws.{cause-last}
+use Rattle.boot.proofs.CauseLaws.{cause-last, cause-none}
 use Rattle.metadata.proofs.View.{plain}
 use Rattle.stream.specs.declared.allocation.Allocation.{Allocation}
 use Rattle.stream.specs.Stream.{numberOf, streamOf}
 use Rattle.stream.specs.Listing.{clustersOf}
 use Rattle.stream.proofs.ListingLaws.{stream-read}
+use Rattle.directory.specs.Directory.{bitmapCause, directoryCause, clustersIn}
 use Rattle.write_dir.specs.declared.answer.FileAnswer.{FileAnswer}
 use Rattle.write_dir.specs.Outcome.{refuse}
-use Rattle.write_dir.specs.Directory.{bitmapCause, directoryCause, clustersIn}
-use Rattle.write_file.proofs.OpenLaws.{cause-none}
 
 -- ---- a bitmap's clusters are in the system map
 

@@ -28,6 +28,7 @@ use Rattle.stream.specs.declared.allocation.Allocation.{Allocation}
 use Rattle.stream.specs.Chain.{listed}
 use Rattle.stream.specs.Stream.{numberOf, streamOf}
 use Rattle.stream.specs.Bytes.{storeAt}
+use Rattle.stream.proofs.BytesLaws.{take-short}
 use Rattle.entry_set.specs.declared.stamp.Stamps.{Stamps}
 use Rattle.entry_set.specs.Name.{nameOk, nameCause, attributesOk, attributeCause}
 use Rattle.entry_set.specs.Fields.{nameEntries}
@@ -35,23 +36,25 @@ use Rattle.entry_set.specs.New.{newEntries, newSet}
 use Rattle.write_alloc.specs.Outcome.{spaceCause}
 use Rattle.write_alloc.proofs.AllocateLaws.{space-met, space-kept}
 use Rattle.write_alloc.proofs.ChoiceLaws.{run-at}
-use Rattle.write_dir.specs.declared.directory.Directory.{Directory}
-use Rattle.write_dir.specs.declared.entries.Room.{Room}
+use Rattle.directory.specs.declared.directory.Directory.{Directory}
+use Rattle.directory.specs.declared.entries.Room.{Room}
+use Rattle.directory.specs.Directory.{rootRecord, directoryCause, openRoot, clustersIn, bytesIn}
+use Rattle.directory.specs.Entries.{entryCount, inUse}
+use Rattle.directory.specs.Room.{freeRun, slotOf, withZeros, growth, roomFor}
+use Rattle.directory.proofs.CursorLaws.{length-entries, entries-is, slot-bytes}
+use Rattle.directory.proofs.GrowthLaws.{place-at, grown-at}
+use Rattle.directory.proofs.DirectoryLaws.{clusters-length}
 use Rattle.write_dir.specs.declared.place.Spot.{Spot}
 use Rattle.write_dir.specs.declared.place.Added.{Added}
 use Rattle.write_dir.specs.Outcome.{refuse, carried}
-use Rattle.write_dir.specs.Directory.{rootRecord, directoryCause, openRoot, clustersIn, bytesIn}
-use Rattle.write_dir.specs.Entries.{entryCount, inUse}
-use Rattle.write_dir.specs.Place.{Grown, Growable, standing, addedOf, freeRun, slotOf, withZeros, growth, roomFor, growBy, spotOf, spotClusters}
-use Rattle.write_dir.proofs.CursorLaws.{length-entries, entries-is, slot-bytes}
-use Rattle.write_dir.proofs.GrowthLaws.{place-at, grown-at}
+use Rattle.write_dir.specs.Place.{Grown, Growable, standing, addedOf, growBy, spotOf, spotClusters}
 use Rattle.write_dir.proofs.AddedLaws.{Zeroed, grow-many}
 use Rattle.write_dir.proofs.GrownLaws.{zeroed-in}
-use Rattle.write_dir.proofs.PlaceLaws.{spot-store, clusters-length}
+use Rattle.write_dir.proofs.PlaceLaws.{spot-store}
 use Rattle.write_file.specs.Opens.{Stands}
 use Rattle.write_file.specs.NewFile.{Ready, newGrowth, newCause, placed, newFileIn, newFile}
 use Rattle.write_file.proofs.RefreshLaws.{stream-is}
-use Rattle.write_file.proofs.OpenLaws.{take-few, root-number, root-record}
+use Rattle.write_file.proofs.OpenLaws.{root-number, root-record}
 use Rattle.write_file.proofs.CallLaws.{mapped, directory-reads, directory-plain}
 
 -- ---- a directory that is ready
@@ -148,7 +151,7 @@ module _ (y : Layout) (d m : List ℕ) (a : Allocation) (hint : ℕ) (r : Ready 
       insert-shown o s e′ f h =
           let h₁ = insert-stands in
           let bs = take (32 * n) s in
-          let k : length bs ≤ 32 * n = take-few (32 * n) s in
+          let k : length bs ≤ 32 * n = take-short (32 * n) s in
           let c = clusters-length y e (v .allocation) (h₁ .reads) in
           let b : storeAt y e (spotClusters o) (o .at) bs ≡ storeAt y e (clustersIn y e (v .allocation)) (32 * room .slot) bs =
           ap (λ (x : Spot). storeAt y e (spotClusters x) (x .at) bs) f

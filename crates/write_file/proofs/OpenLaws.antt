@@ -2,8 +2,7 @@
 use mathlib.Core.Path.{_≡_, refl, sym, _∙_, ap, subst}
 use mathlib.Core.Bool.{Bool, true, false, cond}
 use mathlib.Core.List.{List, [], _∷_}
-use Prim.Native.Nat.{ℕ, zero, suc, _+_, _-_, _*_, _/_, _≤_, _<_}
-use native.Mathlib.Decide.{ℕ-discrete}
+use Prim.Native.Nat.{ℕ, _+_, _-_, _*_, _/_, _≤_, _<_}
 use native.Mathlib.Nat.{mul-le-mul-right}
 use native.Mathlib.Omega.{arith}
 use lib.Dec.{eqb}
@@ -12,12 +11,13 @@ use borrow.Author.Tests.{ne-eqb, eqb-true}
 use Rattle.boot.specs.declared.layout.Layout.{Layout}
 use Rattle.boot.specs.Layout.{Laid, inHeap}
 use Rattle.boot.specs.Causes.{firstCause, heapCause}
-use Rattle.boot.proofs.CauseLaws.{cause-skip, cause-met, cause-last, heap-met, heap-kept}
+use Rattle.boot.proofs.CauseLaws.{cause-skip, cause-met, cause-last, heap-met, heap-kept, cause-none}
 use Rattle.metadata.proofs.Frame.{Fits}
 use Rattle.stream.specs.Bytes.{storeAt}
 use Rattle.stream.specs.declared.allocation.Allocation.{Allocation}
 use Rattle.stream.specs.Stream.{numberOf, streamOf}
 use Rattle.stream.specs.Listing.{clustersOf}
+use Rattle.stream.proofs.BytesLaws.{take-short}
 use Rattle.entry_set.specs.declared.stamp.Stamp.{Stamp}
 use Rattle.entry_set.specs.Fields.{validLength, dataLength, clustersFor}
 use Rattle.entry_set.proofs.LengthLaws.{clusters-hold}
@@ -26,35 +26,20 @@ use Rattle.write_shrink.specs.Shrink.{systemCause}
 use Rattle.write_dir.specs.declared.answer.FileAnswer.{FileAnswer}
 use Rattle.write_dir.specs.Outcome.{Outcome, refuse, carried}
 use Rattle.write_alloc.specs.Outcome.{empty}
-use Rattle.write_dir.specs.declared.directory.Directory.{Directory}
+use Rattle.directory.specs.declared.directory.Directory.{Directory}
+use Rattle.directory.specs.Directory.{rootRecord, openRoot, bitmapCause, directoryCause, clustersIn, bytesIn}
+use Rattle.directory.proofs.DirectoryLaws.{clusters-length}
+use Rattle.directory.specs.Entries.{entryCount, entriesAt, setAt, isSound}
+use Rattle.directory.proofs.EntryLaws.{sound-few, sound-room, sound-formed, set-count}
+use Rattle.directory.proofs.CursorLaws.{length-in, count-few}
 use Rattle.write_dir.specs.declared.«open_file».Opened.{Opened}
-use Rattle.write_dir.specs.Directory.{rootRecord, openRoot, bitmapCause, directoryCause, clustersIn, bytesIn}
 use Rattle.write_dir.specs.declared.place.Spot.{Spot}
 use Rattle.write_dir.specs.Place.{spotOf, spotClusters, Reaches}
-use Rattle.write_dir.proofs.PlaceLaws.{clusters-length, spot-reaches, spot-store}
-use Rattle.write_dir.specs.Entries.{entryCount, entriesAt, setAt, isSound}
+use Rattle.write_dir.proofs.PlaceLaws.{spot-reaches, spot-store}
 use Rattle.write_dir.specs.Open.{fileRecord, entryCause, attributeCause, streamCause, setIn, fileCause, opened, openFile}
-use Rattle.write_dir.proofs.EntryLaws.{sound-few, sound-room, sound-formed, set-count}
-use Rattle.write_dir.proofs.CursorLaws.{length-in, count-few}
 use Rattle.write_file.specs.Refresh.{entriesOf, recorded, stored, openCause}
 use Rattle.write_file.specs.declared.target.Target.{Target}
 use Rattle.write_file.specs.Opens.{Opens, Stands, target}
-
--- ---- causes of which none is met
-
-pub cause-none : (c : ℕ) (cs : List ℕ) → firstCause (c ∷ cs) ≡ 0 → (c ≡ 0) × (firstCause cs ≡ 0)
-cause-none c cs e =
-    elim (ℕ-discrete c 0) [
-      | yes z ↦ (z, sym (cause-skip c cs z) ∙ e)
-      | no z ↦ absurd (z (sym (cause-met c cs z) ∙ e))
-    ]
-
--- ---- lists
-
-pub take-few : (n : ℕ) (l : List ℕ) → length (take n l) ≤ n
-take-few zero l = omega arith
-take-few (suc n) [] = omega arith
-take-few (suc n) (x ∷ l) = omega (arith, take-few n l)
 
 -- ---- a file that opens
 
@@ -156,7 +141,7 @@ module _ (y : Layout) (d : List ℕ) (a : Allocation) (slot : ℕ) (l : Laid y) 
   stored-spot s e e′ b valid len t p h q r =
       let bs = take (32 * entriesOf s) (recorded s b valid len t) in
       let n = clusters-length y d a (h .reads) in
-      let k : length bs ≤ 32 * entriesOf s = take-few (32 * entriesOf s) (recorded s b valid len t) in
+      let k : length bs ≤ 32 * entriesOf s = take-short (32 * entriesOf s) (recorded s b valid len t) in
       r ∙ ap (λ (x : Spot). storeAt y e (spotClusters x) (x .at) bs) q
       ∙ spot-store y d a slot l e bs (omega (arith, h .few)) (omega (arith, h .room, ap (λ (x : ℕ). x * y .size) n))
 

@@ -37,7 +37,8 @@ use Rattle.write_alloc.specs.Outcome.{Outcome}
 use Rattle.write_extend.specs.Extend.{extendIn}
 use Rattle.write_extend.proofs.EnoughLaws.{Took, extend-done}
 use Rattle.write_alloc.proofs.AllocateLaws.{space-met, space-kept}
-use Rattle.write_dir.specs.Directory.{clustersIn}
+use Rattle.directory.specs.Directory.{clustersIn}
+use Rattle.directory.proofs.DirectoryLaws.{clusters-along}
 use Rattle.write_file.specs.Refresh.{entriesOf, missing, lengthCause, knownPlace}
 
 module _ (y : Layout) (b : Allocation) (len : ℕ) where
@@ -69,12 +70,6 @@ pub entries-some : (s : List ℕ) → 1 ≤ entriesOf s
 unfolding entriesOf
 entries-some s = omega arith
 
--- a stream's clusters as code goes along them
-pub clusters-along : (y : Layout) (d : List ℕ) (b : Allocation) → numberOf (streamOf y d b) ≡ 0
-    → along (fatEntry y d) (b .«no_fat_chain») (b .first) (b .count) ≡ clustersIn y d b
-unfolding clustersIn
-clusters-along y d b e = sym (stream-read y d b e .goes)
-
 -- no zeros stored
 pub zeros-none : (y : Layout) (d ks : List ℕ) (at n : ℕ) → n ≤ 0 → storeAt y d ks at (replicate n 0) ≡ d
 zeros-none y d ks at n h = let z : n ≡ 0 = omega arith in rw z (store-nothing y d ks at)
@@ -83,19 +78,19 @@ zeros-none y d ks at n h = let z : n ≡ 0 = omega arith in rw z (store-nothing 
 module _ (y : Layout) (d : List ℕ) (w : Fits y d) (b : Allocation) (e : numberOf (streamOf y d b) ≡ 0) (at : ℕ) (bs d′ : List ℕ)
     (q : d′ ≡ storeAt y d (clustersIn y d b) at bs) where
   heap-in : every (inHeap (y .count)) (clustersIn y d b) ≡ true
-  heap-in = ap (every (inHeap (y .count))) (sym (clusters-along y d b e)) ∙ along-heap y d b e
+  heap-in = ap (every (inHeap (y .count))) (clusters-along y d b e) ∙ along-heap y d b e
 
   pub stored-along : along (fatEntry y d′) (b .«no_fat_chain») (b .first) (b .count) ≡ clustersIn y d b
   stored-along =
       ap (λ (l : List ℕ). along (fatEntry y l) (b .«no_fat_chain») (b .first) (b .count)) q
       ∙ along-store y d w (clustersIn y d b) heap-in at bs (b .«no_fat_chain») (b .first) (b .count) (along-heap y d b e)
-      ∙ clusters-along y d b e
+      ∙ sym (clusters-along y d b e)
 
   pub stored-heap : every (inHeap (y .count)) (along (fatEntry y d′) (b .«no_fat_chain») (b .first) (b .count)) ≡ true
   stored-heap = ap (every (inHeap (y .count))) stored-along ∙ heap-in
 
   pub stored-known : (p : Place) → Known y d b p → Known y d′ b p
-  stored-known p k = known-same y d b p k d′ (clusters-along y d b e ∙ sym stored-along)
+  stored-known p k = known-same y d b p k d′ (sym (clusters-along y d b e) ∙ sym stored-along)
 
 -- ---- a stream that grew
 

@@ -19,9 +19,10 @@ use Rattle.entry_set.specs.declared.stamp.Stamps.{Stamps}
 use Rattle.entry_set.specs.Name.{nameCause, attributeCause}
 use Rattle.entry_set.specs.New.{newEntries, newSet}
 use Rattle.write_alloc.specs.Outcome.{spaceCause}
+use Rattle.directory.specs.Directory.{rootRecord, directoryCause, clustersIn, bytesIn}
+use Rattle.directory.specs.Room.{freeRun, slotOf, growth}
 use Rattle.write_dir.specs.Outcome.{Outcome, refuse, carried}
-use Rattle.write_dir.specs.Directory.{rootRecord, directoryCause, clustersIn, bytesIn}
-use Rattle.write_dir.specs.Place.{Grown, freeRun, slotOf, growth, growBy}
+use Rattle.write_dir.specs.Place.{Grown, growBy}
 
 -- the zeroed clusters that directory a must add for the set of a name of n units
 unfoldable pub newGrowth : Layout → List ℕ → Allocation → ℕ → ℕ

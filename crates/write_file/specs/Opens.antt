@@ -9,7 +9,7 @@ use Rattle.boot.specs.declared.layout.Layout.{Layout}
 use Rattle.boot.specs.Layout.{Laid, Apart, inHeap}
 use Rattle.stream.specs.declared.allocation.Allocation.{Allocation}
 use Rattle.stream.specs.Stream.{numberOf, streamOf}
-use Rattle.write_dir.specs.Directory.{directoryCause}
+use Rattle.directory.specs.Directory.{directoryCause}
 use Rattle.write_alloc.specs.Outcome.{empty}
 use Rattle.write_dir.specs.Open.{fileRecord, fileCause, setIn}
 use Rattle.write_file.specs.declared.target.Target.{Target}

@@ -15,7 +15,7 @@ use Rattle.entry_set.specs.declared.stamp.Stamp.{Stamp}
 use Rattle.entry_set.specs.Fields.{secondaryCount, clustersFor}
 use Rattle.entry_set.specs.Put.{refreshed}
 use Rattle.write_alloc.specs.Outcome.{spaceCause}
-use Rattle.write_dir.specs.Directory.{directoryCause}
+use Rattle.directory.specs.Directory.{directoryCause}
 use Rattle.write_dir.specs.Open.{fileCause}
 
 -- the entries of set s

@@ -6,15 +6,16 @@ ghost use Rattle.tables.specs.Count.{count};
 ghost use Rattle.boot.specs.Layout.{Laid};
 ghost use Rattle.metadata.specs.Usable.{isUsable};
 ghost use Rattle.write_alloc.specs.Outcome.{spaceCause};
-ghost use Rattle.write_dir.specs.Directory.{bytesIn};
-ghost use Rattle.write_dir.specs.Place.{standing, roomFor, growBy};
+ghost use Rattle.directory.specs.Directory.{bytesIn};
+ghost use Rattle.directory.specs.Room.{roomFor};
+ghost use Rattle.write_dir.specs.Place.{standing, growBy};
 ghost use Rattle.write_file.specs.NewFile.{Ready, placed, newFileIn, newFile};
 use boot::geometry::Geometry;
 use boot::layout::Layout;
+use directory::entries::Room;
 use entry_set::stamp::Stamps;
 use stream::allocation::Allocation;
 use write_dir::answer::FileAnswer;
-use write_dir::entries::Room;
 
 // What refuses n more clusters: 7. The usable ones are searched only where some are wanted.
 fn space_cause(vol: &[u8], map: &[u8], y: Layout, n: u32) -> u32
@@ -72,7 +73,7 @@ fn new_file_in(
     if entry_set::name::name_ok(name) {
         if entry_set::name::attributes_ok(attributes) {
             let n = 2 + entry_set::set::name_entries(name.len());
-            let room = write_dir::entries::free_run(vol, y, dir, n as u32);
+            let room = directory::entries::free_run(vol, y, dir, n as u32);
             if space_cause(vol, map, y, room.clusters) == 0 {
                 let set = entry_set::set::new_set(name, attributes, hash, t);
                 return insert(vol, map, y, dir, room, &set, n, hint);
@@ -100,7 +101,7 @@ pub fn make_in(
     if boot::geometry::validate(g, vol.len(), map) {
         let y = boot::layout::layout_of(g, vol.len());
         if boot::layout::in_heap(y.count, hint) {
-            let root = write_dir::directory::root_dir(vol, y, g.root_cluster);
+            let root = directory::directory::root_dir(vol, y, g.root_cluster);
             if root.number == 0 {
                 return new_file_in(
                     vol,

@@ -7,7 +7,7 @@ ghost use Rattle.boot.specs.Layout.{Laid, Apart, inHeap};
 ghost use Rattle.stream.specs.Stream.{numberOf, streamOf};
 ghost use Rattle.stream.specs.Bytes.{storeAt, Known};
 ghost use Rattle.write_extend.specs.Extend.{extendIn};
-ghost use Rattle.write_dir.specs.Directory.{clustersIn};
+ghost use Rattle.directory.specs.Directory.{clustersIn};
 ghost use Rattle.write_dir.specs.Place.{spotClusters, Reaches};
 ghost use Rattle.write_dir.specs.Open.{fileRecord};
 ghost use Rattle.write_file.specs.Refresh.{entriesOf, recorded, missing, lengthCause, knownPlace};

@@ -4,7 +4,7 @@ ghost use Prim.Native.Nat.{_+_, _*_, _≤_};
 ghost use lib.ListN.{length};
 ghost use Rattle.boot.specs.Layout.{Laid, Apart};
 ghost use Rattle.write_alloc.specs.Outcome.{empty};
-ghost use Rattle.write_dir.specs.Directory.{rootRecord};
+ghost use Rattle.directory.specs.Directory.{rootRecord};
 ghost use Rattle.write_file.specs.Opens.{target};
 use boot::layout::Layout;
 use stream::allocation::Allocation;
@@ -40,7 +40,7 @@ pub fn open_target(vol: &[u8], map: &[u8], y: Layout, root: u32, slot: u32, hint
     ensures { λ r. ⌜ r ≡ target y (now (vol .entry)) (now (map .entry)) (rootRecord y (now (vol .entry)) root) slot hint ⌝ }
 {
     if boot::layout::in_heap(y.count, hint) {
-        let dir = write_dir::directory::root_dir(vol, y, root);
+        let dir = directory::directory::root_dir(vol, y, root);
         if dir.number != 0 {
             return no_target(dir.number);
         }

@@ -31,13 +31,13 @@ use Rattle.write_shrink.specs.declared.shrink.Kept.{Kept}
 use Rattle.write_shrink.specs.Shrink.{keptRecord, shrinkIn}
 use Rattle.write_shrink.specs.Kept.{keptPart, partRecord}
 use Rattle.write_shrink.proofs.Cutting.{part-record}
+use Rattle.directory.specs.Directory.{rootRecord, clustersIn}
+use Rattle.directory.proofs.DirectoryLaws.{clusters-along}
 use Rattle.write_dir.specs.Outcome.{Outcome, carried, refuse}
-use Rattle.write_dir.specs.Directory.{rootRecord, clustersIn}
 use Rattle.write_dir.specs.Open.{fileRecord, setIn}
 use Rattle.write_file.specs.Refresh.{stored, missing, lengthCause, openCause}
 use Rattle.write_file.specs.Write.{refreshedOnly}
 use Rattle.write_length.specs.SetLength.{smaller, zeroEnd, shorter, longerFile, resized, setLengthCause, setLengthIn, setLength}
-use Rattle.write_file.proofs.RefreshLaws.{clusters-along}
 use Rattle.write_file.proofs.OpenLaws.{carried-shown}
 
 pub smaller-left : (a b : ℕ) → a ≤ b → smaller a b ≡ a
@@ -71,7 +71,7 @@ module _ (size valid len : ℕ) (h : 1 ≤ size) where
 module _ (y : Layout) (d : List ℕ) (b : Allocation) (keep : ℕ) (reads : numberOf (streamOf y d b) ≡ 0) (h : keep ≤ b .count) where
   pub part-is : along (fatEntry y d) (b .«no_fat_chain») (b .first) keep ≡ take keep (clustersIn y d b)
   part-is =
-      sym (take-along (fatEntry y d) (b .«no_fat_chain») keep (b .first) (b .count) h) ∙ ap (take keep) (clusters-along y d b reads)
+      sym (take-along (fatEntry y d) (b .«no_fat_chain») keep (b .first) (b .count) h) ∙ ap (take keep) (sym (clusters-along y d b reads))
 
   pub part-heap : every (inHeap (y .count)) (along (fatEntry y d) (b .«no_fat_chain») (b .first) keep) ≡ true
   part-heap =

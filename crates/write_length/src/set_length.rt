@@ -9,7 +9,7 @@ ghost use Rattle.stream.specs.Bytes.{storeAt};
 ghost use Rattle.entry_set.specs.Fields.{dataLength};
 ghost use Rattle.write_extend.specs.Extend.{extendIn};
 ghost use Rattle.write_shrink.specs.Shrink.{keptRecord};
-ghost use Rattle.write_dir.specs.Directory.{rootRecord, clustersIn};
+ghost use Rattle.directory.specs.Directory.{rootRecord, clustersIn};
 ghost use Rattle.write_dir.specs.Open.{setIn};
 ghost use Rattle.write_file.specs.Refresh.{missing, lengthCause};
 ghost use Rattle.write_file.specs.Opens.{Opens};

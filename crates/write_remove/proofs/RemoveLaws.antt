@@ -16,12 +16,13 @@ use Rattle.stream.specs.declared.allocation.Allocation.{Allocation}
 use Rattle.stream.specs.Bytes.{storeAt}
 use Rattle.entry_set.specs.Put.{cleared}
 use Rattle.write_shrink.specs.Shrink.{shrinkIn}
+use Rattle.directory.specs.Directory.{rootRecord, clustersIn}
+use Rattle.directory.proofs.DirectoryLaws.{clusters-length}
 use Rattle.write_dir.specs.Outcome.{refuse, carried}
-use Rattle.write_dir.specs.Directory.{rootRecord, clustersIn}
 use Rattle.write_dir.specs.Open.{fileRecord, setIn}
 use Rattle.write_dir.specs.declared.place.Spot.{Spot}
 use Rattle.write_dir.specs.Place.{spotOf, spotClusters}
-use Rattle.write_dir.proofs.PlaceLaws.{clusters-length, spot-store}
+use Rattle.write_dir.proofs.PlaceLaws.{spot-store}
 use Rattle.write_file.specs.Refresh.{entriesOf, openCause}
 use Rattle.write_file.specs.Opens.{Stands}
 use Rattle.write_file.proofs.OpenLaws.{shown-as, carried-shown}

@@ -3,7 +3,7 @@ ghost use mathlib.Core.Path.{_≡_};
 ghost use Prim.Native.Nat.{_*_, _≤_};
 ghost use lib.ListN.{length};
 ghost use Rattle.boot.specs.Layout.{Laid, Apart};
-ghost use Rattle.write_dir.specs.Directory.{rootRecord, clustersIn};
+ghost use Rattle.directory.specs.Directory.{rootRecord, clustersIn};
 ghost use Rattle.write_dir.specs.Open.{setIn};
 ghost use Rattle.write_file.specs.Refresh.{entriesOf};
 ghost use Rattle.write_file.specs.Opens.{Stands, Opens};

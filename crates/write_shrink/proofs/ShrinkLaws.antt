@@ -19,6 +19,7 @@ use Rattle.boot.specs.declared.layout.Layout.{Layout}
 use Rattle.boot.specs.Limits.{inMap}
 use Rattle.boot.specs.Layout.{inHeap}
 use Rattle.boot.specs.Causes.{firstCause, heapCause}
+use Rattle.boot.proofs.CauseLaws.{cause-none}
 use Rattle.boot.proofs.Tests.{and-left, and-right}
 use Rattle.boot.proofs.Apart.{in-heap, heap-in}
 use Rattle.metadata.specs.Fat.{END, fatEntry, setFat}
@@ -372,15 +373,6 @@ module _ (y : Layout) (d : List ℕ) (w : Fits y d) (a : Allocation) (keep : ℕ
 
 -- ---- a call that is not refused and has something to free is a cut
 
--- no cause is met
-no-cause : (c : ℕ) (cs : List ℕ) → firstCause (c ∷ cs) ≡ 0 → (c ≡ 0) × (firstCause cs ≡ 0)
-unfolding firstCause
-no-cause c cs e = by (eqb c 0) refl e
-  where
-    by : (b : Bool) → eqb c 0 ≡ b → cond b (firstCause cs) c ≡ 0 → (c ≡ 0) × (firstCause cs ≡ 0)
-    by true q r = (eqb-true c 0 q, r)
-    by false q r = absurd (eqb-false c 0 q r)
-
 module _ (y : Layout) (d m : List ℕ) (a : Allocation) (keep hint : ℕ) (l : keep < a .count) (e : shrinkIn y d m a keep hint .answer .number ≡ 0) where
   abbrev causes : ℕ
   causes = firstCause (heapCause (y .count) hint ∷ shrinkCause y d m a keep ∷ [])
@@ -399,10 +391,10 @@ module _ (y : Layout) (d m : List ℕ) (a : Allocation) (keep hint : ℕ) (l : k
   shrink-clear : (numberOf (streamOf y d a) ≡ 0) × (systemCause m (freed y d a keep) ≡ 0)
   unfolding shrinkCause
   shrink-clear =
-      let p = no-cause (heapCause (y .count) hint) (shrinkCause y d m a keep ∷ []) (none-met (eqb causes 0) refl .1) .1 in
-      let q = no-cause (shrinkCause y d m a keep) [] p .0 in
-      let r = no-cause (numberOf (streamOf y d a)) (systemCause m (freed y d a keep) ∷ []) q in
-      (r .0, no-cause (systemCause m (freed y d a keep)) [] (r .1) .0)
+      let p = cause-none (heapCause (y .count) hint) (shrinkCause y d m a keep ∷ []) (none-met (eqb causes 0) refl .1) .1 in
+      let q = cause-none (shrinkCause y d m a keep) [] p .0 in
+      let r = cause-none (numberOf (streamOf y d a)) (systemCause m (freed y d a keep) ∷ []) q in
+      (r .0, cause-none (systemCause m (freed y d a keep)) [] (r .1) .0)
 
   pub shrink-number : numberOf (streamOf y d a) ≡ 0
   shrink-number = shrink-clear .0

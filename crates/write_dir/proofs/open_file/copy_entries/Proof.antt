@@ -2,7 +2,7 @@ use mathlib.Core.Path.{_∙_}
 use native.Mathlib.Omega.{arith}
 use borrow.Author.Needs.{needs}
 use Rattle.metadata.proofs.Frame.{Fits}
-use Rattle.write_dir.proofs.CursorLaws.{dir-heap, slot-bytes}
+use Rattle.directory.proofs.CursorLaws.{dir-heap, slot-bytes}
 use Rattle.write_dir.proofs.OpenLaws.{copy-is}
 use borrow.Author.Needs.{needs}
 use Rattle.write_dir.proofs.open_file.copy_entries.Statement.{statement}

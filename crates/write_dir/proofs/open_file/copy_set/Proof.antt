@@ -2,10 +2,10 @@ use Prim.Native.Nat.{_<_}
 use native.Mathlib.Omega.{arith}
 use borrow.Author.Needs.{needs}
 use Rattle.metadata.proofs.Frame.{Fits}
-use Rattle.write_dir.specs.Directory.{bytesIn}
-use Rattle.write_dir.specs.Entries.{entryCount}
-use Rattle.write_dir.proofs.EntryLaws.{sound-few, sound-room}
-use Rattle.write_dir.proofs.CursorLaws.{slot-bytes}
+use Rattle.directory.specs.Directory.{bytesIn}
+use Rattle.directory.specs.Entries.{entryCount}
+use Rattle.directory.proofs.EntryLaws.{sound-few, sound-room}
+use Rattle.directory.proofs.CursorLaws.{slot-bytes}
 use Rattle.write_dir.proofs.OpenLaws.{entries-low, spot-in, spot-count}
 use borrow.Author.Needs.{needs}
 use Rattle.write_dir.proofs.open_file.copy_set.Statement.{statement}

@@ -2,9 +2,9 @@ use mathlib.Core.Path.{_∙_}
 use native.Mathlib.Omega.{arith}
 use borrow.Author.Needs.{needs}
 use Rattle.metadata.proofs.Frame.{Fits}
-use Rattle.write_dir.specs.Directory.{bytesIn}
-use Rattle.write_dir.proofs.EntryLaws.{file-of, file-type}
-use Rattle.write_dir.proofs.CursorLaws.{slot-bytes}
+use Rattle.directory.specs.Directory.{bytesIn}
+use Rattle.directory.proofs.EntryLaws.{file-of, file-type}
+use Rattle.directory.proofs.CursorLaws.{slot-bytes}
 use Rattle.write_dir.proofs.OpenLaws.{whole-no, whole-yes, spot-in, spot-type, spot-count}
 use borrow.Author.Needs.{needs}
 use Rattle.write_dir.proofs.open_file.entries_here.Statement.{statement}

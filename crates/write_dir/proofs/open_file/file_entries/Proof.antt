@@ -2,8 +2,8 @@ use mathlib.Core.Path.{_∙_}
 use mathlib.Core.Bool.{false≢true}
 use native.Mathlib.Omega.{arith}
 use borrow.Author.Needs.{needs}
-use Rattle.write_dir.specs.Directory.{bytesIn}
-use Rattle.write_dir.proofs.EntryLaws.{file-before}
+use Rattle.directory.specs.Directory.{bytesIn}
+use Rattle.directory.proofs.EntryLaws.{file-before}
 use Rattle.write_dir.proofs.OpenLaws.{whole-no, entries-low}
 use borrow.Author.Needs.{needs}
 use Rattle.write_dir.proofs.open_file.file_entries.Statement.{statement}

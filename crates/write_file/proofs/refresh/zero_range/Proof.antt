@@ -4,7 +4,8 @@ use Rattle.stream.specs.Bytes.{storeAt}
 use Prim.Native.Nat.{_-_}
 use lib.ListN.{replicate}
 use Rattle.stream.proofs.ListingLaws.{along-heap}
-use Rattle.write_file.proofs.RefreshLaws.{clusters-along, zeros-none}
+use Rattle.directory.proofs.DirectoryLaws.{clusters-along}
+use Rattle.write_file.proofs.RefreshLaws.{zeros-none}
 use borrow.Author.Needs.{needs}
 use Rattle.write_file.proofs.refresh.zero_range.Statement.{statement}
 use Rattle.write_file.proofs.refresh.zero_range.Tie as tie
@@ -24,7 +25,7 @@ returns : tie.Need-returns
 returns c =
     let a = c .before .before .before .before .before .before .args in
     let p = c .before .before .before .before .before .before .pre in
-    (cc) ∙ ap (λ l. storeAt (a .y) (a .vol .now) l (a .from) (replicate (a .to - a .from) 0)) (clusters-along (a .y) (a .vol .now) (a .b) (p .1 .1 .1 .0))
+    (cc) ∙ ap (λ l. storeAt (a .y) (a .vol .now) l (a .from) (replicate (a .to - a .from) 0)) (sym (clusters-along (a .y) (a .vol .now) (a .b) (p .1 .1 .1 .0)))
 
 returns-2 : tie.Need-returns-2
 returns-2 c =

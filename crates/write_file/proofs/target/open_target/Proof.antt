@@ -2,7 +2,7 @@ use mathlib.Core.Path.{_≡_, sym, _∙_, refl, ap}
 use native.Mathlib.Omega.{arith}
 use Prim.Native.Nat.{ℕ}
 use Rattle.stream.specs.declared.allocation.Allocation.{Allocation}
-use Rattle.write_dir.specs.Directory.{rootRecord}
+use Rattle.directory.specs.Directory.{rootRecord}
 use Rattle.write_dir.specs.Open.{fileRecord, fileCause, setIn}
 use Rattle.write_file.specs.declared.target.Target.{Target}
 use Rattle.write_file.proofs.OpenLaws.{target-hint, target-directory, target-file, target-done, root-number, root-record, root-reads, file-number, file-record}

@@ -5,7 +5,6 @@ use Prim.Native.Nat.{_-_}
 use Rattle.metadata.proofs.Frame.{Fits}
 use mathlib.Core.Path.{_≡_, sym, _∙_, refl, ap}
 use native.Mathlib.Omega.{arith}
-use Rattle.write_file.proofs.RefreshLaws.{clusters-along}
 use borrow.Author.Needs.{needs}
 use Rattle.write_file.proofs.write.put_data.Statement.{statement}
 use Rattle.write_file.proofs.write.put_data.Tie as tie

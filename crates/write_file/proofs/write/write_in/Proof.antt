@@ -4,7 +4,7 @@ use Prim.Native.Nat.{ℕ}
 use Rattle.metadata.proofs.Frame.{Fits}
 use Rattle.stream.specs.declared.allocation.Allocation.{Allocation}
 use Rattle.write_file.specs.declared.target.Target.{Target}
-use Rattle.write_dir.specs.Directory.{rootRecord}
+use Rattle.directory.specs.Directory.{rootRecord}
 use Rattle.write_file.specs.Write.{writeIn}
 use Rattle.write_file.proofs.OpenLaws.{target-number, found-opens, found-directory, shown-as, refuse-shown}
 use Rattle.write_file.proofs.WriteLaws.{write-refused}

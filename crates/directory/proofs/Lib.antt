@@ -1,0 +1,10 @@
+pub mod EntryLaws
+pub mod FitLaws
+pub mod OrderedLaws
+pub mod StoreLaws
+pub mod GrowthLaws
+pub mod DirectoryLaws
+pub mod CursorLaws
+pub mod EndLaws
+pub mod RoomLaws
+pub mod WindowLaws

@@ -1,0 +1,42 @@
+-- Where a new set goes: its slot, and the clusters that the directory grows by for it (01, "New file"; Rust: `free_run`).
+use mathlib.Core.Bool.{Bool, true, false, not, cond}
+use mathlib.Core.List.{List, _++_}
+use Prim.Native.Nat.{ℕ, zero, suc, _+_, _*_}
+use lib.ListN.{replicate}
+use Rattle.metadata.specs.declared.usable.Found.{Found}
+use Rattle.metadata.specs.declared.usable.Found.the-variants.{At, Nothing}
+use Rattle.write_alloc.specs.Choice.{runFrom}
+use Rattle.directory.specs.declared.entries.Room.{Room}
+use Rattle.directory.specs.Entries.{entryCount, inUse}
+
+-- the lowest sequence of n entries with type bit 0x80 clear
+unfoldable pub freeRun : List ℕ → ℕ → Found
+freeRun bs n = runFrom (λ i. not (inUse bs i)) (entryCount bs) n 0
+
+-- whether there is one, and its first slot
+unfoldable pub isAt : Found → Bool
+isAt (At i) = true
+isAt Nothing = false
+
+unfoldable pub slotOf : Found → ℕ
+slotOf (At i) = i
+slotOf Nothing = 0
+
+-- the bytes of a directory that grew by g zeroed clusters
+unfoldable pub withZeros : List ℕ → ℕ → List ℕ
+withZeros bs n = bs ++ replicate n 0
+
+-- the least of the numbers g, g + 1, .. that a test takes, n of them tried
+unfoldable pub fewest : (ℕ → Bool) → ℕ → ℕ → ℕ
+fewest p zero g = g
+fewest p (suc n) g = cond (p g) g (fewest p n (g + 1))
+
+-- the fewest zeroed clusters that give the directory n such entries in a row: n clusters always do
+unfoldable pub growth : ℕ → List ℕ → ℕ → ℕ
+growth size bs n = fewest (λ g. isAt (freeRun (withZeros bs (g * size)) n)) n 0
+
+-- where a set of n entries goes: its slot, and the clusters that the directory grows by for it
+unfoldable pub roomFor : ℕ → List ℕ → ℕ → Room
+roomFor size bs n =
+    let g = growth size bs n in
+    record { slot = slotOf (freeRun (withZeros bs (g * size)) n); clusters = g }
