@@ -26,11 +26,11 @@ def entry_set(flags, first, length, valid, attributes=0x20):
 
 
 class Volume:
-    """The volume of the trials: C 16, bitmap in 2, root in 3 unless told otherwise."""
+    """The volume of the trials: C 16, bitmap in 2, root in 3 unless told otherwise. With more clusters the FAT is longer."""
 
-    def __init__(self, root=3, marks=(2, 3), fat=((3, END),), system=(2, 3), at_root=b""):
-        self.geometry = (ctypes.c_uint32 * 11)(9, 0, 24, 1, 1, 0, 32, 16, root, 2, 0)
-        self.bytes, self.map = bytearray(SECTOR * 48), bytearray(2)
+    def __init__(self, root=3, marks=(2, 3), fat=((3, END),), system=(2, 3), at_root=b"", count=16):
+        self.geometry = (ctypes.c_uint32 * 11)(9, 0, 24, 1 if count == 16 else 8, 1, 0, 32, count, root, 2, 0)
+        self.bytes, self.map = bytearray(SECTOR * (32 + count)), bytearray((count + 7) // 8)
         for k in system:
             self.map[(k - 2) // 8] |= 1 << (k - 2) % 8
         for k in marks:
@@ -189,7 +189,26 @@ def over_the_root():
     same("with its checksum", struct.unpack_from("<H", stored, 2)[0], checksum(stored))
 
 
-for part in (the_root, new_files, writes, streams, lengths, over_the_root):
+def long_writes():
+    """Writes around 32,768 bytes, where a copy takes another form, into a run and into a chain that goes down the heap."""
+    for run in (True, False):
+        own = list(range(10, 160)) if run else list(range(310, 10, -2))
+        links = [] if run else list(zip(own, own[1:] + [END]))
+        for offset, n in ((0, 32768), (0, 32769), (1, 32768), (511, 32770), (700, 70000), (76800 - 32769, 32769)):
+            v = Volume(marks=(2, 3, *own), fat=((3, END), *links), at_root=entry_set(3 if run else 1, own[0], 76800, 76800), count=400)
+            for k in range(4, 402):
+                v.put(k, bytes([k % 251]) * SECTOR)
+            data = [(7 * i + n) % 256 for i in range(n)]
+            left = bytearray(v.bytes)
+            for i, byte in enumerate(data):
+                left[v.at(own[(offset + i) // SECTOR]) + (offset + i) % SECTOR] = byte
+            what = f"{n} bytes at {offset} of a {'run' if run else 'chain'}"
+            same(what, v.write(0, offset, data)[:2], (0, 4))
+            left[v.at(3) : v.at(3) + 96] = v.bytes[v.at(3) : v.at(3) + 96]
+            same(f"{what}, and no other byte but the set's", v.bytes == left, True)
+
+
+for part in (the_root, new_files, writes, streams, lengths, over_the_root, long_writes):
     part()
 for fault in faults:
     print(f"edges: {fault}")
