@@ -129,7 +129,7 @@ fn main() {
     };
     print_machine();
     println!(
-        "- Rounds: {} (fresh: {}), seven times as many for one call alone{}",
+        "- Rounds: {} (fresh: {}), fifteen times as many for one call alone{}",
         rounds.all,
         rounds.fresh,
         if quick {

@@ -166,7 +166,7 @@ pub fn measure(work: &Workload, data: &[u8], cold: bool, rounds: Rounds) -> Time
     run_library(work, data, &volume, cold);
     let ours = volume.borrow().clone();
     // One call is short, and its time differs more from round to round.
-    let more = if work.repeated { 7 } else { 1 };
+    let more = if work.repeated { 15 } else { 1 };
     let fresh = more
         * if work.long {
             rounds.fresh_long

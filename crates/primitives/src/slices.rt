@@ -31,7 +31,7 @@ pub fn copy_in(dst: &mut [u8], at: usize, src: &[u8], from: usize, n: usize)
     requires { ⌜ (at + n ≤ length (now dst)) × (from + n ≤ length (now src)) ⌝ }
     ensures { λ _. ⌜ now (dst .exit) ≡ splice (now (dst .entry)) at (take n (drop from (now (src .entry)))) ⌝ }
 {
-    if n <= 32768 {
+    if n < 32768 {
         copy_block(dst, at, src, from, n);
     } else {
         copy_bytes(dst, at, src, from, n);
