@@ -888,7 +888,9 @@ fn break_set(rng: &mut Rng, g: &Geometry, root: &mut [u8], start: usize, length:
         3 => set[64] = rng.pick(&[0xc0, 0x41, 0x00, 0xe0, 0x85]),
         4 => set[65] |= rng.pick(&[1, 2, 3]),
         5 => set[35] = 0,
-        6 => set[35] = set[35].saturating_add(15).max(16),
+        // one name entry more or less than SecondaryCount says
+        6 if set[35] > 240 => set[35] -= 15,
+        6 => set[35] += 15,
         7 => set[1] = rng.pick(&[0, 1]),
         8 => {
             put64(set, 56, 0);
