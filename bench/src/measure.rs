@@ -173,18 +173,20 @@ pub fn measure(work: &Workload, data: &[u8], cold: bool, rounds: Rounds) -> Time
         } else {
             rounds.fresh
         };
+    let held = |side: &str| {
+        let title = &work.title;
+        assert!(
+            same(&ours, &volume.borrow()),
+            "{title}: {side} leaves other bytes"
+        );
+    };
     let mut turns = [Turn::Library, Turn::Limit, Turn::OneMount, Turn::Fresh];
     for round in 0..more * rounds.all {
         for turn in turns {
-            let title = &work.title;
             match turn {
                 Turn::Library => {
                     times.library.push(run_library(work, data, &volume, cold));
-                    let bytes = volume.borrow();
-                    assert!(
-                        same(&ours, &bytes),
-                        "{title}: the library leaves other bytes"
-                    );
+                    held("the library");
                 }
                 Turn::Limit => match work.limit {
                     Limit::None => {}
@@ -197,20 +199,12 @@ pub fn measure(work: &Workload, data: &[u8], cold: bool, rounds: Rounds) -> Time
                 #[cfg(rust_sources)]
                 Turn::OneMount => {
                     times.warm.push(run_warm(work, data, &volume, cold));
-                    let bytes = volume.borrow();
-                    assert!(
-                        same(&ours, &bytes),
-                        "{title}: the Rust on one mount leaves other bytes"
-                    );
+                    held("the Rust on one mount");
                 }
                 #[cfg(rust_sources)]
                 Turn::Fresh if round < fresh => {
                     times.fresh.push(run_fresh(work, data, &volume, cold));
-                    let bytes = volume.borrow();
-                    assert!(
-                        same(&ours, &bytes),
-                        "{title}: the Rust, mounted anew, leaves other bytes"
-                    );
+                    held("the Rust, mounted anew,");
                 }
                 _ => {}
             }
