@@ -42,7 +42,7 @@ pub fn bit_put(b: u8, j: u8, on: bool) -> u8
 }
 
 // Whether both are true.
-fn both(a: bool, b: bool) -> bool
+pub fn both(a: bool, b: bool) -> bool
     ensures { λ r. ⌜ r ≡ a && b ⌝ }
 {
     if a {

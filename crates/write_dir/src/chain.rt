@@ -1,6 +1,6 @@
 // A file's chain, walked once: what the walk answers, and whether none of its clusters is a system cluster.
 ghost use mathlib.Core.Path.{_≡_};
-ghost use mathlib.Core.Bool.{_&&_, not, false};
+ghost use mathlib.Core.Bool.{not, false};
 ghost use Prim.Native.Nat.{_+_, _*_, _≤_, _<_};
 ghost use lib.ListN.{length};
 ghost use Rattle.boot.specs.Limits.{inMap};
@@ -10,21 +10,13 @@ ghost use Rattle.metadata.specs.Marks.{marked};
 ghost use Rattle.stream.specs.Chain.{readChain};
 ghost use Rattle.stream.specs.Stream.{walked};
 use boot::layout::Layout;
+use primitives::bits::both;
 use stream::walk::Walked;
 
 // A walk's answer, and whether none of the chain's clusters is in the system map.
 pub struct FileChain {
     pub walk: Walked,
     pub clear: bool,
-}
-
-fn both(a: bool, b: bool) -> bool
-    ensures { λ r. ⌜ r ≡ a && b ⌝ }
-{
-    if a {
-        return b;
-    }
-    false
 }
 
 // A chain refused by its walk.
