@@ -11,6 +11,7 @@ use native.Mathlib.Omega.{arith}
 use lib.Dec.{eqb}
 use lib.ListN.{length, getD, replicate, length-append, length-replicate, getD-replicate, List·getD-append, List·getD-eq-default}
 use lib.Seq.{getD-append-add}
+use borrow.Author.Tests.{not-true}
 use Rattle.entry_set.specs.Fields.{clustersFor}
 use Rattle.entry_set.proofs.LengthLaws.{clusters-hold, clusters-below}
 use Rattle.entry_set.specs.Sound.{wellFormed}
@@ -20,7 +21,7 @@ use Rattle.write_alloc.specs.Choice.{allFrom, runFrom}
 use Rattle.write_alloc.proofs.Runs.{run-hit}
 use Rattle.write_alloc.proofs.ChoiceLaws.{Whole, Lowest, all-whole, whole-all, all-cong, run-at, run-nothing, run-cong}
 use Rattle.directory.specs.Entries.{entryCount, typeAt, inUse, beforeEnd, isFile, entriesAt, setAt, sets}
-use Rattle.directory.specs.Room.{freeRun, isAt, slotOf, withZeros, fewest, growth}
+use Rattle.directory.specs.Room.{Row, freeRun, isAt, slotOf, withZeros, fewest, growth}
 use Rattle.directory.proofs.EntryLaws.{unused-zero, used-same, sound-formed, sound-of, set-is}
 use Rattle.directory.proofs.OrderedLaws.{Ordered, file-room, file-few, file-fit, file-byte}
 use Rattle.directory.proofs.StoreLaws.{sets-file, sets-none}
@@ -261,3 +262,46 @@ module _ (bs : List ℕ) (n : ℕ) (whole : length bs ≡ 32 * entryCount bs) wh
             | yes l ↦ absurd (omega (arith, less 0 l))
             | no l ↦ omega (arith, growth-is)
           ]
+
+-- ---- what the clusters and the slot are, in 01's words
+
+module _ (bs : List ℕ) (n : ℕ) where
+  row-whole : (i : ℕ) → Row bs n i → Whole (λ j. not (inUse bs j)) i n
+  row-whole i w j a b = ap not (w .unused j a b)
+
+  row-lowest : (i : ℕ) → freeRun bs n ≡ At i → Row bs n i × ((j : ℕ) → j < i → Row bs n j → ⊥)
+  unfolding freeRun
+  row-lowest i e =
+      let v = run-at (λ j. not (inUse bs j)) (entryCount bs) n 0 i e in
+      (record { inside = v .inside; unused = λ j a b. not-true (inUse bs j) (v .whole j a b) }, λ j l w. v .least j (omega arith) l (row-whole j w))
+
+  row-none : freeRun bs n ≡ Nothing → (i : ℕ) → Row bs n i → ⊥
+  unfolding freeRun
+  row-none e i w = run-nothing (λ j. not (inUse bs j)) (entryCount bs) n 0 e i (omega arith) (w .inside) (row-whole i w)
+
+module _ (size per : ℕ) (e : size ≡ 32 * per) (pos : 1 ≤ per) (bs : List ℕ) (n : ℕ) (whole : length bs ≡ 32 * entryCount bs) where
+  abbrev base : ℕ
+  base = slotOf (freeRun (withZeros bs (32 * n)) n)
+
+  -- the directory so grown
+  abbrev grown : List ℕ
+  grown = withZeros bs (growth size bs n * size)
+
+  grown-found : freeRun grown n ≡ At (slotOf (freeRun grown n))
+  unfolding slotOf
+  grown-found = let q = grown-at bs n whole base (place-at bs n whole) size per e pos in q ∙ ap At (ap slotOf (sym q))
+
+  -- it has n entries in a row that are not in use: the set's slot begins them ..
+  pub growth-fits : Row (withZeros bs (growth size bs n * size)) n (slotOf (freeRun (withZeros bs (growth size bs n * size)) n))
+  growth-fits = row-lowest grown n (slotOf (freeRun grown n)) grown-found .0
+
+  -- .. and no lower slot does ..
+  pub growth-lowest : (i : ℕ) → i < slotOf (freeRun (withZeros bs (growth size bs n * size)) n) → Row (withZeros bs (growth size bs n * size)) n i → ⊥
+  growth-lowest = row-lowest grown n (slotOf (freeRun grown n)) grown-found .1
+
+  -- .. and with fewer clusters it has none
+  pub growth-fewest : (g : ℕ) → g < growth size bs n → (i : ℕ) → Row (withZeros bs (g * size)) n i → ⊥
+  growth-fewest g l =
+      row-none (withZeros bs (g * size)) n
+      (less-none bs n whole base (place-at bs n whole) size per e pos g
+      (omega (arith, growth-is bs n whole base (place-at bs n whole) size per e pos)))

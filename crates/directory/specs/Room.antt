@@ -1,13 +1,19 @@
 -- Where a new set goes: its slot, and the clusters that the directory grows by for it (01, "New file"; Rust: `free_run`).
+use mathlib.Core.Path.{_≡_}
 use mathlib.Core.Bool.{Bool, true, false, not, cond}
 use mathlib.Core.List.{List, _++_}
-use Prim.Native.Nat.{ℕ, zero, suc, _+_, _*_}
+use Prim.Native.Nat.{ℕ, zero, suc, _+_, _*_, _≤_, _<_}
 use lib.ListN.{replicate}
 use Rattle.metadata.specs.declared.usable.Found.{Found}
 use Rattle.metadata.specs.declared.usable.Found.the-variants.{At, Nothing}
 use Rattle.write_alloc.specs.Choice.{runFrom}
 use Rattle.directory.specs.declared.entries.Room.{Room}
 use Rattle.directory.specs.Entries.{entryCount, inUse}
+
+-- slot i begins n entries in a row with type bit 0x80 clear
+pub record Row (bs : List ℕ) (n i : ℕ) : Type 0 where
+  pub inside : i + n ≤ entryCount bs
+  pub unused : (j : ℕ) → i ≤ j → j < i + n → inUse bs j ≡ false
 
 -- the lowest sequence of n entries with type bit 0x80 clear
 unfoldable pub freeRun : List ℕ → ℕ → Found

@@ -2,7 +2,7 @@
 use mathlib.Core.Path.{_≡_, refl, sym, _∙_, ap}
 use mathlib.Core.Logic.{_≢_, _↔_}
 use mathlib.Core.Bool.{Bool, true, false, cond}
-use mathlib.Core.List.{List}
+use mathlib.Core.List.{List, [], _∷_, _++_}
 use Prim.Native.Nat.{ℕ, _+_, _-_, _≤_, _<_}
 use native.Mathlib.Decide.{ℕ-discrete, decLt}
 use native.Mathlib.Omega.{arith}
@@ -12,16 +12,17 @@ use borrow.Author.Tests.{eq-eqb, ne-eqb, lt-ltb, le-ltb}
 use Rattle.boot.specs.declared.geometry.Geometry.{Geometry}
 use Rattle.boot.specs.declared.layout.Layout.{Layout}
 use Rattle.boot.specs.Limits.{limits}
-use Rattle.boot.specs.Causes.{limitsCause}
-use Rattle.boot.proofs.CauseLaws.{cause-skip, cause-last, cause-none}
+use Rattle.boot.specs.Causes.{firstCause, limitsCause, heapCause}
+use Rattle.boot.proofs.CauseLaws.{cause-skip, cause-met, cause-last, limits-met, limits-kept}
 use Rattle.stream.specs.declared.allocation.Allocation.{Allocation}
 use Rattle.entry_set.specs.declared.stamp.Stamp.{Stamp}
 use Rattle.entry_set.specs.declared.stamp.Stamps.{Stamps}
 use Rattle.entry_set.specs.Fields.{dataLength, clustersFor}
+use Rattle.entry_set.specs.Name.{nameCause, attributeCause}
 use Rattle.entry_set.specs.New.{newEntries, newSet}
 use Rattle.write_alloc.specs.Outcome.{spaceCause}
 use Rattle.write_shrink.specs.Shrink.{shrinkIn}
-use Rattle.directory.specs.Directory.{clustersIn}
+use Rattle.directory.specs.Directory.{directoryCause, clustersIn}
 use Rattle.write_dir.specs.Outcome.{Outcome, refuse, carried}
 use Rattle.write_dir.specs.Open.{fileRecord, setIn}
 use Rattle.write_dir.specs.Place.{growBy}
@@ -32,9 +33,9 @@ use Rattle.write_length.specs.SetLength.{setLengthCause, shorter, longerFile, r
 use Rattle.write_remove.specs.Remove.{unlinked, removeIn, remove}
 use Rattle.write.specs.Calls.{Call, New, Write, SetLength, Remove, step}
 use Rattle.write.specs.Consistent.{lay, root, rootBytes, setOf}
+use Rattle.write.specs.Demand.{hintOf}
 use Rattle.write.specs.Space.{usable, beyond, mustAdd, otherCause}
 use Rattle.write.proofs.Reading.{record-count}
-use Rattle.write.proofs.Scene.{both-clear, if-clear}
 
 -- ---- what a call on a volume that keeps the limits answers
 
@@ -61,8 +62,8 @@ module _ {d : List ℕ} {n hint : ℕ} {o r : Outcome} (e : Decided d n hint o r
   pub decided-carried : r .answer .number ≡ 0 → r ≡ o
   decided-carried z = none-met (sym decided-number ∙ z)
 
-  pub decided-refused : r .answer .number ≢ 0 → r .volume ≡ d
-  decided-refused h = ap (λ (x : Outcome). x .volume) (met (λ z. h (decided-number ∙ z))) ∙ (unfold refuse in refl)
+  pub decided-refused : r .answer .number ≢ 0 → r ≡ refuse (r .answer .number) hint d
+  decided-refused h = met (λ z. h (decided-number ∙ z)) ∙ ap (λ (k : ℕ). refuse k hint d) (sym decided-number)
 
 -- of two outcomes that both answer 0
 either : (b : Bool) (o o′ : Outcome) → o .answer .number ≡ 0 → o′ .answer .number ≡ 0 → cond b o o′ .answer .number ≡ 0
@@ -112,20 +113,70 @@ module _ (g : Geometry) (m d : List ℕ) (l : limits g (length d) m ≡ true) wh
   remove-decided i hint = record { is = rw l refl; zero = unfold carried in refl }
 
   -- a refused call leaves the volume as it was
-  pub refused-same : (c : Call) → step g m d c .answer .number ≢ 0 → step g m d c .volume ≡ d
-  refused-same (New name attributes hash t hint) = decided-refused (new-decided name attributes hash t hint)
-  refused-same (Write i offset bs t hint) = decided-refused (write-decided i offset bs t hint)
-  refused-same (SetLength i len t hint) = decided-refused (set-decided i len t hint)
-  refused-same (Remove i hint) = decided-refused (remove-decided i hint)
+  refused-in : (c : Call) → step g m d c .answer .number ≢ 0 → step g m d c ≡ refuse (step g m d c .answer .number) (hintOf c) d
+  unfolding hintOf
+  refused-in (New name attributes hash t hint) = decided-refused (new-decided name attributes hash t hint)
+  refused-in (Write i offset bs t hint) = decided-refused (write-decided i offset bs t hint)
+  refused-in (SetLength i len t hint) = decided-refused (set-decided i len t hint)
+  refused-in (Remove i hint) = decided-refused (remove-decided i hint)
 
--- ---- when the number is 7
+-- ---- a volume that breaks the limits
 
--- what the last two clauses say of a volume
-abbrev pub Seven : Geometry → List ℕ → List ℕ → Type 0
-Seven g m d = (c : Call) → otherCause g m d c ≡ 0 → (step g m d c .answer .number ≡ 7) ↔ (usable g m d < mustAdd g d c)
+module _ (g : Geometry) (m d : List ℕ) (l : limits g (length d) m ≡ false) where
+  -- any call on it is refused with 1
+  pub broken : (c : Call) → step g m d c ≡ refuse 1 (hintOf c) d
+  unfolding step newFile writeInto setLength remove hintOf
+  broken (New name attributes hash t hint) = rw l refl
+  broken (Write i offset bs t hint) = rw l refl
+  broken (SetLength i len t hint) = rw l refl
+  broken (Remove i hint) = rw l refl
 
-abbrev pub CarriedOut : Geometry → List ℕ → List ℕ → Type 0
-CarriedOut g m d = (c : Call) → otherCause g m d c ≡ 0 → mustAdd g d c ≤ usable g m d → step g m d c .answer .number ≡ 0
+  pub broken-number : (c : Call) → step g m d c .answer .number ≡ 1
+  unfolding refuse
+  broken-number c = ap (λ (o : Outcome). o .answer .number) (broken c)
+
+  other-broken : (c : Call) → otherCause g m d c ≡ 1
+  unfolding otherCause
+  other-broken (New name attributes hash t hint) = cause-met _ _ (λ z. omega (arith, limits-met g d m l)) ∙ limits-met g d m l
+  other-broken (Write i offset bs t hint) = cause-met _ _ (λ z. omega (arith, limits-met g d m l)) ∙ limits-met g d m l
+  other-broken (SetLength i len t hint) = cause-met _ _ (λ z. omega (arith, limits-met g d m l)) ∙ limits-met g d m l
+  other-broken (Remove i hint) = cause-met _ _ (λ z. omega (arith, limits-met g d m l)) ∙ limits-met g d m l
+
+-- a refused call on any volume: the number, slot 0, the hint as given and the volume as it was
+pub refused-same : (g : Geometry) (m d : List ℕ) (c : Call) → step g m d c .answer .number ≢ 0
+    → step g m d c ≡ refuse (step g m d c .answer .number) (hintOf c) d
+refused-same g m d c n = by (limits g (length d) m) refl
+  where
+    by : (b : Bool) → limits g (length d) m ≡ b → step g m d c ≡ refuse (step g m d c .answer .number) (hintOf c) d
+    by true l = refused-in g m d l c n
+    by false l = broken g m d l c ∙ ap (λ (k : ℕ). refuse k (hintOf c) d) (sym (broken-number g m d l c))
+
+pub refused-volume : (g : Geometry) (m d : List ℕ) (c : Call) → step g m d c .answer .number ≢ 0 → step g m d c .volume ≡ d
+unfolding refuse
+refused-volume g m d c n = ap (λ (o : Outcome). o .volume) (refused-same g m d c n)
+
+-- ---- the number of every call on any volume
+
+-- the last of some causes stands behind the first of the others
+cause-append : (cs : List ℕ) (c : ℕ) → firstCause (cs ++ (c ∷ [])) ≡ firstCause (firstCause cs ∷ c ∷ [])
+unfolding firstCause
+cause-append [] c = refl
+cause-append (x ∷ cs) c =
+    elim (ℕ-discrete x 0) [
+      | yes z ↦ cause-skip x (cs ++ (c ∷ [])) z ∙ cause-append cs c ∙ ap (λ (n : ℕ). firstCause (n ∷ c ∷ [])) (sym (cause-skip x cs z))
+      | no z ↦ cause-met x (cs ++ (c ∷ [])) z ∙ sym (ap (λ (n : ℕ). firstCause (n ∷ c ∷ [])) (cause-met x cs z) ∙ cause-met x (c ∷ []) z)
+    ]
+
+-- causes that stand in for one of them
+cause-flat : (c : ℕ) (cs : List ℕ) → firstCause (c ∷ firstCause cs ∷ []) ≡ firstCause (c ∷ cs)
+unfolding firstCause
+cause-flat c cs = ap (λ (n : ℕ). cond (eqb c 0) n c) (cause-last (firstCause cs))
+
+-- a last cause that is not met
+cause-zero : (cs : List ℕ) → firstCause cs ≡ firstCause (cs ++ (0 ∷ []))
+unfolding firstCause
+cause-zero [] = refl
+cause-zero (c ∷ cs) = ap (λ (n : ℕ). cond (eqb c 0) n c) (cause-zero cs)
 
 space-seven : (wanted there : ℕ) → (spaceCause wanted there ≡ 7) ↔ (there < wanted)
 unfolding spaceCause
@@ -139,71 +190,91 @@ space-enough : (wanted there : ℕ) → wanted ≤ there → spaceCause wanted t
 unfolding spaceCause
 space-enough wanted there h = rw (le-ltb there wanted h) refl
 
-module _ (g : Geometry) (m d : List ℕ) where
-  kept : limitsCause g d m ≡ 0 → limits g (length d) m ≡ true
-  unfolding limitsCause
-  kept e = if-clear (limits g (length d) m) 1 (λ z. omega arith) e
+-- what the claim says of a call's number
+abbrev pub Numbered : Geometry → List ℕ → List ℕ → Call → Type 0
+Numbered g m d c = step g m d c .answer .number ≡ firstCause (otherCause g m d c ∷ spaceCause (mustAdd g d c) (usable g m d) ∷ [])
 
+module _ (g : Geometry) (m d : List ℕ) where
   -- the clusters that the file at slot i must add
   must : (i len : ℕ) → missing (lay g d) (fileRecord (lay g d) d (setIn (lay g d) d (root g d) i)) len ≡ beyond g d i len
   unfolding missing beyond setIn setOf rootBytes
   must i len = ap (λ (x : ℕ). clustersFor (lay g d .size) len - x) (record-count (lay g d) d _)
 
-  -- the number of a call that meets no other cause
-  by-space : (c : Call) → otherCause g m d c ≡ 0 → step g m d c .answer .number ≡ spaceCause (mustAdd g d c) (usable g m d)
-  unfolding otherCause mustAdd
-  by-space (New name attributes hash t hint) e =
-      let a = cause-none _ _ e in
-      let b = cause-none _ _ (a .1) in
-      let x = cause-none _ _ (b .1) in
-      let y = both-clear _ _ (x .1) in
-      decided-number (new-decided g m d (kept (a .0)) name attributes hash t hint) ∙ (unfold newCause in (unfold usable in (cause-skip _ _ (b .0) ∙ cause-skip _ _ (x .0) ∙ cause-skip _ _ (y .0) ∙ cause-skip _ _ (y .1) ∙ cause-last _)))
-  by-space (Write i offset bs t hint) e = by (eqb (length bs) 0) refl
+  module _ (l : limits g (length d) m ≡ true) where
+    -- 1 is not met; the others, then 7
+    then-space : (cs : List ℕ) (wanted : ℕ)
+        → firstCause (cs ++ (spaceCause wanted (usable g m d) ∷ []))
+        ≡ firstCause (firstCause (limitsCause g d m ∷ cs) ∷ spaceCause wanted (usable g m d) ∷ [])
+    then-space cs wanted =
+        cause-append cs (spaceCause wanted (usable g m d))
+        ∙ ap (λ (n : ℕ). firstCause (n ∷ spaceCause wanted (usable g m d) ∷ [])) (sym (cause-skip (limitsCause g d m) cs (limits-kept g d m l)))
+
+    numbered-in : (c : Call) → Numbered g m d c
+    unfolding otherCause mustAdd
+    numbered-in (New name attributes hash t hint) =
+        decided-number (new-decided g m d l name attributes hash t hint)
+        ∙ (unfold newCause in (unfold usable in
+        (then-space
+        (heapCause (lay g d .count) hint ∷ directoryCause (lay g d) d (root g d) ∷ nameCause name ∷ attributeCause attributes ∷ [])
+        (newGrowth (lay g d) d (root g d) (length name)))))
+    numbered-in (Write i offset bs t hint) =
+        decided-number (write-decided g m d l i offset bs t hint) ∙ (unfold writeCause in (by (eqb (length bs) 0)))
+      where
+        len : ℕ
+        len = larger (dataLength (setOf g d i)) (offset + length bs)
+
+        data-is : dataCause (lay g d) d m (setIn (lay g d) d (root g d) i) offset (length bs)
+            ≡ firstCause (endCause offset (length bs) ∷ spaceCause (beyond g d i len) (usable g m d) ∷ [])
+        data-is =
+            unfold dataCause in (unfold lengthCause in (unfold usable in (unfold setIn in (unfold setOf in (unfold rootBytes in (
+            ap (λ (x : ℕ). firstCause (endCause offset (length bs) ∷ spaceCause x (usable g m d) ∷ []))
+            (unfold setIn in (unfold setOf in (unfold rootBytes in (must i len))))))))))
+
+        by : (b : Bool)
+            → firstCause (openCause (lay g d) d m (root g d) i hint ∷ cond b 0 (dataCause (lay g d) d m (setIn (lay g d) d (root g d) i) offset (length bs)) ∷ [])
+            ≡ firstCause
+            (firstCause (limitsCause g d m ∷ openCause (lay g d) d m (root g d) i hint ∷ cond b 0 (endCause offset (length bs)) ∷ [])
+            ∷ spaceCause (cond b 0 (beyond g d i (larger (dataLength (setOf g d i)) (offset + length bs)))) (usable g m d)
+            ∷ [])
+        by true =
+            cause-zero (openCause (lay g d) d m (root g d) i hint ∷ 0 ∷ [])
+            ∙ ap (λ (n : ℕ). firstCause (openCause (lay g d) d m (root g d) i hint ∷ 0 ∷ n ∷ [])) (sym (space-enough 0 (usable g m d) (omega arith)))
+            ∙ then-space (openCause (lay g d) d m (root g d) i hint ∷ 0 ∷ []) 0
+        by false =
+            ap (λ (n : ℕ). firstCause (openCause (lay g d) d m (root g d) i hint ∷ n ∷ [])) data-is
+            ∙ cause-flat (openCause (lay g d) d m (root g d) i hint) _
+            ∙ then-space (openCause (lay g d) d m (root g d) i hint ∷ endCause offset (length bs) ∷ []) (beyond g d i len)
+    numbered-in (SetLength i len t hint) =
+        decided-number (set-decided g m d l i len t hint)
+        ∙ (unfold setLengthCause in (unfold lengthCause in (unfold usable in
+        (ap (λ (x : ℕ). firstCause (openCause (lay g d) d m (root g d) i hint ∷ spaceCause x (usable g m d) ∷ [])) (must i len)
+        ∙ then-space (openCause (lay g d) d m (root g d) i hint ∷ []) (beyond g d i len)))))
+    numbered-in (Remove i hint) =
+        decided-number (remove-decided g m d l i hint)
+        ∙ sym (cause-last (openCause (lay g d) d m (root g d) i hint))
+        ∙ cause-zero (openCause (lay g d) d m (root g d) i hint ∷ [])
+        ∙ ap (λ (n : ℕ). firstCause (openCause (lay g d) d m (root g d) i hint ∷ n ∷ [])) (sym (space-enough 0 (usable g m d) (omega arith)))
+        ∙ then-space (openCause (lay g d) d m (root g d) i hint ∷ []) 0
+
+  pub numbered : (c : Call) → Numbered g m d c
+  numbered c = by (limits g (length d) m) refl
     where
-      len : ℕ
-      len = larger (dataLength (setOf g d i)) (offset + length bs)
+      by : (b : Bool) → limits g (length d) m ≡ b → Numbered g m d c
+      by true l = numbered-in l c
+      by false l =
+          broken-number g m d l c
+          ∙ sym
+          (cause-met (otherCause g m d c) (spaceCause (mustAdd g d c) (usable g m d) ∷ []) (λ z. omega (arith, other-broken g m d l c)) ∙ other-broken g m d l c)
 
-      open-clear : (limitsCause g d m ≡ 0) × (openCause (lay g d) d m (root g d) i hint ≡ 0)
-      open-clear = let a = cause-none _ _ (unfold otherCause in e) in (a .0, both-clear _ _ (a .1) .0)
+  -- where no other cause is met
+  by-space : (c : Call) → otherCause g m d c ≡ 0 → step g m d c .answer .number ≡ spaceCause (mustAdd g d c) (usable g m d)
+  by-space c e = numbered c ∙ cause-skip _ _ e ∙ cause-last _
 
-      end-clear : cond (eqb (length bs) 0) 0 (endCause offset (length bs)) ≡ 0
-      end-clear = let a = cause-none _ _ (unfold otherCause in e) in both-clear _ _ (a .1) .1
-
-      number : step g m d (Write i offset bs t hint) .answer .number
-          ≡ cond (eqb (length bs) 0) 0 (dataCause (lay g d) d m (setIn (lay g d) d (root g d) i) offset (length bs))
-      number = decided-number (write-decided g m d (kept (open-clear .0)) i offset bs t hint) ∙ (unfold writeCause in (cause-skip _ _ (open-clear .1) ∙ cause-last _))
-
-      by : (b : Bool) → eqb (length bs) 0 ≡ b
-          → step g m d (Write i offset bs t hint) .answer .number
-          ≡ spaceCause (cond b 0 (beyond g d i (larger (dataLength (setOf g d i)) (offset + length bs)))) (usable g m d)
-      by true q =
-          number ∙ ap (λ (b : Bool). cond b 0 (dataCause (lay g d) d m (setIn (lay g d) d (root g d) i) offset (length bs))) q
-          ∙ sym (space-enough 0 (usable g m d) (omega arith))
-      by false q =
-          number ∙ ap (λ (b : Bool). cond b 0 (dataCause (lay g d) d m (setIn (lay g d) d (root g d) i) offset (length bs))) q ∙ data-clear q
-          ∙ ap (λ (x : ℕ). spaceCause x (usable g m d)) (must i len)
-        where
-          data-clear : eqb (length bs) 0 ≡ false
-              → dataCause (lay g d) d m (setIn (lay g d) d (root g d) i) offset (length bs)
-              ≡ spaceCause (missing (lay g d) (fileRecord (lay g d) d (setIn (lay g d) d (root g d) i)) len) (usable g m d)
-          data-clear q =
-              unfold dataCause in (unfold lengthCause in (unfold usable in (unfold setIn in (unfold setOf in (unfold rootBytes in (
-              cause-skip _ _ (sym (ap (λ (b : Bool). cond b 0 (endCause offset (length bs))) q) ∙ end-clear) ∙ cause-last _))))))
-  by-space (SetLength i len t hint) e =
-      let a = both-clear _ _ e in
-      let wanted = missing (lay g d) (fileRecord (lay g d) d (setIn (lay g d) d (root g d) i)) len in
-      let n : setLengthCause (lay g d) d m (root g d) i len hint ≡ spaceCause wanted (usable g m d) =
-      unfold setLengthCause in (unfold lengthCause in (unfold usable in (cause-skip _ _ (a .1) ∙ cause-last _))) in
-      decided-number (set-decided g m d (kept (a .0)) i len t hint) ∙ n ∙ ap (λ (x : ℕ). spaceCause x (usable g m d)) (must i len)
-  by-space (Remove i hint) e =
-      let a = both-clear _ _ e in
-      decided-number (remove-decided g m d (kept (a .0)) i hint) ∙ a .1 ∙ sym (space-enough 0 (usable g m d) (omega arith))
-
-  pub seven : Seven g m d
+  pub seven : (c : Call) → otherCause g m d c ≡ 0 → (step g m d c .answer .number ≡ 7) ↔ (usable g m d < mustAdd g d c)
   seven c e =
       let n = by-space c e in
       let s = space-seven (mustAdd g d c) (usable g m d) in
       (λ z. s .0 (sym n ∙ z), λ l. n ∙ s .1 l)
 
-  pub carried-out : CarriedOut g m d
+  pub carried-out : (c : Call) → otherCause g m d c ≡ 0 → mustAdd g d c ≤ usable g m d → step g m d c .answer .number ≡ 0
   carried-out c e h = by-space c e ∙ space-enough (mustAdd g d c) (usable g m d) h

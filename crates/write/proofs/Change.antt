@@ -5,10 +5,11 @@ use mathlib.Core.Logic.{_≢_}
 use mathlib.Core.Bool.{Bool, true, false, _&&_, not, cond, false≢true}
 use mathlib.Core.List.{List}
 use mathlib.Core.Option.{Option, none, some}
-use Prim.Native.Nat.{ℕ, zero, suc, _+_, _≤_, _<_}
+use Prim.Native.Nat.{ℕ, zero, suc, _+_, _*_, _≤_, _<_}
 use native.Mathlib.Decide.{ℕ-discrete}
 use native.Mathlib.Omega.{arith}
-use lib.ListN.{length}
+use lib.ListN.{length, take}
+use Rattle.primitives.specs.Splice.{splice}
 use Rattle.tables.specs.Table.{upd}
 use Rattle.tables.specs.Lists.{Mem}
 use Rattle.tables.proofs.Cases.{not-so}
@@ -26,18 +27,19 @@ use Rattle.stream.specs.Listing.{clustersOf}
 use Rattle.entry_set.specs.Fields.{isDirectory, validLength, dataLength, clustersFor}
 use Rattle.directory.specs.Directory.{rootRecord, clustersIn, bytesIn}
 use Rattle.directory.specs.Entries.{entryCount, isFile, entriesAt, setAt, isSound, sets}
+use Rattle.directory.specs.Room.{withZeros}
 use Rattle.directory.proofs.EntryLaws.{sound-file}
 use Rattle.directory.proofs.FitLaws.{fit-low}
 use Rattle.directory.proofs.OrderedLaws.{Ordered, file-room, file-fit, files-apart}
 use Rattle.directory.proofs.StoreLaws.{sets-file, sets-none}
 use Rattle.write_dir.specs.Open.{fileRecord}
-use Rattle.write.specs.Consistent.{Consistent, lay, root, rootClusters, rootBytes, fileAt, setOf, streamAt, fileClusters}
+use Rattle.write.specs.Consistent.{Consistent, lay, root, rootClusters, rootBytes, fileAt, setOf, streamAt, fileClusters, fileBytes}
 use Rattle.write.specs.Contents.{shown, hasFile, contents}
 use Rattle.write.specs.Space.{lengthTakes, sum, clustersTaken}
-use Rattle.write.specs.Demand.{Lost}
+use Rattle.write.specs.Demand.{entriesPut, Lost}
 use Rattle.write.proofs.Reading.{record-same}
-use Rattle.write.proofs.Family.{Family, Outside, Untouched}
-use Rattle.write.proofs.Scene.{clear-stream, clear-directory, lay-same, members, ordered, slot-number, slot-off, lost-outside}
+use Rattle.write.proofs.Family.{Family, Outside, Untouched, same-clusters}
+use Rattle.write.proofs.Scene.{clear-stream, clear-directory, lay-same, members, ordered, slot-stream, slot-number, slot-off, lost-outside}
 
 -- the clusters that the length of a slot's set takes, and the contents that the set shows
 unfoldable pub takes : Layout → Option (List ℕ) → ℕ
@@ -48,14 +50,16 @@ unfoldable pub contentsOf : Layout → List ℕ → Option (List ℕ) → Option
 contentsOf y d (some s) = cond (isDirectory s) none (some (shown (bytesIn y d (fileRecord y d s)) (validLength s) (dataLength s)))
 contentsOf y d none = none
 
--- d′ is d changed at slot i alone, where o stands now
-pub record Change (g : Geometry) (m d d′ : List ℕ) (i : ℕ) (o : Option (List ℕ)) : Type 0 where
+-- d′ is d changed at slot i alone, where o stands now, with `more` zeroed clusters added to the root
+pub record Change (g : Geometry) (m d d′ : List ℕ) (more i : ℕ) (o : Option (List ℕ)) : Type 0 where
   pub long : length d′ ≡ length d
   -- the root afterwards
   pub after : Allocation
   pub root-is : rootRecord (lay g d) d′ (rootCluster g) ≡ after
   pub ordered : Ordered (lay g d .count) (lay g d .size) (bytesIn (lay g d) d′ after)
   pub table : (j : ℕ) → sets (bytesIn (lay g d) d′ after) j ≡ upd (sets (rootBytes g d)) i o j
+  pub root-bytes : bytesIn (lay g d) d′ after ≡ splice (withZeros (rootBytes g d) (more * lay g d .size)) (32 * i) (entriesPut (setOf g d i) o)
+  pub root-clusters : take (length (rootClusters g d)) (clustersIn (lay g d) d′ after) ≡ rootClusters g d
   -- the root and the streams of the slots
   pub S′ : ℕ → Option Allocation
   pub family : Family (lay g d) d′ S′
@@ -208,7 +212,7 @@ module _ (g : Geometry) (d : List ℕ) where
 
 -- ---- the changed volume
 
-module _ (g : Geometry) (m d d′ : List ℕ) (i : ℕ) (o : Option (List ℕ)) (c : Consistent g m d) (h : Change g m d d′ i o) where
+module _ (g : Geometry) (m d d′ : List ℕ) (more i : ℕ) (o : Option (List ℕ)) (c : Consistent g m d) (h : Change g m d d′ more i o) where
   same-lay : lay g d′ ≡ lay g d
   same-lay = lay-same g d d′ (h .long)
 
@@ -276,8 +280,43 @@ module _ (g : Geometry) (m d d′ : List ℕ) (i : ℕ) (o : Option (List ℕ)) 
   unfolding rootClusters
   change-clusters = ap₂ (λ (y : Layout) (a : Allocation). clustersIn y d′ a) same-lay change-root
 
+  pub change-root-bytes : rootBytes g d′ ≡ splice (withZeros (rootBytes g d) (more * lay g d .size)) (32 * i) (entriesPut (setOf g d i) o)
+  change-root-bytes = change-bytes ∙ h .root-bytes
+
+  pub change-root-clusters : take (length (rootClusters g d)) (rootClusters g d′) ≡ rootClusters g d
+  change-root-clusters = ap (take (length (rootClusters g d))) change-clusters ∙ h .root-clusters
+
   pub change-sets : (j : ℕ) → sets (rootBytes g d′) j ≡ upd (sets (rootBytes g d)) i o j
   change-sets j = ap (λ (bs : List ℕ). sets bs j) change-bytes ∙ h .table j
+
+  -- the stream of another slot
+  module _ (j : ℕ) (n : j ≢ i) (f : fileAt g d j ≡ true) where
+    there : sets (rootBytes g d) j ≡ some (setOf g d j)
+    unfolding fileAt setOf
+    there = sets-file (rootBytes g d) j f
+
+    there-now : sets (rootBytes g d′) j ≡ some (setOf g d j)
+    there-now = change-sets j ∙ upd-other (sets (rootBytes g d)) i o j n ∙ there
+
+    same-stream : streamAt g d′ j ≡ fileRecord (lay g d) d (setOf g d j)
+    same-stream =
+        slot-stream g m d′ change-consistent j (setOf g d j) there-now
+        ∙ ap (λ (y : Layout). fileRecord y d′ (setOf g d j)) same-lay
+        ∙ other-record j (setOf g d j) n there
+
+    pub change-other-clusters : fileClusters g d′ j ≡ fileClusters g d j
+    unfolding fileClusters
+    change-other-clusters =
+        ap₂ (λ (y : Layout) (a : Allocation). clustersIn y d′ a) same-lay same-stream
+        ∙ same-clusters (lay g d) d d′ (fileRecord (lay g d) d (setOf g d j)) (h .others-read j (setOf g d j) n there)
+        ∙ (unfold streamAt in refl)
+
+    pub change-other-bytes : fileBytes g d′ j ≡ fileBytes g d j
+    unfolding fileBytes
+    change-other-bytes =
+        ap₂ (λ (y : Layout) (a : Allocation). bytesIn y d′ a) same-lay same-stream
+        ∙ h .others-bytes j (setOf g d j) n there
+        ∙ (unfold streamAt in refl)
 
   -- what a slot shows now
   shows-now : (j : ℕ) → contents g d′ j ≡ contentsOf (lay g d) d′ (upd (sets (rootBytes g d)) i o j)

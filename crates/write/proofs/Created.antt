@@ -1,6 +1,6 @@
 -- A new file, as a step: the root grows where it must, and the set is stored in it. Assumes nothing.
 use mathlib.Core.Path.{_≡_, refl, sym, _∙_, ap, ap₂}
-use mathlib.Core.Bool.{Bool, true, cond}
+use mathlib.Core.Bool.{Bool, true, not, cond}
 use mathlib.Core.List.{[], List}
 use mathlib.Core.Option.{Option, none, some, Option·some-injective}
 use Prim.Native.Nat.{ℕ, suc, _+_, _*_, _/_, _≤_}
@@ -38,12 +38,14 @@ use Rattle.write_dir.specs.Outcome.{carried}
 use Rattle.write_dir.specs.Open.{fileRecord}
 use Rattle.write_dir.specs.Place.{Grown, growBy}
 use Rattle.write_dir.proofs.InsertLaws.{insert-room, insert-free, insert-ordered, insert-sets}
+use Rattle.write_file.specs.Refresh.{entriesOf}
 use Rattle.write_file.specs.NewFile.{newGrowth, newCause, placed}
 use Rattle.write_file.proofs.NewFileLaws.{space-enough}
 use Rattle.write.specs.Calls.{New, step}
-use Rattle.write.specs.Consistent.{Consistent, lay, root, rootBytes}
+use Rattle.write.specs.Consistent.{Consistent, lay, root, rootClusters, rootBytes, setOf}
 use Rattle.write.specs.Contents.{shown, contents}
-use Rattle.write.specs.Model.{accepted}
+use Rattle.write.specs.Model.{accepted, hasList, finds}
+use Rattle.write.specs.Space.{mustAdd}
 use Rattle.write.specs.Demand as demand
 use Rattle.write.proofs.Shown.{shown-empty}
 use Rattle.write.proofs.Reading.{reads-as, bytes-length, root-back, record-empty}
@@ -203,9 +205,23 @@ module _ (g : Geometry) (m d : List ℕ) (c : Consistent g m d) (name : List ℕ
       outside = outside-add y d₂ T (suc at) empty refl;
     }
 
-    change : Change g m d d₂ at (some x)
+    growth-is : growth (y .size) R n ≡ more
+    growth-is = unfold newGrowth in (unfold rootBytes in refl)
+
+    -- the root's bytes, and its clusters
+    root-now : bytesIn y d₂ (w .directory) ≡ splice (withZeros R (more * y .size)) (32 * at) (demand.entriesPut (setOf g d at) (some x))
+    unfolding demand.entriesPut entriesOf
+    root-now =
+        bytes₂
+        ∙ ap₂ (λ (k l : ℕ). splice (withZeros R (k * y .size)) (32 * at) (take (32 * l) x)) growth-is (sym (new-entries name attributes hash t))
+
+    root-kept : take (length (rootClusters g d)) (clustersIn y d₂ (w .directory)) ≡ rootClusters g d
+    unfolding rootClusters
+    root-kept = ap (take (length (clustersIn y d (root g d)))) (same-clusters y (w .volume) d₂ (w .directory) (stored .stream)) ∙ wider .kept
+
+    change : Change g m d d₂ more at (some x)
     change =
-        change-of g m d d₂ at (some x) (w .directory) (upd T (suc at) (some empty))
+        change-of g m d d₂ more at (some x) (w .directory) (upd T (suc at) (some empty))
         (moves-file y d d₂ d₂ S T at (moves-root y d d d₂ S S at (moves-none y d S at (family g m d c)) (some (w .directory)) moved₂) (some empty) joined)
         (ap (rootRecord y d₂) (sym (wider .led .first ∙ root-first g d))
         ∙ root-back y d₂ (w .directory) (clustersIn y (w .volume) (w .directory)) (stored .stream ∙ reads-as y (w .volume) (w .directory) reads)
@@ -213,6 +229,8 @@ module _ (g : Geometry) (m d : List ℕ) (c : Consistent g m d) (name : List ℕ
         (upd-other T (suc at) (some empty) 0 (λ q. omega arith) ∙ own)
         (insert-ordered (y .count) (y .size) (y .size / 32) (size-per g m d c) per R n x (ordered g m d c) fit (bytesIn y d₂ (w .directory)) bytes₂)
         (insert-sets (y .count) (y .size) (y .size / 32) (size-per g m d c) per R n x (ordered g m d c) fit (bytesIn y d₂ (w .directory)) bytes₂)
+        root-now
+        root-kept
         (λ s q. upd-same T (suc at) (some empty) ∙ ap some (back-of s q))
         (λ s q k r.
         absurd
@@ -250,10 +268,10 @@ module _ (g : Geometry) (m d : List ℕ) (c : Consistent g m d) (name : List ℕ
     none-before = contents-is g d (ordered g m d c) at ∙ ap (contentsOf y d) free ∙ (unfold contentsOf in refl)
 
     created : step g m d (New name attributes hash t hint) ≡ placed y w n x → Step g m d (New name attributes hash t hint)
-    unfolding demand.slotOf demand.setAfter accepted
+    unfolding demand.slotOf demand.setAfter accepted finds hasList demand.rootAdds mustAdd demand.slotAnswered demand.rootGrown newGrowth rootBytes
     created q =
-        carried-step g m d (New name attributes hash t hint) at (w .hint) d₂ (some x) c (q ∙ placed-at) refl change
-        (shows ∙ sym (upd-same (contents g d) at (some []))) (λ _ _ _ _ _ _. none-before)
+        carried-step g m d (New name attributes hash t hint) at (w .hint) d₂ more (some x) c (q ∙ placed-at) refl refl refl change
+        (shows ∙ sym (upd-same (contents g d) at (some []))) (ap (λ (o : Option (List ℕ)). not (hasList o)) none-before)
 
   pub new-step : Step g m d (New name attributes hash t hint)
   new-step =

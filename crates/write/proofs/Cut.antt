@@ -1,5 +1,5 @@
 -- Bytes stored over the set at a slot of the root, and then the set's stream cut: the change of that one slot. Assumes nothing.
-use mathlib.Core.Path.{_≡_, refl, _∙_, ap, subst}
+use mathlib.Core.Path.{_≡_, refl, sym, _∙_, ap, ap₂, subst}
 use mathlib.Core.Bool.{false}
 use mathlib.Core.List.{List}
 use mathlib.Core.Option.{Option, some}
@@ -29,11 +29,12 @@ use Rattle.directory.proofs.StoreLaws.{sets-some}
 use Rattle.write_dir.specs.Open.{fileRecord}
 use Rattle.write_file.specs.Refresh.{entriesOf, openCause}
 use Rattle.write.specs.Consistent.{Consistent, lay, root, rootClusters, rootBytes, setOf}
+use Rattle.write.specs.Demand.{entriesPut}
 use Rattle.write.proofs.Family.{Moved, Stored, same-clusters, moved-clusters, kept-member, store-member}
 use Rattle.write.proofs.Resized.{Shorter, cut-member}
 use Rattle.write.proofs.Scene.{members, member-root, member-file, fits, root-again, root-length, ordered, slot-off, slot-fit, slot-takes, family}
 use Rattle.write.proofs.Change.{Change, takes}
-use Rattle.write.proofs.Moves.{moves-none, moves-root, moves-file, change-of}
+use Rattle.write.proofs.Moves.{no-zeros, take-whole, moves-none, moves-root, moves-file, change-of}
 use Rattle.write.proofs.Open.{open-hint, open-set}
 
 module _ (g : Geometry) (m d : List ℕ) (c : Consistent g m d) (i hint : ℕ) (e : openCause (lay g d) d m (root g d) i hint ≡ 0) (x : List ℕ)
@@ -149,18 +150,21 @@ module _ (g : Geometry) (m d : List ℕ) (c : Consistent g m d) (i hint : ℕ) (
 
     pub cut-change : ((bs : List ℕ) → bs ≡ splice (rootBytes g d) (32 * i) part → Ordered (y .count) (y .size) bs)
         → ((bs : List ℕ) → bs ≡ splice (rootBytes g d) (32 * i) part → (j : ℕ) → sets bs j ≡ upd (sets (rootBytes g d)) i o j)
+        → entriesPut (setOf g d i) o ≡ part
         → ((s′ : List ℕ) → o ≡ some s′ → p ≡ some (fileRecord y d₂ s′))
         → ((s′ : List ℕ) → o ≡ some s′ → (k : ℕ) → Mem k (clustersIn y d₂ (fileRecord y d₂ s′)) → inMap m k ≡ false)
         → markedCount y d₂ + takes y (sets (rootBytes g d) i) ≡ markedCount y d + takes y o
-        → Change g m d d₂ i o
+        → Change g m d d₂ 0 i o
     unfolding rootClusters
-    cut-change in-order table own-member off-map marks =
-        change-of g m d d₂ i o (root g d) (upd T (suc i) p)
+    cut-change in-order table put own-member off-map marks =
+        change-of g m d d₂ 0 i o (root g d) (upd T (suc i) p)
         (moves-file y d d₁ d₂ S T i (moves-root y d d d₁ S S i (moves-none y d S i (family g m d c)) (some (root g d)) (stored .moved)) p v)
         (root-again g m d c d₂ root-stream)
         (upd-other T (suc i) p 0 (λ q. omega arith) ∙ upd-same S 0 (some (root g d)))
         (in-order (bytesIn y d₂ (root g d)) root-bytes)
         (table (bytesIn y d₂ (root g d)) root-bytes)
+        (root-bytes ∙ ap₂ (λ (l x : List ℕ). splice l (32 * i) x) (sym (no-zeros (rootBytes g d) (y .size))) (sym put))
+        (ap (take (length (clustersIn y d (root g d)))) (same-clusters y d d₂ (root g d) root-stream) ∙ take-whole (clustersIn y d (root g d)))
         (λ s′ q. upd-same T (suc i) p ∙ own-member s′ q)
         off-map
         (omega (arith, marks, ap length (same-clusters y d d₂ (root g d) root-stream)))

@@ -10,8 +10,12 @@ pub mod Scene
 pub mod Change
 pub mod Moves
 pub mod Answers
-pub mod Steps
+pub mod Stores
 pub mod Open
+pub mod Outer
+pub mod Twins
+pub mod Steps
+pub mod Fewest
 pub mod Cut
 pub mod Recorded
 pub mod Rewritten

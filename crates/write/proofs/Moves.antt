@@ -1,12 +1,14 @@
 -- Stores one after the other that move the root and the stream of one slot alone, and the change that they make. Assumes nothing.
-use mathlib.Core.Path.{_≡_, refl, _∙_}
+use mathlib.Core.Path.{_≡_, refl, _∙_, ap}
 use mathlib.Core.Logic.{_≢_}
 use mathlib.Core.Bool.{false}
 use mathlib.Core.List.{List}
 use mathlib.Core.Option.{Option, some}
-use Prim.Native.Nat.{ℕ, suc, _+_}
+use Prim.Native.Nat.{ℕ, suc, _+_, _*_}
 use native.Mathlib.Omega.{arith}
-use lib.ListN.{length}
+use lib.ListN.{length, take}
+use lib.Seq.{take-all}
+use Rattle.primitives.specs.Splice.{splice}
 use Rattle.tables.specs.Table.{upd}
 use Rattle.tables.specs.Lists.{Mem}
 use Rattle.tables.proofs.TableLaws.{upd-other}
@@ -19,9 +21,12 @@ use Rattle.stream.specs.declared.allocation.Allocation.{Allocation}
 use Rattle.stream.specs.Stream.{streamOf}
 use Rattle.directory.specs.Directory.{rootRecord, clustersIn, bytesIn}
 use Rattle.directory.specs.Entries.{sets}
+use Rattle.directory.specs.Room.{withZeros}
+use Rattle.directory.proofs.GrowthLaws.{zeros-none}
 use Rattle.directory.proofs.OrderedLaws.{Ordered}
 use Rattle.write_dir.specs.Open.{fileRecord}
-use Rattle.write.specs.Consistent.{lay, rootClusters, rootBytes}
+use Rattle.write.specs.Consistent.{lay, rootClusters, rootBytes, setOf}
+use Rattle.write.specs.Demand.{entriesPut}
 use Rattle.write.proofs.Family.{Family, Outside, Untouched, Moved, untouched-same, untouched-again}
 use Rattle.write.proofs.Scene.{members, member-file}
 use Rattle.write.proofs.Change.{takes, Change}
@@ -69,24 +74,35 @@ module _ (y : Layout) (d d₁ d₂ : List ℕ) (S S₁ : ℕ → Option Allocati
   pub moves-file : (o : Option Allocation) → Moved y d₁ d₂ S₁ (suc i) o → Moves y d d₂ S (upd S₁ (suc i) o) i
   moves-file o = then-moved (suc i) o (λ j n e. n (omega arith))
 
+-- a root that did not grow
+pub no-zeros : (bs : List ℕ) (size : ℕ) → withZeros bs (0 * size) ≡ bs
+no-zeros bs size = let e : 0 * size ≡ 0 = omega arith in ap (withZeros bs) e ∙ zeros-none bs
+
+pub take-whole : (ks : List ℕ) → take (length ks) ks ≡ ks
+take-whole ks = take-all (length ks) ks (omega arith)
+
 -- the change that they make, once the root's table of sets is known
-pub change-of : (g : Geometry) (m d d′ : List ℕ) (i : ℕ) (o : Option (List ℕ)) (after : Allocation) (S′ : ℕ → Option Allocation)
+pub change-of : (g : Geometry) (m d d′ : List ℕ) (more i : ℕ) (o : Option (List ℕ)) (after : Allocation) (S′ : ℕ → Option Allocation)
     → Moves (lay g d) d d′ (members g d) S′ i
     → rootRecord (lay g d) d′ (rootCluster g) ≡ after
     → S′ 0 ≡ some after
     → Ordered (lay g d .count) (lay g d .size) (bytesIn (lay g d) d′ after)
     → ((j : ℕ) → sets (bytesIn (lay g d) d′ after) j ≡ upd (sets (rootBytes g d)) i o j)
+    → bytesIn (lay g d) d′ after ≡ splice (withZeros (rootBytes g d) (more * lay g d .size)) (32 * i) (entriesPut (setOf g d i) o)
+    → take (length (rootClusters g d)) (clustersIn (lay g d) d′ after) ≡ rootClusters g d
     → ((s : List ℕ) → o ≡ some s → S′ (suc i) ≡ some (fileRecord (lay g d) d′ s))
     → ((s : List ℕ) → o ≡ some s → (k : ℕ) → Mem k (clustersIn (lay g d) d′ (fileRecord (lay g d) d′ s)) → inMap m k ≡ false)
     → markedCount (lay g d) d′ + (takes (lay g d) (sets (rootBytes g d) i) + length (rootClusters g d))
     ≡ markedCount (lay g d) d + (takes (lay g d) o + length (clustersIn (lay g d) d′ after))
-    → Change g m d d′ i o
-change-of g m d d′ i o after S′ w r z in-order t own off q = record {
+    → Change g m d d′ more i o
+change-of g m d d′ more i o after S′ w r z in-order t bytes kept own off q = record {
   long = w .long;
   after = after;
   root-is = r;
   ordered = in-order;
   table = t;
+  root-bytes = bytes;
+  root-clusters = kept;
   S′ = S′;
   family = w .family;
   root-member = z;

@@ -14,7 +14,7 @@ use Rattle.stream.specs.declared.allocation.Allocation.{Allocation}
 use Rattle.stream.specs.Chain.{listed}
 use Rattle.stream.specs.Stream.{streamOf}
 use Rattle.entry_set.specs.declared.stamp.Stamp.{Stamp}
-use Rattle.entry_set.specs.Fields.{isDirectory, noFatChain, validLength, firstCluster, dataLength, clustersFor}
+use Rattle.entry_set.specs.Fields.{secondaryCount, isDirectory, noFatChain, validLength, firstCluster, dataLength, clustersFor}
 use Rattle.entry_set.proofs.SetLaws.{StreamFits, refreshed-length, refreshed-byte, refreshed-count, refreshed-directory, refreshed-run, refreshed-valid, refreshed-first, refreshed-data, refreshed-formed}
 use Rattle.entry_set.proofs.LengthLaws.{clusters-hold, clusters-none, clusters-some}
 use Rattle.write_alloc.specs.Outcome.{empty}
@@ -28,6 +28,11 @@ use Rattle.write.proofs.Reading.{number-of, first-heap, run-ends, file-
 pub recorded-length : (s : List ℕ) (b : Allocation) (valid len : ℕ) (t : Stamp) → length (recorded s b valid len t) ≡ length s
 unfolding recorded
 recorded-length s b valid len t = refreshed-length s (entriesOf s) (b .first) (b .«no_fat_chain») valid len t
+
+-- and as many entries
+pub recorded-entries : (s : List ℕ) (b : Allocation) (valid len : ℕ) (t : Stamp) → entriesOf (recorded s b valid len t) ≡ entriesOf s
+unfolding recorded entriesOf
+recorded-entries s b valid len t = ap (λ (k : ℕ). 1 + k) (refreshed-count s (1 + secondaryCount s) (b .first) (b .«no_fat_chain») valid len t)
 
 module _ (y : Layout) (d : List ℕ) (w : Fits y d) (b : Allocation) (ks : List ℕ) (e : streamOf y d b ≡ listed ks) (len : ℕ)
     (all : clustersFor (y .size) len ≡ b .count) (bare : b .count ≡ 0 → b ≡ empty) where

@@ -1,5 +1,5 @@
 -- Remove, as a step. Assumes nothing.
-use mathlib.Core.Path.{_≡_, refl, sym, _∙_}
+use mathlib.Core.Path.{_≡_, refl, sym, _∙_, ap}
 use mathlib.Core.Logic.{_≢_}
 use mathlib.Core.List.{List}
 use mathlib.Core.Option.{none, some}
@@ -29,14 +29,15 @@ use Rattle.write_remove.specs.Remove.{unlinked}
 use Rattle.write.specs.Calls.{Remove, step}
 use Rattle.write.specs.Consistent.{Consistent, lay, root, rootBytes, setOf}
 use Rattle.write.specs.Contents.{contents}
-use Rattle.write.specs.Model.{accepted}
-use Rattle.write.specs.Demand.{slotOf, setAfter}
+use Rattle.write.specs.Model.{accepted, hasList, finds}
+use Rattle.write.specs.Demand.{slotOf, setAfter, entriesPut, rootAdds, slotAnswered}
 use Rattle.write.proofs.Family.{moved-drop}
 use Rattle.write.proofs.Scene.{members, ordered, slot-fit}
 use Rattle.write.proofs.Change.{Change, takes, contentsOf}
 use Rattle.write.proofs.Steps.{Step, refused-step, carried-step}
 use Rattle.write.proofs.Answers.{decided-number, decided-carried, remove-decided}
-use Rattle.write.proofs.Open.{open-set}
+use Rattle.write.proofs.Open.{open-set, open-file}
+use Rattle.write.proofs.Rewritten.{shows-before}
 use Rattle.write.proofs.Cut.{open-entries, cut-shorter, cut-marks, cut-change}
 
 module _ (g : Geometry) (m d : List ℕ) (c : Consistent g m d) (i hint : ℕ) where
@@ -83,7 +84,7 @@ module _ (g : Geometry) (m d : List ℕ) (c : Consistent g m d) (i hint : ℕ) w
         let q : n ≡ 1 + secondaryCount s = unfold entriesOf in refl in
         (cleared-unused (y .count) (y .size) s n (fit .formed) q (fit .full) k h, cleared-not-end (y .count) (y .size) s n (fit .formed) q (fit .full) k h)
 
-    change : Change g m d d₂ i none
+    change : Change g m d d₂ 0 i none
     change =
         let f = sets-some (rootBytes g d) i s own .0 in
         let q = open-entries g m d c i hint e x full 0 in
@@ -91,6 +92,7 @@ module _ (g : Geometry) (m d : List ℕ) (c : Consistent g m d) (i hint : ℕ) w
         (moved-drop y d₁ d₂ (upd (members g d) 0 (some (root g d))) (suc i) _ (cut-shorter g m d c i hint e x full 0 .moved))
         (removed-ordered (y .count) (y .size) (rootBytes g d) i n x (ordered g m d c) f q long clear)
         (removed-sets (y .count) (y .size) (rootBytes g d) i n x (ordered g m d c) f q long clear)
+        (unfold entriesPut in refl)
         (λ s′ z. clash (cc))
         (λ s′ z. clash (cc))
         (let t : takes y none ≡ 0 = unfold takes in refl in omega (arith, cut-marks g m d c i hint e x full 0))
@@ -100,9 +102,10 @@ module _ (g : Geometry) (m d : List ℕ) (c : Consistent g m d) (i hint : ℕ) w
       ≡ carried 0 hint
       (shrinkIn y (unlinked y d (clustersIn y d (root g d)) i (setIn y d (root g d) i)) m (fileRecord y d (setIn y d (root g d) i)) 0 hint .volume)
       → Step g m d (Remove i hint)
-  unfolding unlinked setIn setOf rootBytes slotOf setAfter accepted contentsOf
+  unfolding unlinked setIn setOf rootBytes slotOf setAfter accepted contentsOf finds hasList rootAdds slotAnswered
   removed e q =
-      carried-step g m d (Remove i hint) 0 hint d₂ none c q refl (change e) (sym (upd-same (contents g d) i none)) (λ name attributes hash t k r. clash (cc))
+      carried-step g m d (Remove i hint) 0 hint d₂ 0 none c q refl refl refl (change e) (sym (upd-same (contents g d) i none))
+      (ap hasList (shows-before g m d c i s (own e) (open-file g m d i hint e)))
 
   pub remove-step : Step g m d (Remove i hint)
   remove-step =

@@ -25,7 +25,6 @@ use Rattle.stream.specs.Chain.{listed}
 use Rattle.stream.specs.Stream.{numberOf, streamOf}
 use Rattle.stream.specs.Bytes.{bytesOf, storeAt}
 use Rattle.entry_set.specs.declared.stamp.Stamp.{Stamp}
-use Rattle.entry_set.specs.declared.stamp.Stamps.{Stamps}
 use Rattle.entry_set.specs.Fields.{isDirectory, validLength, dataLength, clustersFor}
 use Rattle.entry_set.proofs.LengthLaws.{clusters-hold, clusters-mono}
 use Rattle.write_alloc.specs.Outcome.{empty}
@@ -39,19 +38,19 @@ use Rattle.directory.proofs.StoreLaws.{sets-some, replaced-ordered, replaced-se
 use Rattle.write_dir.specs.Outcome.{carried}
 use Rattle.write_dir.specs.Open.{fileRecord}
 use Rattle.write_file.specs.Refresh.{entriesOf, recorded, stored, missing}
-use Rattle.write.specs.Calls.{Call, New, step}
-use Rattle.write.specs.Consistent.{Consistent, lay, root, rootClusters, rootBytes}
+use Rattle.write.specs.Calls.{Call, step}
+use Rattle.write.specs.Consistent.{Consistent, lay, root, rootClusters, rootBytes, setOf}
 use Rattle.write.specs.Contents.{shown, contents}
-use Rattle.write.specs.Model.{accepted}
-use Rattle.write.specs.Demand.{slotOf, setAfter}
+use Rattle.write.specs.Model.{accepted, finds}
+use Rattle.write.specs.Demand.{slotOf, setAfter, entriesPut, rootAdds, slotAnswered}
 use Rattle.write.proofs.Reading.{reads-as, bytes-length, record-count}
 use Rattle.write.proofs.Family.{Family, Moved, Stored, same-clusters, kept-member, moved-same, moved-again, store-member}
 use Rattle.write.proofs.Resized.{Longer, extend-member}
 use Rattle.write.proofs.Scene.{mapped, members, member-root, member-file, fits, root-again, root-length, ordered, slot-off, slot-fit, slot-takes, family}
 use Rattle.write.proofs.Change.{takes, contentsOf, Change, contents-is}
-use Rattle.write.proofs.Moves.{moves-none, moves-root, moves-file, change-of}
+use Rattle.write.proofs.Moves.{no-zeros, take-whole, moves-none, moves-root, moves-file, change-of}
 use Rattle.write.proofs.Steps.{Step, carried-step}
-use Rattle.write.proofs.Recorded.{recorded-fit, recorded-directory, recorded-valid, recorded-data, recorded-back}
+use Rattle.write.proofs.Recorded.{recorded-entries, recorded-fit, recorded-directory, recorded-valid, recorded-data, recorded-back}
 
 -- ---- the stream
 
@@ -278,10 +277,21 @@ module _ (g : Geometry) (m d : List ℕ) (c : Consistent g m d) (i : ℕ) (s : L
     field-directory : isDirectory s′ ≡ isDirectory s
     field-directory = recorded-directory y e we b (clustersIn y e b) reads-now len takes-all bare valid valid-le (entriesOf s) s old-fit t
 
+    -- the entries that are stored
+    put-is : X ≡ entriesPut (setOf g d i) (some s′)
+    unfolding entriesPut
+    put-is = ap (λ (k : ℕ). take (32 * k) s′) (sym (recorded-entries s b valid len t))
+
+    root-kept : take (length (rootClusters g d)) (clustersIn y d′ (root g d)) ≡ rootClusters g d
+    unfolding rootClusters
+    root-kept =
+        ap (take (length (clustersIn y d (root g d)))) (same-clusters y e d′ (root g d) (st .stream) ∙ same-clusters y d e (root g d) root-stream)
+        ∙ take-whole (clustersIn y d (root g d))
+
     -- slot i alone is changed
-    rewritten-change : Change g m d d′ i (some s′)
+    rewritten-change : Change g m d d′ 0 i (some s′)
     rewritten-change =
-        change-of g m d d′ i (some s′) (root g d) (upd T 0 (some (root g d)))
+        change-of g m d d′ 0 i (some s′) (root g d) (upd T 0 (some (root g d)))
         (moves-root y d e d′ S T i (moves-file y d d e S S i (moves-none y d S i f) (some b) (v .moves)) (some (root g d)) (st .moved))
         (root-again g m d c d′ (st .stream ∙ root-stream))
         (upd-same T 0 (some (root g d)))
@@ -289,6 +299,8 @@ module _ (g : Geometry) (m d : List ℕ) (c : Consistent g m d) (i : ℕ) (s : L
         (bytesIn y d′ (root g d)) root-bytes)
         (replaced-sets (y .count) (y .size) (rootBytes g d) i (entriesOf s) s′ (ordered g m d c) root-file entries-are set-fit
         (bytesIn y d′ (root g d)) root-bytes)
+        (root-bytes ∙ ap₂ (λ (l x : List ℕ). splice l (32 * i) x) (sym (no-zeros (rootBytes g d) (y .size))) put-is)
+        root-kept
         (λ r z. kept-member T 0 (some (root g d)) (suc i) b (λ h. omega arith) own-now
         ∙ ap some (sym record-back ∙ ap (fileRecord y d′) (Option·some-injective s′ r z)))
         (λ r z k p. v .off-map k
@@ -327,11 +339,10 @@ module _ (g : Geometry) (m d : List ℕ) (c : Consistent g m d) (i : ℕ) (s : L
     -- a call that answers 0 and leaves that volume
     pub rewritten-step : (cl : Call) (hint : ℕ) → step g m d cl ≡ carried 0 hint d′ → slotOf cl 0 ≡ i → setAfter g m d cl ≡ some s′
         → isDirectory s ≡ false → accepted (contents g d) cl 0 i ≡ some (shown B valid len)
-        → ((name : List ℕ) (attributes hash : ℕ) (u : Stamps) (h : ℕ) → cl ≡ New name attributes hash u h → ⊥)
-        → Step g m d cl
-    rewritten-step cl hint is at after z shows new =
-        carried-step g m d cl 0 hint d′ (some s′) c is after (subst (λ (x : ℕ). Change g m d d′ x (some s′)) (sym at) rewritten-change)
-        (rewritten-shows z ∙ sym (ap (accepted (contents g d) cl 0) at ∙ shows)) (λ name attributes hash u h k. absurd (new name attributes hash u h k))
+        → finds cl (contents g d i) ≡ true → rootAdds g d cl ≡ 0 → slotAnswered g d cl ≡ 0 → Step g m d cl
+    rewritten-step cl hint is at after z shows found adds slot =
+        carried-step g m d cl 0 hint d′ 0 (some s′) c is after adds (sym slot) (subst (λ (x : ℕ). Change g m d d′ 0 x (some s′)) (sym at) rewritten-change)
+        (rewritten-shows z ∙ sym (ap (accepted (contents g d) cl 0) at ∙ shows)) (ap (λ (x : ℕ). finds cl (contents g d x)) at ∙ found)
 
   -- what it showed
   pub shows-before : isDirectory s ≡ false → contents g d i ≡ some (shown (bytesIn y d old) (validLength s) (dataLength s))

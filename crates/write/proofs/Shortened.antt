@@ -10,7 +10,6 @@ use lib.Seq.{length-take-le}
 use borrow.Author.Tests.{lt-ltb}
 use Rattle.tables.specs.Table.{upd}
 use Rattle.tables.specs.Lists.{Mem}
-use Rattle.tables.proofs.Cases.{clash}
 use Rattle.tables.proofs.TableLaws.{upd-same}
 use Rattle.tables.proofs.ListLaws.{mem-take}
 use Rattle.boot.specs.declared.geometry.Geometry.{Geometry}
@@ -37,8 +36,8 @@ use Rattle.write_length.specs.SetLength.{smaller, setLengthCause, shorter, resi
 use Rattle.write.specs.Calls.{SetLength, step}
 use Rattle.write.specs.Consistent.{Consistent, lay, root, rootBytes, setOf, streamAt, fileClusters}
 use Rattle.write.specs.Contents.{shown, contents}
-use Rattle.write.specs.Model.{resize, onto, accepted}
-use Rattle.write.specs.Demand.{slotOf, setAfter}
+use Rattle.write.specs.Model.{resize, onto, accepted, hasList, finds}
+use Rattle.write.specs.Demand.{slotOf, setAfter, entriesPut, rootAdds, slotAnswered}
 use Rattle.write.proofs.Shown.{shown-shorter}
 use Rattle.write.proofs.Reading.{reads-as, bytes-length}
 use Rattle.write.proofs.Scene.{both-clear, members, fits, ordered, slot-number, slot-off, slot-takes, slot-fit}
@@ -46,7 +45,7 @@ use Rattle.write.proofs.Change.{Change, takes, contentsOf, contents-is}
 use Rattle.write.proofs.Steps.{Step, carried-step}
 use Rattle.write.proofs.Answers.{decided-number, decided-carried, set-decided}
 use Rattle.write.proofs.Open.{open-set, open-file}
-use Rattle.write.proofs.Recorded.{recorded-length, recorded-fit, recorded-directory, recorded-valid, recorded-data, recorded-back}
+use Rattle.write.proofs.Recorded.{recorded-length, recorded-entries, recorded-fit, recorded-directory, recorded-valid, recorded-data, recorded-back}
 use Rattle.write.proofs.Cut.{open-entries, cut-shorter, cut-clusters, cut-bytes, cut-marks, cut-fits, cut-change}
 
 -- no kept clusters, an empty record
@@ -178,12 +177,13 @@ module _ (g : Geometry) (m d : List ℕ) (c : Consistent g m d) (i len : ℕ) (t
   back-of : (s′ : List ℕ) → some x ≡ some s′ → fileRecord y d₂ s′ ≡ b′
   back-of s′ q = ap (fileRecord y d₂) (sym (Option·some-injective x s′ q)) ∙ back
 
-  change : Change g m d d₂ i (some x)
+  change : Change g m d d₂ 0 i (some x)
   change =
       let f = sets-some (rootBytes g d) i s own .0 in
       cut-change g m d c i hint opened x full keep (some x) (some b′) (cut-shorter g m d c i hint opened x full keep .moved)
       (replaced-ordered (y .count) (y .size) (rootBytes g d) i n x (ordered g m d c) f entries fit′)
       (replaced-sets (y .count) (y .size) (rootBytes g d) i n x (ordered g m d c) f entries fit′)
+      (unfold entriesPut in (ap (λ (k : ℕ). take (32 * k) x) (recorded-entries s b′ valid′ len t)))
       (λ s′ q. ap some (sym (back-of s′ q)))
       (λ s′ q k r.
       slot-off g m d c i s own k
@@ -231,7 +231,7 @@ module _ (g : Geometry) (m d : List ℕ) (c : Consistent g m d) (i len : ℕ) (t
   set-after = rw (lt-ltb len (dataLength s) less) refl
 
   pub shorter-step : Step g m d (SetLength i len t hint)
-  unfolding slotOf accepted
+  unfolding slotOf accepted finds hasList rootAdds slotAnswered
   shorter-step =
-      carried-step g m d (SetLength i len t hint) 0 hint d₂ (some x) c done set-after change
-      (same ∙ sym (upd-same (contents g d) i (onto (λ l. resize l len) (contents g d i)))) (λ name attributes hash u k q. clash (cc))
+      carried-step g m d (SetLength i len t hint) 0 hint d₂ 0 (some x) c done set-after refl refl change
+      (same ∙ sym (upd-same (contents g d) i (onto (λ l. resize l len) (contents g d i)))) (ap hasList before)

@@ -1,7 +1,8 @@
 -- From one call to every list of calls. Assumes nothing.
 use mathlib.Core.Path.{_≡_, refl, sym, _∙_, ap, subst, fun-ext}
 use mathlib.Core.Logic.{_≢_}
-use mathlib.Core.List.{[], List, _∷_, _++_}
+use mathlib.Core.Bool.{true}
+use mathlib.Core.List.{[], List, _∷_}
 use mathlib.Core.Option.{Option, none, some}
 use Prim.Native.Nat.{ℕ, _+_}
 use native.Mathlib.Omega.{arith}
@@ -14,20 +15,20 @@ use Rattle.tables.proofs.TableLaws.{upd-same, upd-other, upd-case}
 use Rattle.boot.specs.declared.geometry.Geometry.{Geometry}
 use Rattle.boot.specs.declared.layout.Layout.{Layout}
 use Rattle.metadata.specs.Marks.{allocatedCount}
-use Rattle.entry_set.specs.declared.stamp.Stamps.{Stamps}
 use Rattle.directory.specs.Entries.{sets}
-use Rattle.write_dir.specs.declared.answer.FileAnswer.{FileAnswer}
 use Rattle.write_dir.specs.Outcome.{Outcome, carried}
 use Rattle.write.specs.Calls.{Call, New, Write, SetLength, Remove, step, run, answers}
-use Rattle.write.specs.Consistent.{Consistent, lay, rootBytes, fileAt, setOf}
+use Rattle.write.specs.Consistent.{Consistent, lay, rootBytes, fileAt, setOf, fileClusters, fileBytes}
 use Rattle.write.specs.Contents.{contents}
-use Rattle.write.specs.Model.{overwrite, resize, onto, accepted, fed, model}
+use Rattle.write.specs.Model.{overwrite, resize, onto, accepted, finds, fed, model}
 use Rattle.write.specs.Space.{clustersTaken}
-use Rattle.write.specs.Demand.{slotOf, setAfter, entriesAtSlot, Lost, Demand}
+use Rattle.write.specs.Demand.{slotOf, setAfter, entriesAtSlot, rootAdds, rootGrown, slotAnswered, Lost, Done, Demand}
 use Rattle.write.proofs.Family.{Untouched, untouched-same, untouched-again}
 use Rattle.write.proofs.Scene.{lay-same}
-use Rattle.write.proofs.Change.{contentsOf, Change, change-consistent, change-untouched, change-lost, change-sets, change-contents, change-marks}
-use Rattle.write.proofs.Answers.{refused-same, seven, carried-out}
+use Rattle.write.proofs.Change.{contentsOf, Change, change-consistent, change-untouched, change-lost, change-sets, change-root-bytes, change-root-clusters, change-other-clusters, change-other-bytes, change-contents, change-marks}
+use Rattle.write.proofs.Outer.{outer-kept, bits-kept}
+use Rattle.write.proofs.Twins.{fats-alike, bitmaps-alike}
+use Rattle.write.proofs.Answers.{refused-same, refused-volume, numbered, seven, carried-out}
 
 -- ---- one call
 
@@ -35,13 +36,10 @@ use Rattle.write.proofs.Answers.{refused-same, seven, carried-out}
 pub record Step (g : Geometry) (m d : List ℕ) (c : Call) : Type 0 where
   pub consistent : Consistent g m (step g m d c .volume)
   pub agree : (j : ℕ) → contents g (step g m d c .volume) j ≡ fed (contents g d) c (step g m d c .answer) j
-  -- a new file's slot had none
-  pub fresh : (name : List ℕ) (attributes hash : ℕ) (t : Stamps) (hint : ℕ) → c ≡ New name attributes hash t hint
-      → step g m d c .answer .number ≡ 0 → contents g d (step g m d c .answer .slot) ≡ none
-  pub entries : step g m d c .answer .number ≡ 0
-      → entriesAtSlot g (step g m d c .volume) (slotOf c (step g m d c .answer .slot)) ≡ setAfter g m d c
+  -- what it finds at its slot
+  pub found : step g m d c .answer .number ≡ 0 → finds c (contents g d (slotOf c (step g m d c .answer .slot))) ≡ true
+  pub done : Done g m d c (step g m d c)
   pub marks : allocatedCount (lay g d) (step g m d c .volume) + clustersTaken g d ≡ allocatedCount (lay g d) d + clustersTaken g (step g m d c .volume)
-  pub long : length (step g m d c .volume) ≡ length d
   -- marked clusters of no stream
   pub lost : (k : ℕ) → Lost g d k → Lost g (step g m d c .volume) k
   pub untouched : (k : ℕ) → Lost g d k → Untouched (lay g d) d (step g m d c .volume) k
@@ -49,14 +47,28 @@ pub record Step (g : Geometry) (m d : List ℕ) (c : Call) : Type 0 where
 -- a refused call keeps everything
 pub refused-step : (g : Geometry) (m d : List ℕ) (c : Call) → Consistent g m d → step g m d c .answer .number ≢ 0 → Step g m d c
 refused-step g m d c w n =
-    let e = refused-same g m d (w .limits-hold) c n in
+    let e = refused-volume g m d c n in
     record {
       consistent = subst (Consistent g m) (sym e) w;
       agree = λ j. ap (λ (v : List ℕ). contents g v j) e ∙ sym (kept j);
-      fresh = λ _ _ _ _ _ _ z. absurd (n z);
-      entries = λ z. absurd (n z);
+      found = λ z. absurd (n z);
+      done = record {
+        number = numbered g m d c;
+        outer-kept = outer-kept g m d c;
+        bits-kept = bits-kept g m d c;
+        fats-alike = fats-alike g m d c;
+        bitmaps-alike = bitmaps-alike g m d c;
+        refused-same = refused-same g m d c;
+        same-length = ap length e;
+        slot-defined = λ z. absurd (n z);
+        entries-defined = λ z. absurd (n z);
+        root-bytes = λ z. absurd (n z);
+        root-clusters = λ z. absurd (n z);
+        others-set = λ j _. ap (λ (v : List ℕ). entriesAtSlot g v j) e;
+        others-clusters = λ j _ _. ap (λ (v : List ℕ). fileClusters g v j) e;
+        others-bytes = λ j _ _. ap (λ (v : List ℕ). fileBytes g v j) e;
+      };
       marks = ap (λ (v : List ℕ). allocatedCount (lay g d) v + clustersTaken g d) e ∙ ap (λ (v : List ℕ). allocatedCount (lay g d) d + clustersTaken g v) (sym e);
-      long = ap length e;
       lost = λ k l. subst (λ (v : List ℕ). Lost g v k) (sym e) l;
       untouched = λ k _. subst (λ (v : List ℕ). Untouched (lay g d) d v k) (sym e) (untouched-same (lay g d) d k);
     }
@@ -81,20 +93,34 @@ slot-entries g d i = refl
 
 -- an accepted call whose volume is changed at its slot alone, where the set that it leaves shows what the model has there
 accepted-step : (g : Geometry) (m d : List ℕ) (c : Call) → Consistent g m d → step g m d c .answer .number ≡ 0
-    → Change g m d (step g m d c .volume) (slotOf c (step g m d c .answer .slot)) (setAfter g m d c)
+    → Change g m d (step g m d c .volume) (rootAdds g d c) (slotOf c (step g m d c .answer .slot)) (setAfter g m d c)
     → contentsOf (lay g d) (step g m d c .volume) (setAfter g m d c)
     ≡ accepted (contents g d) c (step g m d c .answer .slot) (slotOf c (step g m d c .answer .slot))
-    → ((name : List ℕ) (attributes hash : ℕ) (t : Stamps) (hint : ℕ) → c ≡ New name attributes hash t hint → contents g d (step g m d c .answer .slot) ≡ none)
+    → finds c (contents g d (slotOf c (step g m d c .answer .slot))) ≡ true → step g m d c .answer .slot ≡ slotAnswered g d c
     → Step g m d c
-accepted-step g m d c w z h v f = record {
-  consistent = change-consistent g m d (step g m d c .volume) _ _ w h;
-  agree = λ j. change-contents g m d (step g m d c .volume) _ _ w h j ∙ at j ∙ sym (fed-is j);
-  fresh = λ name attributes hash t hint e _. f name attributes hash t hint e;
-  entries = λ _. entry;
-  marks = change-marks g m d (step g m d c .volume) _ _ w h;
-  long = h .long;
-  lost = change-lost g m d (step g m d c .volume) _ _ w h;
-  untouched = change-untouched g m d (step g m d c .volume) _ _ w h;
+accepted-step g m d c w z h v f slot = record {
+  consistent = change-consistent g m d (step g m d c .volume) _ _ _ w h;
+  agree = λ j. change-contents g m d (step g m d c .volume) _ _ _ w h j ∙ at j ∙ sym (fed-is j);
+  found = λ _. f;
+  done = record {
+    number = numbered g m d c;
+    outer-kept = outer-kept g m d c;
+    bits-kept = bits-kept g m d c;
+    fats-alike = fats-alike g m d c;
+    bitmaps-alike = bitmaps-alike g m d c;
+    refused-same = λ n. absurd (n z);
+    same-length = h .long;
+    slot-defined = λ _. slot;
+    entries-defined = λ _. entry;
+    root-bytes = λ _. unfold rootGrown in (change-root-bytes g m d (step g m d c .volume) _ _ _ w h);
+    root-clusters = λ _. change-root-clusters g m d (step g m d c .volume) _ _ _ w h;
+    others-set = other-set;
+    others-clusters = change-other-clusters g m d (step g m d c .volume) _ _ _ w h;
+    others-bytes = change-other-bytes g m d (step g m d c .volume) _ _ _ w h;
+  };
+  marks = change-marks g m d (step g m d c .volume) _ _ _ w h;
+  lost = change-lost g m d (step g m d c .volume) _ _ _ w h;
+  untouched = change-untouched g m d (step g m d c .volume) _ _ _ w h;
 }
   where
     fed-is : (j : ℕ) → fed (contents g d) c (step g m d c .answer) j ≡ accepted (contents g d) c (step g m d c .answer .slot) j
@@ -112,34 +138,32 @@ accepted-step g m d c w z h v f = record {
     entry : entriesAtSlot g (step g m d c .volume) (slotOf c (step g m d c .answer .slot)) ≡ setAfter g m d c
     entry =
         slot-entries g (step g m d c .volume) (slotOf c (step g m d c .answer .slot))
-        ∙ change-sets g m d (step g m d c .volume) _ _ w h (slotOf c (step g m d c .answer .slot))
+        ∙ change-sets g m d (step g m d c .volume) _ _ _ w h (slotOf c (step g m d c .answer .slot))
         ∙ upd-same (sets (rootBytes g d)) (slotOf c (step g m d c .answer .slot)) (setAfter g m d c)
 
+    other-set : (j : ℕ) → j ≢ slotOf c (step g m d c .answer .slot) → entriesAtSlot g (step g m d c .volume) j ≡ entriesAtSlot g d j
+    other-set j n =
+        slot-entries g (step g m d c .volume) j ∙ change-sets g m d (step g m d c .volume) _ _ _ w h j
+        ∙ upd-other (sets (rootBytes g d)) (slotOf c (step g m d c .answer .slot)) (setAfter g m d c) j n ∙ sym (slot-entries g d j)
+
 -- the same by its outcome and the set that it leaves
-pub carried-step : (g : Geometry) (m d : List ℕ) (c : Call) (slot hint : ℕ) (d′ : List ℕ) (o : Option (List ℕ)) → Consistent g m d
-    → step g m d c ≡ carried slot hint d′ → setAfter g m d c ≡ o → Change g m d d′ (slotOf c slot) o
+pub carried-step : (g : Geometry) (m d : List ℕ) (c : Call) (slot hint : ℕ) (d′ : List ℕ) (more : ℕ) (o : Option (List ℕ)) → Consistent g m d
+    → step g m d c ≡ carried slot hint d′ → setAfter g m d c ≡ o → rootAdds g d c ≡ more → slot ≡ slotAnswered g d c → Change g m d d′ more (slotOf c slot) o
     → contentsOf (lay g d) d′ o ≡ accepted (contents g d) c slot (slotOf c slot)
-    → ((name : List ℕ) (attributes hash : ℕ) (t : Stamps) (hint : ℕ) → c ≡ New name attributes hash t hint → contents g d slot ≡ none)
+    → finds c (contents g d (slotOf c slot)) ≡ true
     → Step g m d c
 unfolding carried
-carried-step g m d c slot hint d′ o w e after h shows fresh =
+carried-step g m d c slot hint d′ more o w e after adds place h shows found =
     accepted-step g m d c w (ap (λ (x : Outcome). x .answer .number) e)
-    (subst (λ (x : Outcome). Change g m d (x .volume) (slotOf c (x .answer .slot)) (setAfter g m d c)) (sym e)
-    (subst (Change g m d d′ (slotOf c slot)) (sym after) h))
+    (subst (λ (x : Outcome). Change g m d (x .volume) (rootAdds g d c) (slotOf c (x .answer .slot)) (setAfter g m d c)) (sym e)
+    (subst (Change g m d d′ (rootAdds g d c) (slotOf c slot)) (sym after) (subst (λ (k : ℕ). Change g m d d′ k (slotOf c slot) o) (sym adds) h)))
     (subst
     (λ (x : Outcome). contentsOf (lay g d) (x .volume) (setAfter g m d c) ≡ accepted (contents g d) c (x .answer .slot) (slotOf c (x .answer .slot)))
     (sym e) (ap (contentsOf (lay g d) d′) after ∙ shows))
-    (λ name attributes hash t k q. ap (λ (x : Outcome). contents g d (x .answer .slot)) e ∙ fresh name attributes hash t k q)
+    (ap (λ (x : Outcome). finds c (contents g d (slotOf c (x .answer .slot)))) e ∙ found)
+    (ap (λ (x : Outcome). x .answer .slot) e ∙ place)
 
 -- ---- every list of calls
-
-answers-append : (g : Geometry) (m d : List ℕ) (before : List Call) (c : Call) (rest : List Call)
-    → answers g m d (before ++ (c ∷ rest))
-    ≡ answers g m d before ++ (step g m (run g m d before) c .answer ∷ answers g m (run g m d (before ++ (c ∷ []))) rest)
-unfolding answers run
-answers-append g m d [] c rest = refl
-answers-append g m d (b ∷ before) c rest =
-    ap (λ (l : List FileAnswer). step g m d b .answer ∷ l) (answers-append g m (step g m d b .volume) before c rest)
 
 module _ (g : Geometry) (m : List ℕ) (one : (d : List ℕ) (c : Call) → Consistent g m d → Step g m d c) where
   run-consistent : (d : List ℕ) (cs : List Call) → Consistent g m d → Consistent g m (run g m d cs)
@@ -161,7 +185,7 @@ module _ (g : Geometry) (m : List ℕ) (one : (d : List ℕ) (c : Call) → Cons
   run-marks d [] w = refl
   run-marks d (c ∷ cs) w =
       let s = one d c w in
-      let e = lay-same g d (step g m d c .volume) (s .long) in
+      let e = lay-same g d (step g m d c .volume) (s .done .same-length) in
       omega (
         arith,
         s .marks,
@@ -182,18 +206,16 @@ module _ (g : Geometry) (m : List ℕ) (one : (d : List ℕ) (c : Call) → Cons
       let s = one d c w in
       let v = step g m d c .volume in
       untouched-again (lay g d) d v (run g m v cs) k (s .untouched k l)
-      (subst (λ (y : Layout). Untouched y v (run g m v cs) k) (lay-same g d v (s .long)) (run-untouched v cs (s .consistent) k (s .lost k l)))
+      (subst (λ (y : Layout). Untouched y v (run g m v cs) k) (lay-same g d v (s .done .same-length)) (run-untouched v cs (s .consistent) k (s .lost k l)))
 
   pub every : (d : List ℕ) (cs : List Call) → Consistent g m d → Demand g m d cs
   every d cs w = record {
     consistent = run-consistent d cs w;
     contents-agree = run-contents d cs w;
-    slots-new = λ before name attributes hash t hint rest e z.
+    slots-fit = λ before rest e c z.
         let v = run g m d before in
-        sym (run-contents d before w (step g m v (New name attributes hash t hint) .answer .slot))
-        ∙ one v (New name attributes hash t hint) (run-consistent d before w) .fresh name attributes hash t hint refl z;
-    answers-defined = λ before c rest e. ap (answers g m d) e ∙ answers-append g m d before c rest;
-    entries-defined = λ before c rest e z. one (run g m d before) c (run-consistent d before w) .entries z;
+        ap (finds c) (sym (run-contents d before w (slotOf c (step g m v c .answer .slot)))) ∙ one v c (run-consistent d before w) .found z;
+    each-call = λ before rest e c. one (run g m d before) c (run-consistent d before w) .done;
     marks-add-up = run-marks d cs w;
     lost-kept = run-lost d cs w;
     lost-entry = λ k l. run-untouched d cs w k l .entry;

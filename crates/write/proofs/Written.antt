@@ -13,7 +13,6 @@ use borrow.Author.Tests.{eq-eqb, ne-eqb, le-ltb}
 use Rattle.primitives.specs.Splice.{splice}
 use Rattle.tables.specs.Table.{upd}
 use Rattle.tables.specs.Count.{count}
-use Rattle.tables.proofs.Cases.{clash}
 use Rattle.tables.proofs.TableLaws.{upd-same}
 use Rattle.boot.specs.declared.geometry.Geometry.{Geometry}
 use Rattle.boot.specs.declared.layout.Layout.{Layout}
@@ -22,7 +21,6 @@ use Rattle.metadata.specs.Usable.{isUsable}
 use Rattle.stream.specs.declared.allocation.Allocation.{Allocation}
 use Rattle.stream.specs.Bytes.{storeAt}
 use Rattle.entry_set.specs.declared.stamp.Stamp.{Stamp}
-use Rattle.entry_set.specs.declared.stamp.Stamps.{Stamps}
 use Rattle.entry_set.specs.Fields.{validLength, dataLength, clustersFor}
 use Rattle.entry_set.proofs.SetLaws.{formed-lengths}
 use Rattle.entry_set.proofs.LengthLaws.{clusters-some}
@@ -39,11 +37,11 @@ use Rattle.write_length.specs.SetLength.{setLengthCause, zeroEnd, longerFile, r
 use Rattle.write_file.proofs.NewFileLaws.{space-enough}
 use Rattle.write_file.proofs.WriteLaws.{larger-above}
 use Rattle.write_length.proofs.SetLengthLaws as new-length
-use Rattle.write.specs.Calls.{Call, New, Write, SetLength, step}
+use Rattle.write.specs.Calls.{Call, Write, SetLength, step}
 use Rattle.write.specs.Consistent.{Consistent, lay, root, rootBytes, setOf, streamAt}
 use Rattle.write.specs.Contents.{shown, contents}
-use Rattle.write.specs.Model.{overwrite, resize, onto, accepted}
-use Rattle.write.specs.Demand.{slotOf, setAfter}
+use Rattle.write.specs.Model.{overwrite, resize, onto, accepted, hasList, finds}
+use Rattle.write.specs.Demand.{slotOf, setAfter, rootAdds, slotAnswered}
 use Rattle.write.proofs.Shown.{shown-written, shown-longer, shown-same}
 use Rattle.write.proofs.Reading.{record-empty, record-count}
 use Rattle.write.proofs.Scene.{both-clear, slot-fit, fits}
@@ -91,6 +89,9 @@ module _ (g : Geometry) (m d : List ℕ) (c : Consistent g m d) where
     before : contents g d i ≡ some (shown B (validLength s) (dataLength s))
     before = shows-before g m d c i s q (open-file g m d i hint clear)
 
+    listed : hasList (contents g d i) ≡ true
+    listed = ap hasList before ∙ (unfold hasList in refl)
+
     -- what the model has there once its list is changed
     now : (f : List ℕ → List ℕ) → onto f (contents g d i) ≡ some (f (shown B (validLength s) (dataLength s)))
     now f = ap (onto f) before ∙ (unfold onto in refl)
@@ -99,12 +100,11 @@ module _ (g : Geometry) (m d : List ℕ) (c : Consistent g m d) where
     refreshed-step : (cl : Call) (t : Stamp) → step g m d cl ≡ refreshedOnly y d (root g d) i s t hint → slotOf cl 0 ≡ i
         → setAfter g m d cl ≡ some (recorded s old (validLength s) (dataLength s) t)
         → accepted (contents g d) cl 0 i ≡ some (shown B (validLength s) (dataLength s))
-        → ((name : List ℕ) (attributes hash : ℕ) (u : Stamps) (h : ℕ) → cl ≡ New name attributes hash u h → ⊥)
-        → Step g m d cl
-    refreshed-step cl t is at after shows new =
+        → finds cl (contents g d i) ≡ true → rootAdds g d cl ≡ 0 → slotAnswered g d cl ≡ 0 → Step g m d cl
+    refreshed-step cl t is at after shows found adds slot =
         rewritten-step g m d c i s q d old (clustersIn y d old) B (streamed-same g m d c i s q) (validLength s) (dataLength s) t valid-le
         (sym (record-count y d s)) (λ z. record-empty y d s (sym (record-count y d s) ∙ z)) cl hint (is ∙ (unfold refreshedOnly in refl)) at after
-        (open-file g m d i hint clear) shows new
+        (open-file g m d i hint clear) shows found adds slot
 
     -- ---- made longer, or at least not shorter
 
@@ -128,12 +128,11 @@ module _ (g : Geometry) (m d : List ℕ) (c : Consistent g m d) where
           → step g m d cl ≡ carried 0 (o .answer .hint) (stored y e (clustersIn y d (root g d)) i s (o .answer .allocation) valid len t)
           → slotOf cl 0 ≡ i → setAfter g m d cl ≡ some (recorded s (o .answer .allocation) valid len t)
           → accepted (contents g d) cl 0 i ≡ some (shown A valid len)
-          → ((name : List ℕ) (attributes hash : ℕ) (u : Stamps) (h : ℕ) → cl ≡ New name attributes hash u h → ⊥)
-          → Step g m d cl
-      grown-step cl e A valid t v le is at after shows new =
+          → finds cl (contents g d i) ≡ true → rootAdds g d cl ≡ 0 → slotAnswered g d cl ≡ 0 → Step g m d cl
+      grown-step cl e A valid t v le is at after shows found adds slot =
           rewritten-step g m d c i s q e (o .answer .allocation) js A v valid len t le (longer-count g m d c i s q len hint hint-in enough more)
           (λ z. absurd (clusters-some (y .size) size-some len some-len (longer-count g m d c i s q len hint hint-in enough more ∙ z)))
-          cl (o .answer .hint) is at after (open-file g m d i hint clear) shows new
+          cl (o .answer .hint) is at after (open-file g m d i hint clear) shows found adds slot
 
       -- bytes stored in the longer stream
       put : (e A : List ℕ) → Streamed g m d i s e (o .answer .allocation) js A → (at : ℕ) (bs : List ℕ) → at + length bs ≤ length js * y .size
@@ -155,14 +154,12 @@ module _ (g : Geometry) (m d : List ℕ) (c : Consistent g m d) where
     abbrev len : ℕ
     len = larger (dataLength (setOf g d i)) (offset + length bs)
 
-    no-new : (name : List ℕ) (attributes hash : ℕ) (u : Stamps) (h : ℕ) → W ≡ New name attributes hash u h → ⊥
-    no-new name attributes hash u h e = clash (cc)
-
     -- with no data
     write-none : openCause y d m (root g d) i hint ≡ 0 → length bs ≡ 0 → step g m d W ≡ refreshedOnly y d (root g d) i (setOf g d i) t hint → Step g m d W
     write-none clear z is =
         refreshed-step i hint clear W t is (unfold slotOf in refl) (unfold setAfter in (unfold streamAt in (rw (eq-eqb (length bs) 0 z) refl)))
-        (unfold accepted in (rw (eq-eqb (length bs) 0 z) (before i hint clear))) no-new
+        (unfold accepted in (rw (eq-eqb (length bs) 0 z) (before i hint clear))) (unfold finds in (listed i hint clear)) (unfold rootAdds in refl)
+        (unfold slotAnswered in refl)
 
     -- with data
     module _ (clear : openCause y d m (root g d) i hint ≡ 0) (n : length bs ≢ 0) (free : dataCause y d m (setOf g d i) offset (length bs) ≡ 0) where
@@ -220,7 +217,8 @@ module _ (g : Geometry) (m d : List ℕ) (c : Consistent g m d) where
       write-some is =
           grown-step i hint clear len some-len more fit W (withData y (x .volume) ks valid offset bs) all (larger valid end) t stream
           (larger-mono valid (dataLength (setOf g d i)) end (valid-le i hint clear)) (is ∙ (unfold written in refl)) (unfold slotOf in refl)
-          (unfold setAfter in (unfold streamAt in (rw (ne-eqb (length bs) 0 n) refl))) (unfold accepted in (rw (ne-eqb (length bs) 0 n) model-has)) no-new
+          (unfold setAfter in (unfold streamAt in (rw (ne-eqb (length bs) 0 n) refl))) (unfold accepted in (rw (ne-eqb (length bs) 0 n) model-has)) (unfold finds in (listed i hint clear)) (unfold rootAdds in refl)
+          (unfold slotAnswered in refl)
 
     -- what its causes say
     write-clear : writeCause y d m (root g d) i offset (length bs) hint ≡ 0
@@ -253,9 +251,6 @@ module _ (g : Geometry) (m d : List ℕ) (c : Consistent g m d) where
     abbrev L : Call
     L = SetLength i len t hint
 
-    not-new : (name : List ℕ) (attributes hash : ℕ) (u : Stamps) (h : ℕ) → L ≡ New name attributes hash u h → ⊥
-    not-new name attributes hash u h e = clash (cc)
-
     length-clear : (openCause y d m (root g d) i hint ≡ 0) × (lengthCause y d m (fileRecord y d (setIn y d (root g d) i)) len ≡ 0)
     unfolding setLengthCause
     length-clear = both-clear _ _ (sym (decided-number (set-decided g m d (c .limits-hold) i len t hint)) ∙ z)
@@ -285,7 +280,8 @@ module _ (g : Geometry) (m d : List ℕ) (c : Consistent g m d) where
         (is-resized ∙ (unfold resized in (rw (le-ltb len len₀ (omega arith), eq-eqb len len₀ (sym e)) refl)))
         (unfold slotOf in refl)
         (unfold setAfter in (unfold streamAt in (rw (le-ltb len len₀ (omega arith)) kept)))
-        (unfold accepted in (sized ∙ ap some same)) not-new
+        (unfold accepted in (sized ∙ ap some same)) (unfold finds in (listed i hint open-clear)) (unfold rootAdds in refl)
+        (unfold slotAnswered in refl)
       where
         b : Allocation
         b = old i hint open-clear
@@ -357,7 +353,8 @@ module _ (g : Geometry) (m d : List ℕ) (c : Consistent g m d) where
           (is-resized ∙ (unfold resized in (unfold longerFile in
           (rw (le-ltb len len₀ (omega arith), ne-eqb len len₀ (λ e. omega arith)) refl))))
           (unfold slotOf in refl) (unfold setAfter in (unfold streamAt in (rw (le-ltb len len₀ (omega arith)) refl)))
-          (unfold accepted in (sized ∙ ap some (sym longer-shows))) not-new
+          (unfold accepted in (sized ∙ ap some (sym longer-shows))) (unfold finds in (listed i hint open-clear)) (unfold rootAdds in refl)
+          (unfold slotAnswered in refl)
 
   -- every new length, given what a shorter one does
   pub set-length-step : (i len : ℕ) (t : Stamp) (hint : ℕ)

@@ -6,7 +6,8 @@ use mathlib.Core.List.{List, _++_}
 use mathlib.Core.Option.{Option, some}
 use Prim.Native.Nat.{ℕ, _+_, _*_, _≤_}
 use native.Mathlib.Omega.{arith}
-use lib.ListN.{length}
+use lib.ListN.{length, take}
+use lib.Seq.{take-append-seam}
 use Rattle.tables.specs.Lists.{Mem, every}
 use Rattle.tables.specs.Count.{count}
 use Rattle.tables.proofs.ListLaws.{mem-append, every-mem, mem-every}
@@ -37,6 +38,7 @@ use Rattle.write.proofs.Resized.{Mapped}
 pub record Wider (y : Layout) (d : List ℕ) (S : ℕ → Option Allocation) (i : ℕ) (a : Allocation) (n : ℕ) (w : Grown) : Type 0 where
   pub moved : Moved y d (w .volume) S i (some (w .directory))
   pub bytes : bytesIn y (w .volume) (w .directory) ≡ withZeros (bytesIn y d a) (n * y .size)
+  pub kept : take (length (clustersIn y d a)) (clustersIn y (w .volume) (w .directory)) ≡ clustersIn y d a
   pub marks : markedCount y (w .volume) ≡ markedCount y d + n
   pub counts : w .directory .count ≡ a .count + n
   pub led : Led a (w .directory)
@@ -113,6 +115,7 @@ module _ (y : Layout) (m : List ℕ) (mapped : Mapped y m) (i n : ℕ) (g : Grow
         (λ j b r t k p q. ⊎-elim (λ u. f .apart i j a b (λ x. r (sym x)) s t k u q) (off j b t k q) (mem-append old (subst (Mem k) clusters p)))
         (λ k l p. ⊎-elim (l .off i a s) (off-marked k l) (mem-append old (subst (Mem k) clusters p)));
     bytes = zeroed-in y d m v old new w z a own (f .plains i a s) ∙ ap (λ (x : ℕ). withZeros (bytesIn y d a) (x * y .size)) (grown .1);
+    kept = ap (take (length old)) clusters ∙ take-append-seam old new;
     marks = omega (arith, z .counts, grown .1);
     counts = omega (arith, zeroed-count y d m v old new z, clusters-length y d a (f .reads i a s), grown .1);
     led = grow-led y m mapped n g w old own hint-in enough (omega arith);

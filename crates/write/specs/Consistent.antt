@@ -47,6 +47,10 @@ streamAt g d i = fileRecord (lay g d) d (setOf g d i)
 unfoldable pub fileClusters : Geometry → List ℕ → ℕ → List ℕ
 fileClusters g d i = clustersIn (lay g d) d (streamAt g d i)
 
+-- and its bytes, to the end of the last cluster
+unfoldable pub fileBytes : Geometry → List ℕ → ℕ → List ℕ
+fileBytes g d i = bytesIn (lay g d) d (streamAt g d i)
+
 pub record Consistent (g : Geometry) (m d : List ℕ) : Type 0 where
   -- the root reads without refusal: number 1, then its own
   pub limits-hold : limits g (length d) m ≡ true

@@ -1,30 +1,38 @@
 -- What holds over every list of calls on a consistent volume (demand 3), as one record.
 use mathlib.Core.Path.{_≡_}
-use mathlib.Core.Logic.{_↔_}
+use mathlib.Core.Logic.{_≢_, _↔_, _⊎_}
 use mathlib.Core.Bool.{true, false, cond}
 use mathlib.Core.List.{List, [], _∷_, _++_}
 use mathlib.Core.Option.{Option, none, some}
-use Prim.Native.Nat.{ℕ, _+_, _≤_, _<_}
+use Prim.Native.Nat.{ℕ, _+_, _*_, _≤_, _<_}
 use lib.Dec.{eqb, ltb}
-use lib.ListN.{length, take}
+use lib.ListN.{length, getD, take}
+use Rattle.primitives.specs.Words.{getLe}
+use Rattle.primitives.specs.Splice.{splice}
 use Rattle.tables.specs.Lists.{Mem}
 use Rattle.boot.specs.declared.geometry.Geometry.{Geometry}
+use Rattle.boot.specs.declared.layout.Layout.{Layout}
+use Rattle.boot.specs.Geometry.{bitmapBytes}
 use Rattle.boot.specs.Layout.{inHeap, isBitmapCluster}
+use Rattle.boot.specs.Causes.{firstCause}
 use Rattle.metadata.specs.Fat.{fatEntry}
 use Rattle.metadata.specs.Marks.{marked, allocatedCount}
 use Rattle.stream.specs.Bytes.{clusterBytes}
-use Rattle.entry_set.specs.declared.stamp.Stamps.{Stamps}
 use Rattle.entry_set.specs.Fields.{validLength, dataLength, clustersFor}
-use Rattle.entry_set.specs.New.{newSet}
+use Rattle.entry_set.specs.New.{newEntries, newSet}
+use Rattle.entry_set.specs.Put.{cleared}
+use Rattle.write_alloc.specs.Outcome.{spaceCause}
 use Rattle.write_extend.specs.Extend.{extendIn}
 use Rattle.write_shrink.specs.Shrink.{keptRecord}
-use Rattle.write_file.specs.Refresh.{recorded, missing}
+use Rattle.directory.specs.Room as room
+use Rattle.write_dir.specs.Outcome.{Outcome, refuse}
+use Rattle.write_file.specs.Refresh.{entriesOf, recorded, missing}
 use Rattle.write_file.specs.Write.{larger}
 use Rattle.write_length.specs.SetLength.{smaller}
 use Rattle.write.specs.Calls.{Call, New, Write, SetLength, Remove, step, run, answers}
-use Rattle.write.specs.Consistent.{Consistent, lay, rootClusters, fileAt, setOf, streamAt, fileClusters}
+use Rattle.write.specs.Consistent.{Consistent, lay, rootClusters, rootBytes, fileAt, setOf, streamAt, fileClusters, fileBytes}
 use Rattle.write.specs.Contents.{contents}
-use Rattle.write.specs.Model.{model}
+use Rattle.write.specs.Model.{finds, model}
 use Rattle.write.specs.Space.{clustersTaken, usable, mustAdd, otherCause}
 
 -- the slot that a call is about: a new file's is its answer
@@ -33,6 +41,13 @@ slotOf (New name attributes hash t hint) slot = slot
 slotOf (Write i offset bs t hint) slot = i
 slotOf (SetLength i len t hint) slot = i
 slotOf (Remove i hint) slot = i
+
+-- the hint that a call carries
+unfoldable pub hintOf : Call → ℕ
+hintOf (New name attributes hash t hint) = hint
+hintOf (Write i offset bs t hint) = hint
+hintOf (SetLength i len t hint) = hint
+hintOf (Remove i hint) = hint
 
 -- the set that an accepted call leaves at its slot, none where it removes it
 unfoldable pub setAfter : Geometry → List ℕ → List ℕ → Call → Option (List ℕ)
@@ -56,6 +71,55 @@ setAfter g m d (Remove i hint) = none
 unfoldable pub entriesAtSlot : Geometry → List ℕ → ℕ → Option (List ℕ)
 entriesAtSlot g d i = cond (fileAt g d i) (some (setOf g d i)) none
 
+-- the bytes that an accepted call stores at its slot: the entries of the set that it leaves; where it leaves none, those of the old
+-- set with bit 0x80 of each entry cleared and every other byte kept (01, "Remove")
+unfoldable pub entriesPut : List ℕ → Option (List ℕ) → List ℕ
+entriesPut old (some s) = take (32 * entriesOf s) s
+entriesPut old none = take (32 * entriesOf old) (cleared old (entriesOf old))
+
+-- the zeroed clusters that an accepted call adds to the root: a new file what it must add, the others none
+unfoldable pub rootAdds : Geometry → List ℕ → Call → ℕ
+rootAdds g d (New name attributes hash t hint) = mustAdd g d (New name attributes hash t hint)
+rootAdds g d (Write i offset bs t hint) = 0
+rootAdds g d (SetLength i len t hint) = 0
+rootAdds g d (Remove i hint) = 0
+
+-- the root's bytes with these clusters
+unfoldable pub rootGrown : Geometry → List ℕ → Call → List ℕ
+rootGrown g d c = room.withZeros (rootBytes g d) (rootAdds g d c * lay g d .size)
+
+-- the slot that an accepted call answers: a new file's the lowest sequence of enough entries with type bit 0x80 clear; else 0
+unfoldable pub slotAnswered : Geometry → List ℕ → Call → ℕ
+slotAnswered g d (New name attributes hash t hint) =
+    room.slotOf (room.freeRun (rootGrown g d (New name attributes hash t hint)) (newEntries (length name)))
+slotAnswered g d (Write i offset bs t hint) = 0
+slotAnswered g d (SetLength i len t hint) = 0
+slotAnswered g d (Remove i hint) = 0
+
+-- byte p is of no cluster: neither of the heap nor of a cluster's FAT entry. It lies before the FATs, in FAT entry 0 or 1, between the
+-- last entry and FatLength, before the heap or behind it
+pub record Outer (y : Layout) (p : ℕ) : Type 0 where
+  pub off-fat0 : (k r : ℕ) → inHeap (y .count) k ≡ true → r < 4 → p ≢ y .fat0 + 4 * k + r
+  pub off-fat1 : (k r : ℕ) → inHeap (y .count) k ≡ true → r < 4 → p ≢ y .fat1 + 4 * k + r
+  pub off-heap : (p < y .heap) ⊎ (y .heap + y .count * y .size ≤ p)
+
+-- entry k of the first FAT and of the second, byte i of the first bitmap and of the second
+unfoldable pub fat0At : Layout → List ℕ → ℕ → ℕ
+fat0At y d k = getLe 4 d (y .fat0 + 4 * k)
+
+unfoldable pub fat1At : Layout → List ℕ → ℕ → ℕ
+fat1At y d k = getLe 4 d (y .fat1 + 4 * k)
+
+unfoldable pub bitmap0At : Layout → List ℕ → ℕ → ℕ
+bitmap0At y d i = getD d (y .bitmap0 + i) 0
+
+unfoldable pub bitmap1At : Layout → List ℕ → ℕ → ℕ
+bitmap1At y d i = getD d (y .bitmap1 + i) 0
+
+-- a and b are a′ and b′ now: both as they were, or alike
+unfoldable pub Twins : ℕ → ℕ → ℕ → ℕ → Type 0
+Twins a b a′ b′ = ((a′ ≡ a) × (b′ ≡ b)) ⊎ (a′ ≡ b′)
+
 -- cluster k is marked and of no stream: neither the root's nor that of an in-use 0x85 entry, directories counted too
 pub record Lost (g : Geometry) (d : List ℕ) (k : ℕ) : Type 0 where
   pub heap : inHeap (lay g d .count) k ≡ true
@@ -63,26 +127,55 @@ pub record Lost (g : Geometry) (d : List ℕ) (k : ℕ) : Type 0 where
   pub off-root : Mem k (rootClusters g d) → ⊥
   pub off-files : (i : ℕ) → fileAt g d i ≡ true → Mem k (fileClusters g d i) → ⊥
 
+-- outcome o is that of call c on the consistent volume d
+pub record Done (g : Geometry) (m d : List ℕ) (c : Call) (o : Outcome) : Type 0 where
+  -- its number is the first cause that the call meets: the others in their order, then 7 where it must add more clusters than are
+  -- usable; else 0
+  pub number : o .answer .number ≡ firstCause (otherCause g m d c ∷ spaceCause (mustAdd g d c) (usable g m d) ∷ [])
+  -- refused, it has the number, slot 0, the hint as given and every byte as it was ("here nothing is written")
+  pub refused-same : o .answer .number ≢ 0 → o ≡ refuse (o .answer .number) (hintOf c) d
+  -- the volume is as long as before
+  pub same-length : length (o .volume) ≡ length d
+  -- accepted, it answers the slot of the definitions ..
+  pub slot-defined : o .answer .number ≡ 0 → o .answer .slot ≡ slotAnswered g d c
+  -- .. and leaves at its slot the set of the definitions
+  pub entries-defined : o .answer .number ≡ 0 → entriesAtSlot g (o .volume) (slotOf c (o .answer .slot)) ≡ setAfter g m d c
+  -- the root has the bytes that it had, then the zeros that it got, with the call's own entries stored at its slot: labels, bitmap and
+  -- up-case entries and other files' names, attributes and stamps are as they were
+  pub root-bytes : o .answer .number ≡ 0
+      → rootBytes g (o .volume)
+      ≡ splice (rootGrown g d c) (32 * slotOf c (o .answer .slot)) (entriesPut (setOf g d (slotOf c (o .answer .slot))) (setAfter g m d c))
+  -- .. in the clusters that it had, and then those that it got
+  pub root-clusters : o .answer .number ≡ 0 → take (length (rootClusters g d)) (rootClusters g (o .volume)) ≡ rootClusters g d
+  -- every other slot has the set that it had, and none where it had none ..
+  pub others-set : (j : ℕ) → j ≢ slotOf c (o .answer .slot) → entriesAtSlot g (o .volume) j ≡ entriesAtSlot g d j
+  -- .. and its stream, a directory's too, the clusters ..
+  pub others-clusters : (j : ℕ) → j ≢ slotOf c (o .answer .slot) → fileAt g d j ≡ true → fileClusters g (o .volume) j ≡ fileClusters g d j
+  -- .. and the bytes that it had
+  pub others-bytes : (j : ℕ) → j ≢ slotOf c (o .answer .slot) → fileAt g d j ≡ true → fileBytes g (o .volume) j ≡ fileBytes g d j
+  -- no byte of no cluster changes: boot sectors, FAT entries 0 and 1, what follows the last entry, what lies behind the heap
+  pub outer-kept : (p : ℕ) → Outer (lay g d) p → getD (o .volume) p 0 ≡ getD d p 0
+  -- nor does a bit past C "in the bitmap that is read"
+  pub bits-kept : (k : ℕ) → lay g d .count + 2 ≤ k → k < 8 * bitmapBytes (lay g d .count) + 2
+      → marked (lay g d) (o .volume) k ≡ marked (lay g d) d k
+  -- of two FATs, a cluster's entry is as it was in both or alike in both ("FAT stores go to every FAT") ..
+  pub fats-alike : lay g d .two ≡ true → (k : ℕ) → inHeap (lay g d .count) k ≡ true
+      → Twins (fat0At (lay g d) d k) (fat1At (lay g d) d k) (fat0At (lay g d) (o .volume) k) (fat1At (lay g d) (o .volume) k)
+  -- .. and so is each byte of two bitmaps ("its changed byte is written to every bitmap", "another bitmap takes the whole byte")
+  pub bitmaps-alike : lay g d .two ≡ true → (i : ℕ) → i < bitmapBytes (lay g d .count)
+      → Twins (bitmap0At (lay g d) d i) (bitmap1At (lay g d) d i) (bitmap0At (lay g d) (o .volume) i) (bitmap1At (lay g d) (o .volume) i)
+
 pub record Demand (g : Geometry) (m d : List ℕ) (cs : List Call) : Type 0 where
   -- the volume stays consistent
   pub consistent : Consistent g m (run g m d cs)
   -- for every slot, the contents are what the model has there, and none where it has none
   pub contents-agree : (i : ℕ) → contents g (run g m d cs) i ≡ model (contents g d) cs (answers g m d cs) i
-  -- no accepted new file took a slot that the model had just then
-  pub slots-new : (before : List Call) (name : List ℕ) (attributes hash : ℕ) (t : Stamps) (hint : ℕ) (rest : List Call)
-      → cs ≡ before ++ (New name attributes hash t hint ∷ rest)
-      → step g m (run g m d before) (New name attributes hash t hint) .answer .number ≡ 0
-      → model (contents g d) before (answers g m d before) (step g m (run g m d before) (New name attributes hash t hint) .answer .slot)
-      ≡ none
-  -- each call's number, new slot and hint are those of the definitions at the volume it got ..
-  pub answers-defined : (before : List Call) (c : Call) (rest : List Call) → cs ≡ before ++ (c ∷ rest)
-      → answers g m d cs
-      ≡ answers g m d before ++ (step g m (run g m d before) c .answer ∷ answers g m (run g m d (before ++ (c ∷ []))) rest)
-  -- .. and so are the entries that an accepted one stored
-  pub entries-defined : (before : List Call) (c : Call) (rest : List Call) → cs ≡ before ++ (c ∷ rest)
-      → step g m (run g m d before) c .answer .number ≡ 0
-      → entriesAtSlot g (step g m (run g m d before) c .volume) (slotOf c (step g m (run g m d before) c .answer .slot))
-      ≡ setAfter g m (run g m d before) c
+  -- at every point of the list, its end included, any call that is accepted finds at its slot what it has to: a new file takes no slot
+  -- that the model has just then, any other call changes a list of the model
+  pub slots-fit : (before rest : List Call) → cs ≡ before ++ rest → (c : Call) → step g m (run g m d before) c .answer .number ≡ 0
+      → finds c (model (contents g d) before (answers g m d before) (slotOf c (step g m (run g m d before) c .answer .slot))) ≡ true
+  -- and there any call does what the definitions say, and no more
+  pub each-call : (before rest : List Call) → cs ≡ before ++ rest → (c : Call) → Done g m (run g m d before) c (step g m (run g m d before) c)
   -- marked clusters add up: as many more are marked as lengths and root take more
   pub marks-add-up : allocatedCount (lay g d) (run g m d cs) + clustersTaken g d ≡ allocatedCount (lay g d) d + clustersTaken g (run g m d cs)
   -- "Marked clusters of no stream stay marked", and of no stream ..

@@ -1,5 +1,5 @@
 -- The model (01: plain tapes): a table from slots to lists of bytes, fed only the calls, their numbers and new slots.
-use mathlib.Core.Bool.{cond}
+use mathlib.Core.Bool.{Bool, true, false, not, cond}
 use mathlib.Core.List.{List, [], _∷_, _++_}
 use mathlib.Core.Option.{Option, none, some}
 use Prim.Native.Nat.{ℕ, _+_, _-_}
@@ -28,6 +28,18 @@ accepted p (New name attributes hash t hint) slot = upd p slot (some [])
 accepted p (Write i offset bs t hint) slot = cond (eqb (length bs) 0) p (upd p i (onto (λ l. overwrite l offset bs) (p i)))
 accepted p (SetLength i len t hint) slot = upd p i (onto (λ l. resize l len) (p i))
 accepted p (Remove i hint) slot = upd p i none
+
+-- a slot has a list
+unfoldable pub hasList : Option (List ℕ) → Bool
+hasList (some l) = true
+hasList none = false
+
+-- what an accepted call finds at its slot: a new file no list, any other call the list that it changes
+unfoldable pub finds : Call → Option (List ℕ) → Bool
+finds (New name attributes hash t hint) o = not (hasList o)
+finds (Write i offset bs t hint) o = hasList o
+finds (SetLength i len t hint) o = hasList o
+finds (Remove i hint) o = hasList o
 
 -- a refused one changes nothing
 unfoldable pub fed : (ℕ → Option (List ℕ)) → Call → FileAnswer → ℕ → Option (List ℕ)
