@@ -4,5 +4,4 @@ pub mod Contents
 pub mod Model
 pub mod Space
 pub mod Demand
-pub mod Replay
 pub mod Example

@@ -1,0 +1,3 @@
+pub mod ParseLaws
+pub mod ReplayLaws
+pub mod ReplayExample

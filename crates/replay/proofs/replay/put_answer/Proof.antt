@@ -1,0 +1,51 @@
+use native.Mathlib.Omega.{arith}
+use lib.ListN.{length-set}
+use Rattle.replay.proofs.ReplayLaws.{words-three}
+use borrow.Author.Needs.{needs}
+use Rattle.replay.proofs.replay.put_answer.Statement.{statement}
+use Rattle.replay.proofs.replay.put_answer.Tie as tie
+
+mul-words : tie.Need-mul-words
+mul-words c = search needs
+
+slice-write-words : tie.Need-slice-write-words
+slice-write-words c = search needs
+
+add-words : tie.Need-add-words
+add-words c = search needs
+
+mul-words-2 : tie.Need-mul-words-2
+mul-words-2 c = search needs
+
+slice-write-words-2 : tie.Need-slice-write-words-2
+slice-write-words-2 c = simp length-set (omega arith)
+
+add-words-2 : tie.Need-add-words-2
+add-words-2 c = search needs
+
+mul-words-3 : tie.Need-mul-words-3
+mul-words-3 c = search needs
+
+slice-write-words-3 : tie.Need-slice-write-words-3
+slice-write-words-3 c = simp length-set (omega arith)
+
+same-length : tie.Need-same-length
+same-length c = search needs
+
+returns : tie.Need-returns
+returns c = words-three _ _ _ (omega arith)
+
+pub put-answer-spec : {M : Type 1} → statement M
+put-answer-spec =
+    tie.close
+    (tie.spec
+    mul-words
+    slice-write-words
+    add-words
+    mul-words-2
+    slice-write-words-2
+    add-words-2
+    mul-words-3
+    slice-write-words-3
+    same-length
+    returns)

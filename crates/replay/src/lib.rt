@@ -1,0 +1,3 @@
+// A list of calls laid out in bytes, run one after the other.
+pub mod parse;
+pub mod replay;
