@@ -79,7 +79,7 @@ run-is first n k h =
     (λ e. let f = run-facts first n k e in lt-ltb (k - first) n (omega arith))
 
 -- a cluster outside a run is before it or after it
-run-out : (first n k : ℕ) → inRun first n k ≡ false → (k < first) ⊎ (first + n ≤ k)
+pub run-out : (first n k : ℕ) → inRun first n k ≡ false → (k < first) ⊎ (first + n ≤ k)
 run-out first n k e =
     elim (decLt k first) [
       | yes h ↦ inl h
@@ -109,11 +109,11 @@ pub bitmap-second : (y : Layout) (k : ℕ) → inRun (y .first0) (y .span) k ≡
 unfolding isBitmapCluster
 bitmap-second y k e = rw e refl
 
-or-left : (a b : Bool) → a || b ≡ false → a ≡ false
+pub or-left : (a b : Bool) → a || b ≡ false → a ≡ false
 or-left true b e = e
 or-left false b e = refl
 
-or-right : (a b : Bool) → a || b ≡ false → b ≡ false
+pub or-right : (a b : Bool) → a || b ≡ false → b ≡ false
 or-right true b e = absurd (false≢true (sym e))
 or-right false b e = e
 
@@ -135,7 +135,7 @@ module _ (y : Layout) (l : Laid y) (a : Apart y) where
       omega (arith, mul-step (k - 2) (y .count) (y .size) (omega arith))
 
   -- a cluster after a run of n clusters
-  run-before : (first n k : ℕ) → 2 ≤ first → first + n ≤ k → clusterAt y first + n * y .size ≤ clusterAt y k
+  pub run-before : (first n k : ℕ) → 2 ≤ first → first + n ≤ k → clusterAt y first + n * y .size ≤ clusterAt y k
   unfolding clusterAt
   run-before first n k h b =
       omega (arith, add-mul (first - 2) n (y .size), mul-le-mul-right {m = first - 2 + n} {n = k - 2} (y .size) (omega arith))

@@ -6,3 +6,4 @@ pub mod Places
 pub mod Clusters
 pub mod Apart
 pub mod CauseLaws
+pub mod Spans

@@ -37,7 +37,7 @@ pub fits-kept : (y : Layout) (d e : List ℕ) → length e ≡ length d → Fits
 fits-kept y d e h w = record { laid = w .laid; apart = w .apart; long = h ∙ w .long }
 
 -- by cases of the number of FATs
-by-two {ℓ} : {P : Type ℓ} (y : Layout) → (y .two ≡ true → P) → (y .two ≡ false → P) → P
+pub by-two {ℓ} : {P : Type ℓ} (y : Layout) → (y .two ≡ true → P) → (y .two ≡ false → P) → P
 by-two {P = P} y t f = go (y .two) refl
   where
     go : (b : Bool) → y .two ≡ b → P
@@ -61,13 +61,13 @@ module _ (y : Layout) (d : List ℕ) where
 
   -- ---- what a store leaves as it was, byte by byte
 
-  fat-out : (k v p : ℕ) → ((r : ℕ) → r < 4 → p ≡ y .fat0 + 4 * k + r → ⊥) → (y .two ≡ true → (r : ℕ) → r < 4 → p ≡ y .fat1 + 4 * k + r → ⊥)
+  pub fat-out : (k v p : ℕ) → ((r : ℕ) → r < 4 → p ≡ y .fat0 + 4 * k + r → ⊥) → (y .two ≡ true → (r : ℕ) → r < 4 → p ≡ y .fat1 + 4 * k + r → ⊥)
       → getD (setFat y d k v) p 0 ≡ getD d p 0
   fat-out k v p h i =
       by-two y (λ t. rw (fat-two y d k v t) (put-off 4 (putLe 4 d (y .fat0 + 4 * k) v) (y .fat1 + 4 * k) v p (i t) ∙ put-off 4 d (y .fat0 + 4 * k) v p h))
       (λ t. rw (fat-one y d k v t) (put-off 4 d (y .fat0 + 4 * k) v p h))
 
-  byte-out : (i b p : ℕ) → p ≢ y .bitmap0 + i → (y .two ≡ true → p ≢ y .bitmap1 + i) → getD (putByte y d i b) p 0 ≡ getD d p 0
+  pub byte-out : (i b p : ℕ) → p ≢ y .bitmap0 + i → (y .two ≡ true → p ≢ y .bitmap1 + i) → getD (putByte y d i b) p 0 ≡ getD d p 0
   byte-out i b p h j =
       by-two y
       (λ t. rw (byte-two y d i b t) (getD-set-other (set d (y .bitmap0 + i) b) (y .bitmap1 + i) p b 0 (j t) ∙ getD-set-other d (y .bitmap0 + i) p b 0 h))
@@ -75,7 +75,7 @@ module _ (y : Layout) (d : List ℕ) where
 
 module _ (y : Layout) (d : List ℕ) (w : Fits y d) where
   -- the active FAT and bitmap are the first ones, or the second ones of two
-  by-active {ℓ} : {P : Type ℓ} → (y .fat ≡ y .fat0 → y .bitmap ≡ y .bitmap0 → P)
+  pub by-active {ℓ} : {P : Type ℓ} → (y .fat ≡ y .fat0 → y .bitmap ≡ y .bitmap0 → P)
       → (y .two ≡ true → y .fat ≡ y .fat1 → y .bitmap ≡ y .bitmap1 → P) → P
   by-active f s = ⊎-elim (λ a. f (a .0) (a .1)) (λ a. s (a .0) (a .1) (a .2)) (w .apart .active)
 
@@ -132,7 +132,7 @@ module _ (y : Layout) (d : List ℕ) (w : Fits y d) where
   -- ---- a mark stored
 
   -- the active bitmap has the byte
-  byte-active : (i b : ℕ) → i < bitmapBytes (y .count) → getD (putByte y d i b) (y .bitmap + i) 0 ≡ b
+  pub byte-active : (i b : ℕ) → i < bitmapBytes (y .count) → getD (putByte y d i b) (y .bitmap + i) 0 ≡ b
   byte-active i b h =
       let l = w .laid in
       let n = w .long in
@@ -149,7 +149,7 @@ module _ (y : Layout) (d : List ℕ) (w : Fits y d) where
       by-active (λ _ e. at (y .bitmap0) e first) (λ t _ e. at (y .bitmap1) e (second t))
 
   -- and its other bytes stay
-  byte-other : (i j b : ℕ) → i < bitmapBytes (y .count) → j < bitmapBytes (y .count) → j ≢ i
+  pub byte-other : (i j b : ℕ) → i < bitmapBytes (y .count) → j < bitmapBytes (y .count) → j ≢ i
       → getD (putByte y d i b) (y .bitmap + j) 0 ≡ getD d (y .bitmap + j) 0
   byte-other i j b h g n =
       byte-out y d i b (y .bitmap + j)
@@ -196,7 +196,7 @@ module _ (y : Layout) (d : List ℕ) (w : Fits y d) where
 
   -- ---- bytes stored in a cluster
 
-  fits-in : (k j : ℕ) (bs : List ℕ) → inHeap (y .count) k ≡ true → j + length bs ≤ y .size → clusterAt y k + j + length bs ≤ length d
+  pub fits-in : (k j : ℕ) (bs : List ℕ) → inHeap (y .count) k ≡ true → j + length bs ≤ y .size → clusterAt y k + j + length bs ≤ length d
   fits-in k j bs h f = let n = w .long in omega (arith, cluster-end y (w .laid) (w .apart) k h)
 
   pub length-bytes : (k j : ℕ) (bs : List ℕ) → inHeap (y .count) k ≡ true → j + length bs ≤ y .size → length (putBytes y d k j bs) ≡ length d

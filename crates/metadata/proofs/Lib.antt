@@ -3,3 +3,9 @@ pub mod Frame
 pub mod FullLaws
 pub mod View
 pub mod Counting
+pub mod Keeps
+pub mod RegionLaws
+pub mod OuterKeeps
+pub mod BitmapKeeps
+pub mod TwinKeeps
+pub mod IntactKeeps

@@ -5,3 +5,4 @@ pub mod Distinct
 pub mod BytesSteps
 pub mod BytesLaws
 pub mod RowLaws
+pub mod KeepLaws

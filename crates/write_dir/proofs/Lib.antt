@@ -3,3 +3,4 @@ pub mod PlaceLaws
 pub mod AddedLaws
 pub mod GrownLaws
 pub mod OpenLaws
+pub mod KeepLaws

@@ -3,3 +3,4 @@ pub mod RefreshLaws
 pub mod CallLaws
 pub mod NewFileLaws
 pub mod WriteLaws
+pub mod KeepLaws

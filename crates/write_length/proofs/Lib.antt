@@ -1,1 +1,2 @@
 pub mod SetLengthLaws
+pub mod KeepLaws

@@ -1,1 +1,2 @@
 pub mod RemoveLaws
+pub mod KeepLaws

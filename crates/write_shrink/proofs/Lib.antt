@@ -1,3 +1,4 @@
 pub mod Cutting
 pub mod RunSystem
 pub mod ShrinkLaws
+pub mod KeepLaws
