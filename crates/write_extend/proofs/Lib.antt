@@ -1,3 +1,5 @@
 pub mod EnoughLaws
 pub mod ExtendLaws
+pub mod ExtendsLaws
 pub mod LongerLaws
+pub mod KeepLaws

@@ -296,7 +296,7 @@ place-chosen y d m a n one low t h e =
     ∙ chosen-run u (y .count) n (a .last + 1) (omega arith) (a .last + 1)
     (choose-after u (y .count) n (a .last + 1) (a .last + 1) (run-hit u (y .count + 2) n (a .last + 1) h e))
 
-place-run : (y : Layout) (d m : List ℕ) (a : Allocation) (n : ℕ) → inPlace y d m a n ≡ true → a .«no_fat_chain» ≡ true
+pub place-run : (y : Layout) (d m : List ℕ) (a : Allocation) (n : ℕ) → inPlace y d m a n ≡ true → a .«no_fat_chain» ≡ true
 unfolding inPlace
 place-run y d m a n e = and-left (a .«no_fat_chain») (leb (a .last + 1 + n) (y .count + 2) && allFrom (isUsable y d m) (a .last + 1) n) e
 
