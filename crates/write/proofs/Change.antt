@@ -38,7 +38,7 @@ use Rattle.write.specs.Contents.{shown, hasFile, contents}
 use Rattle.write.specs.Space.{lengthTakes, sum, clustersTaken}
 use Rattle.write.specs.Demand.{entriesPut, Lost}
 use Rattle.write.proofs.Reading.{record-same}
-use Rattle.write.proofs.Family.{Family, Outside, Untouched, same-clusters}
+use Rattle.write.proofs.Family.{Family, Outside, same-clusters}
 use Rattle.write.proofs.Scene.{clear-stream, clear-directory, lay-same, members, ordered, slot-stream, slot-number, slot-off, lost-outside}
 
 -- the clusters that the length of a slot's set takes, and the contents that the set shows
@@ -72,7 +72,6 @@ pub record Change (g : Geometry) (m d d′ : List ℕ) (more i : ℕ) (o : Optio
       → bytesIn (lay g d) d′ (fileRecord (lay g d) d s) ≡ bytesIn (lay g d) d (fileRecord (lay g d) d s)
   pub own-off-map : (s : List ℕ) → o ≡ some s → (k : ℕ) → Mem k (clustersIn (lay g d) d′ (fileRecord (lay g d) d′ s)) → inMap m k ≡ false
   -- marked clusters of no stream
-  pub untouched : (k : ℕ) → Outside (lay g d) d (members g d) k → Untouched (lay g d) d d′ k
   pub outside : (k : ℕ) → Outside (lay g d) d (members g d) k → Outside (lay g d) d′ S′ k
   pub marks : markedCount (lay g d) d′ + (takes (lay g d) (sets (rootBytes g d) i) + length (rootClusters g d))
       ≡ markedCount (lay g d) d + (takes (lay g d) o + length (clustersIn (lay g d) d′ after))
@@ -259,9 +258,6 @@ module _ (g : Geometry) (m d d′ : List ℕ) (more i : ℕ) (o : Option (List �
   change-consistent = standing-consistent g m d′ (h .S′) (ap (λ (x : ℕ). limits g x m) (h .long) ∙ c .limits-hold) stands-there
 
   -- marked clusters of no stream
-  pub change-untouched : (k : ℕ) → Lost g d k → Untouched (lay g d) d d′ k
-  change-untouched k l = h .untouched k (lost-outside g m d c k l)
-
   pub change-lost : (k : ℕ) → Lost g d k → Lost g d′ k
   change-lost k l =
       standing-lost g m d′ (h .S′) stands-there k

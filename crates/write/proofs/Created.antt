@@ -14,6 +14,7 @@ use Rattle.tables.specs.Count.{count}
 use Rattle.tables.proofs.TableLaws.{upd-same, upd-other}
 use Rattle.boot.specs.declared.geometry.Geometry.{Geometry}
 use Rattle.boot.specs.declared.layout.Layout.{Layout}
+use Rattle.boot.specs.Geometry.{rootCluster}
 use Rattle.boot.specs.Layout.{inHeap}
 use Rattle.boot.specs.Causes.{heapCause}
 use Rattle.boot.proofs.CauseLaws.{cause-none}
@@ -28,7 +29,7 @@ use Rattle.entry_set.specs.Name.{nameOk, nameCause, attributesOk, attributeCaus
 use Rattle.entry_set.specs.New.{newEntries, newSet}
 use Rattle.entry_set.proofs.SetLaws.{new-length, new-zero, new-entries, new-valid, new-data, new-directory, new-few, new-formed}
 use Rattle.entry_set.proofs.LengthLaws.{clusters-none}
-use Rattle.write_alloc.specs.Outcome.{empty, spaceCause}
+use Rattle.write_alloc.specs.Outcome.{empty, wrap, spaceCause}
 use Rattle.directory.specs.Directory.{rootRecord, clustersIn, bytesIn}
 use Rattle.directory.specs.Entries.{entryCount, sets}
 use Rattle.directory.specs.Room.{freeRun, slotOf, withZeros, growth}
@@ -49,11 +50,12 @@ use Rattle.write.specs.Space.{mustAdd}
 use Rattle.write.specs.Demand as demand
 use Rattle.write.proofs.Shown.{shown-empty}
 use Rattle.write.proofs.Reading.{reads-as, bytes-length, root-back, record-empty}
-use Rattle.write.proofs.Family.{Moved, Stored, untouched-same, same-clusters, out-of-empty, empty-clusters, empty-bytes, family-add, outside-add, moved-again, store-member}
+use Rattle.write.proofs.Family.{Moved, Stored, same-clusters, out-of-empty, empty-clusters, empty-bytes, family-add, outside-add, moved-again, store-member}
 use Rattle.write.proofs.Zeroed.{Wider, grow-member}
 use Rattle.write.proofs.Scene.{both-clear, if-clear, mapped, root-first, root-chain, root-some, members, member-root, fits, size-per, per-low, root-count, ordered, family}
 use Rattle.write.proofs.Change.{Change, takes, contentsOf, contents-is}
 use Rattle.write.proofs.Steps.{Step, refused-step, carried-step}
+use Rattle.write.proofs.Hints.{hint-none, hint-some, grow-same, grow-next, root-last}
 use Rattle.write.proofs.Moves.{moves-none, moves-root, moves-file, change-of}
 use Rattle.write.proofs.Answers.{decided-number, decided-carried, new-decided}
 
@@ -201,7 +203,6 @@ module _ (g : Geometry) (m d : List ℕ) (c : Consistent g m d) (name : List ℕ
       family = family-add y d₂ T (suc at) empty refl (moved₂ .family);
       streams = λ _ _ _ _. refl;
       bytes = λ _ _ _ _. refl;
-      untouched = λ k _. untouched-same y d₂ k;
       outside = outside-add y d₂ T (suc at) empty refl;
     }
 
@@ -219,13 +220,17 @@ module _ (g : Geometry) (m d : List ℕ) (c : Consistent g m d) (name : List ℕ
     unfolding rootClusters
     root-kept = ap (take (length (clustersIn y d (root g d)))) (same-clusters y (w .volume) d₂ (w .directory) (stored .stream)) ∙ wider .kept
 
+    root-is : rootRecord y d₂ (rootCluster g) ≡ w .directory
+    root-is =
+        ap (rootRecord y d₂) (sym (wider .led .first ∙ root-first g d))
+        ∙ root-back y d₂ (w .directory) (clustersIn y (w .volume) (w .directory)) (stored .stream ∙ reads-as y (w .volume) (w .directory) reads)
+        (wider .led .flag (root-chain g d)) (λ z. root-some g d (omega (arith, wider .counts)))
+
     change : Change g m d d₂ more at (some x)
     change =
         change-of g m d d₂ more at (some x) (w .directory) (upd T (suc at) (some empty))
         (moves-file y d d₂ d₂ S T at (moves-root y d d d₂ S S at (moves-none y d S at (family g m d c)) (some (w .directory)) moved₂) (some empty) joined)
-        (ap (rootRecord y d₂) (sym (wider .led .first ∙ root-first g d))
-        ∙ root-back y d₂ (w .directory) (clustersIn y (w .volume) (w .directory)) (stored .stream ∙ reads-as y (w .volume) (w .directory) reads)
-        (wider .led .flag (root-chain g d)) (λ z. root-some g d (omega (arith, wider .counts))))
+        root-is
         (upd-other T (suc at) (some empty) 0 (λ q. omega arith) ∙ own)
         (insert-ordered (y .count) (y .size) (y .size / 32) (size-per g m d c) per R n x (ordered g m d c) fit (bytesIn y d₂ (w .directory)) bytes₂)
         (insert-sets (y .count) (y .size) (y .size / 32) (size-per g m d c) per R n x (ordered g m d c) fit (bytesIn y d₂ (w .directory)) bytes₂)
@@ -267,10 +272,24 @@ module _ (g : Geometry) (m d : List ℕ) (c : Consistent g m d) (name : List ℕ
     none-before : contents g d at ≡ none
     none-before = contents-is g d (ordered g m d c) at ∙ ap (contentsOf y d) free ∙ (unfold contentsOf in refl)
 
+    -- the hint is as given, or after the root's last cluster
+    hinted : w .hint ≡ demand.hintAnswered g d d₂ (New name attributes hash t hint)
+    unfolding mustAdd demand.hintOf demand.clustersGrown
+    hinted =
+        elim (ℕ-discrete more 0) [
+          | yes z ↦ grow-same y m more (record { volume = d; directory = root g d; hint = hint }) z
+              ∙ hint-none g d d₂ (New name attributes hash t hint) z
+          | no z ↦ grow-next y m (mapped g m d (c .limits-hold)) more (record { volume = d; directory = root g d; hint = hint }) (fits g m d c)
+              (clustersIn y d (root g d)) (reads-as y d (root g d) (family g m d c .reads 0 (root g d) (member-root g d))) hint-in enough (omega arith)
+              ∙ ap (λ (k : ℕ). wrap (y .count) (k + 1))
+              (sym (root-last g d d₂ (w .directory) (change .long) root-is (ap numberOf (stored .stream) ∙ reads) (λ q. root-some g d (omega (arith, wider .counts)))))
+              ∙ hint-some g d d₂ (New name attributes hash t hint) z
+        ]
+
     created : step g m d (New name attributes hash t hint) ≡ placed y w n x → Step g m d (New name attributes hash t hint)
     unfolding demand.slotOf demand.setAfter accepted finds hasList demand.rootAdds mustAdd demand.slotAnswered demand.rootGrown newGrowth rootBytes
     created q =
-        carried-step g m d (New name attributes hash t hint) at (w .hint) d₂ more (some x) c (q ∙ placed-at) refl refl refl change
+        carried-step g m d (New name attributes hash t hint) at (w .hint) d₂ more (some x) c (q ∙ placed-at) refl refl refl hinted change
         (shows ∙ sym (upd-same (contents g d) at (some []))) (ap (λ (o : Option (List ℕ)). not (hasList o)) none-before)
 
   pub new-step : Step g m d (New name attributes hash t hint)

@@ -30,9 +30,9 @@ use Rattle.stream.specs.declared.allocation.Allocation.{Allocation}
 use Rattle.stream.specs.Chain.{listed}
 use Rattle.stream.specs.Stream.{numberOf, streamOf}
 use Rattle.stream.specs.Listing.{clustersOf}
-use Rattle.stream.specs.Bytes.{clusterBytes, bytesOf, storeAt}
+use Rattle.stream.specs.Bytes.{bytesOf, storeAt}
 use Rattle.stream.proofs.Distinct.{stream-frame}
-use Rattle.stream.proofs.BytesLaws.{length-store, fat-store, mark-store, cluster-store, bytes-store-apart, bytes-store}
+use Rattle.stream.proofs.BytesLaws.{length-store, fat-store, mark-store, bytes-store-apart, bytes-store}
 use Rattle.write_alloc.proofs.GrowLaws.{small}
 use Rattle.directory.specs.Directory.{clustersIn, bytesIn}
 use Rattle.directory.proofs.DirectoryLaws.{clusters-heap}
@@ -50,19 +50,12 @@ pub record Outside (y : Layout) (d : List ℕ) (S : ℕ → Option Allocation) (
   pub mark : marked y d k ≡ true
   pub off : (j : ℕ) (a : Allocation) → S j ≡ some a → Mem k (clustersIn y d a) → ⊥
 
--- cluster k is as it was: its mark, its FAT entry and, unless it is a bitmap's, its bytes
-pub record Untouched (y : Layout) (d d′ : List ℕ) (k : ℕ) : Type 0 where
-  pub mark : marked y d′ k ≡ marked y d k
-  pub entry : fatEntry y d′ k ≡ fatEntry y d k
-  pub bytes : isBitmapCluster y k ≡ false → clusterBytes y d′ k ≡ clusterBytes y d k
-
--- d′ is d with member i changed to o, the others as they were, and marked clusters of none too
+-- d′ is d with member i changed to o, the others as they were, and marked clusters of none marked and of none
 pub record Moved (y : Layout) (d d′ : List ℕ) (S : ℕ → Option Allocation) (i : ℕ) (o : Option Allocation) : Type 0 where
   pub long : length d′ ≡ length d
   pub family : Family y d′ (upd S i o)
   pub streams : (j : ℕ) (a : Allocation) → j ≢ i → S j ≡ some a → streamOf y d′ a ≡ streamOf y d a
   pub bytes : (j : ℕ) (a : Allocation) → j ≢ i → S j ≡ some a → bytesIn y d′ a ≡ bytesIn y d a
-  pub untouched : (k : ℕ) → Outside y d S k → Untouched y d d′ k
   pub outside : (k : ℕ) → Outside y d S k → Outside y d′ (upd S i o) k
 
 -- the clusters depend on what the record reads as alone
@@ -76,16 +69,6 @@ pub moved-clusters : (y : Layout) (d d′ : List ℕ) (S : ℕ → Option Alloca
 moved-clusters y d d′ S i o v j a n s = same-clusters y d d′ a (v .streams j a n s)
 
 -- ---- marked clusters of no member
-
-pub untouched-same : (y : Layout) (d : List ℕ) (k : ℕ) → Untouched y d d k
-untouched-same y d k = record { mark = refl; entry = refl; bytes = λ _. refl }
-
-pub untouched-again : (y : Layout) (d e d′ : List ℕ) (k : ℕ) → Untouched y d e k → Untouched y e d′ k → Untouched y d d′ k
-untouched-again y d e d′ k v u = record {
-  mark = u .mark ∙ v .mark;
-  entry = u .entry ∙ v .entry;
-  bytes = λ o. u .bytes o ∙ v .bytes o;
-}
 
 -- a cluster of the heap that is no bitmap's
 pub plain-at : (y : Layout) (k : ℕ) → inHeap (y .count) k ≡ true → isBitmapCluster y k ≡ false → plain y k ≡ true
@@ -190,7 +173,7 @@ outside-add y d S i a z k l = record {
 module _ (y : Layout) (d d′ : List ℕ) (S : ℕ → Option Allocation) (i : ℕ) (f : Family y d S) (long : length d′ ≡ length d)
     (streams : (j : ℕ) (b : Allocation) → j ≢ i → S j ≡ some b → streamOf y d′ b ≡ streamOf y d b)
     (bytes : (j : ℕ) (b : Allocation) → j ≢ i → S j ≡ some b → bytesOf y d′ (clustersIn y d b) ≡ bytesOf y d (clustersIn y d b))
-    (untouched : (k : ℕ) → Outside y d S k → Untouched y d d′ k) where
+    (marks : (k : ℕ) → Outside y d S k → marked y d′ k ≡ marked y d k) where
   kept : (j : ℕ) (b : Allocation) → j ≢ i → S j ≡ some b → clustersIn y d′ b ≡ clustersIn y d b
   kept j b n s = same-clusters y d d′ b (streams j b n s)
 
@@ -208,10 +191,9 @@ module _ (y : Layout) (d d′ : List ℕ) (S : ℕ → Option Allocation) (i : �
         (λ j b n s k p q. own-apart j b n s k p (subst (Mem k) (kept j b n s) q));
     streams = streams;
     bytes = λ j b n s. unfold bytesIn in (ap (bytesOf y d′) (kept j b n s) ∙ bytes j b n s);
-    untouched = untouched;
     outside = λ k l. record {
       heap = l .heap;
-      mark = untouched k l .mark ∙ l .mark;
+      mark = marks k l ∙ l .mark;
       off = λ j b e.
           ⊎-elim (λ q p. own-off k l (subst (λ (x : Allocation). Mem k (clustersIn y d′ x)) (sym (q .1)) p))
           (λ q p. l .off j b (q .1) (subst (Mem k) (kept j b (q .0) (q .1)) p)) (new-member S i a j b e);
@@ -225,7 +207,6 @@ moved-same y d S i a f s = record {
   family = family-cong y d S (upd S i (some a)) same f;
   streams = λ _ _ _ _. refl;
   bytes = λ _ _ _ _. refl;
-  untouched = λ k _. untouched-same y d k;
   outside = λ k. outside-less y d S (upd S i (some a)) k (λ j b e. sym (same j) ∙ e);
 }
   where
@@ -249,7 +230,6 @@ moved-drop y d d′ S i o v = record {
       };
   streams = v .streams;
   bytes = v .bytes;
-  untouched = v .untouched;
   outside = λ k l. outside-less y d′ (upd S i o) (upd S i none) k back (v .outside k l);
 }
   where
@@ -264,7 +244,6 @@ moved-again y d e d′ S i o o′ v u = record {
   family = family-cong y d′ (upd (upd S i o) i o′) (upd S i o′) same (u .family);
   streams = λ j b n s. u .streams j b n (kept-member S i o j b n s) ∙ v .streams j b n s;
   bytes = λ j b n s. u .bytes j b n (kept-member S i o j b n s) ∙ v .bytes j b n s;
-  untouched = λ k l. untouched-again y d e d′ k (v .untouched k l) (u .untouched k (v .outside k l));
   outside = λ k l.
       outside-less y d′ (upd (upd S i o) i o′) (upd S i o′) k (λ j b q. sym (same j) ∙ q) (u .outside k (v .outside k l));
 }
@@ -320,11 +299,7 @@ module _ (y : Layout) (d : List ℕ) (w : Fits y d) (S : ℕ → Option Allocati
     moved = moved y d d₁ S i f (length-store y d w ks heap at bs)
         (λ j b n t. stream-same b (f .reads j b t))
         (λ j b n t. bytes-store-apart y d w ks heap at bs (clustersIn y d b) (clusters-heap y d b (f .reads j b t)) (λ k p q. f .apart j i b a n t s k p q))
-        (λ k l. record {
-          mark = mark-same k (l .heap);
-          entry = fat-same k (l .heap);
-          bytes = λ _. cluster-store y d w ks heap at bs k (l .heap) (l .off i a s);
-        })
+        (λ k l. mark-same k (l .heap))
         a
         (ap numberOf (stream-same a own) ∙ own)
         (ap (every (plain y)) clusters ∙ f .plains i a s)

@@ -1,6 +1,3 @@
-pub mod ParseLaws
-pub mod ReplayLaws
-pub mod ReplayExample
 pub mod Shown
 pub mod Reading
 pub mod Family
@@ -10,11 +7,11 @@ pub mod Scene
 pub mod Change
 pub mod Moves
 pub mod Answers
-pub mod Stores
 pub mod Open
-pub mod Outer
-pub mod Twins
+pub mod Reached
+pub mod Kept
 pub mod Steps
+pub mod Hints
 pub mod Fewest
 pub mod Cut
 pub mod Recorded

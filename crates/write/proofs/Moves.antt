@@ -27,7 +27,7 @@ use Rattle.directory.proofs.OrderedLaws.{Ordered}
 use Rattle.write_dir.specs.Open.{fileRecord}
 use Rattle.write.specs.Consistent.{lay, rootClusters, rootBytes, setOf}
 use Rattle.write.specs.Demand.{entriesPut}
-use Rattle.write.proofs.Family.{Family, Outside, Untouched, Moved, untouched-same, untouched-again}
+use Rattle.write.proofs.Family.{Family, Outside, Moved}
 use Rattle.write.proofs.Scene.{members, member-file}
 use Rattle.write.proofs.Change.{takes, Change}
 
@@ -38,7 +38,6 @@ pub record Moves (y : Layout) (d d′ : List ℕ) (S S′ : ℕ → Option Alloc
   pub others : (j : ℕ) → j ≢ i → S′ (suc j) ≡ S (suc j)
   pub clusters : (j : ℕ) (a : Allocation) → j ≢ i → S (suc j) ≡ some a → streamOf y d′ a ≡ streamOf y d a
   pub bytes : (j : ℕ) (a : Allocation) → j ≢ i → S (suc j) ≡ some a → bytesIn y d′ a ≡ bytesIn y d a
-  pub untouched : (k : ℕ) → Outside y d S k → Untouched y d d′ k
   pub outside : (k : ℕ) → Outside y d S k → Outside y d′ S′ k
 
 -- none yet
@@ -49,7 +48,6 @@ moves-none y d S i f = record {
   others = λ _ _. refl;
   clusters = λ _ _ _ _. refl;
   bytes = λ _ _ _ _. refl;
-  untouched = λ k _. untouched-same y d k;
   outside = λ _ l. l;
 }
 
@@ -62,7 +60,6 @@ module _ (y : Layout) (d d₁ d₂ : List ℕ) (S S₁ : ℕ → Option Allocati
     others = λ j n. upd-other S₁ k o (suc j) (h j n) ∙ w .others j n;
     clusters = λ j a n e. v .streams (suc j) a (h j n) (w .others j n ∙ e) ∙ w .clusters j a n e;
     bytes = λ j a n e. v .bytes (suc j) a (h j n) (w .others j n ∙ e) ∙ w .bytes j a n e;
-    untouched = λ x l. untouched-again y d d₁ d₂ x (w .untouched x l) (v .untouched x (w .outside x l));
     outside = λ x l. v .outside x (w .outside x l);
   }
 
@@ -111,7 +108,6 @@ change-of g m d d′ more i o after S′ w r z in-order t bytes kept own off q =
   others-read = λ j s n e. w .clusters j (fileRecord (lay g d) d s) n (member-file g d j s e);
   others-bytes = λ j s n e. w .bytes j (fileRecord (lay g d) d s) n (member-file g d j s e);
   own-off-map = off;
-  untouched = w .untouched;
   outside = w .outside;
   marks = q;
 }

@@ -15,7 +15,7 @@ use Rattle.directory.proofs.EntryLaws.{sound-file}
 use Rattle.directory.proofs.StoreLaws.{sets-file}
 use Rattle.write_dir.specs.Open.{entryCause, attributeCause, setIn, fileCause}
 use Rattle.write_file.specs.Refresh.{openCause}
-use Rattle.write.specs.Consistent.{lay, root, rootBytes, setOf}
+use Rattle.write.specs.Consistent.{lay, root, rootBytes, fileAt, setOf}
 use Rattle.write.proofs.Scene.{both-clear, if-clear}
 
 -- a test that decides a number that is not 0
@@ -40,9 +40,13 @@ module _ (g : Geometry) (m d : List ℕ) (i hint : ℕ) (e : openCause (lay g d)
       (if-clear _ 10 (λ z. omega arith) (a .0), unless-clear _ 11 (λ z. omega arith) (cause-none _ _ (a .1) .0))
 
   -- a file stands at the slot
+  pub open-at : fileAt g d i ≡ true
+  unfolding fileAt
+  open-at = sound-file (lay g d .count) (lay g d .size) (rootBytes g d) i (file-clear .0)
+
   pub open-set : sets (rootBytes g d) i ≡ some (setOf g d i)
   unfolding setOf
-  open-set = sets-file (rootBytes g d) i (sound-file (lay g d .count) (lay g d .size) (rootBytes g d) i (file-clear .0))
+  open-set = sets-file (rootBytes g d) i (unfold fileAt in open-at)
 
   -- that is no directory
   pub open-file : isDirectory (setOf g d i) ≡ false

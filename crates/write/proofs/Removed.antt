@@ -30,11 +30,13 @@ use Rattle.write.specs.Calls.{Remove, step}
 use Rattle.write.specs.Consistent.{Consistent, lay, root, rootBytes, setOf}
 use Rattle.write.specs.Contents.{contents}
 use Rattle.write.specs.Model.{accepted, hasList, finds}
-use Rattle.write.specs.Demand.{slotOf, setAfter, entriesPut, rootAdds, slotAnswered}
+use Rattle.write.specs.Space.{mustAdd}
+use Rattle.write.specs.Demand.{slotOf, hintOf, setAfter, entriesPut, rootAdds, slotAnswered, hintAnswered}
 use Rattle.write.proofs.Family.{moved-drop}
 use Rattle.write.proofs.Scene.{members, ordered, slot-fit}
 use Rattle.write.proofs.Change.{Change, takes, contentsOf}
 use Rattle.write.proofs.Steps.{Step, refused-step, carried-step}
+use Rattle.write.proofs.Hints.{hint-none}
 use Rattle.write.proofs.Answers.{decided-number, decided-carried, remove-decided}
 use Rattle.write.proofs.Open.{open-set, open-file}
 use Rattle.write.proofs.Rewritten.{shows-before}
@@ -97,6 +99,10 @@ module _ (g : Geometry) (m d : List ℕ) (c : Consistent g m d) (i hint : ℕ) w
         (λ s′ z. clash (cc))
         (let t : takes y none ≡ 0 = unfold takes in refl in omega (arith, cut-marks g m d c i hint e x full 0))
 
+  hinted : hint ≡ hintAnswered g d d₂ (Remove i hint)
+  unfolding hintOf mustAdd
+  hinted = hint-none g d d₂ (Remove i hint) refl
+
   removed : openCause (lay g d) d m (root g d) i hint ≡ 0
       → step g m d (Remove i hint)
       ≡ carried 0 hint
@@ -104,7 +110,7 @@ module _ (g : Geometry) (m d : List ℕ) (c : Consistent g m d) (i hint : ℕ) w
       → Step g m d (Remove i hint)
   unfolding unlinked setIn setOf rootBytes slotOf setAfter accepted contentsOf finds hasList rootAdds slotAnswered
   removed e q =
-      carried-step g m d (Remove i hint) 0 hint d₂ 0 none c q refl refl refl (change e) (sym (upd-same (contents g d) i none))
+      carried-step g m d (Remove i hint) 0 hint d₂ 0 none c q refl refl refl hinted (change e) (sym (upd-same (contents g d) i none))
       (ap hasList (shows-before g m d c i s (own e) (open-file g m d i hint e)))
 
   pub remove-step : Step g m d (Remove i hint)

@@ -15,11 +15,10 @@ use borrow.Author.Tests.{lt-leb, le-leb}
 use Rattle.tables.specs.Lists.{Mem, every, lastOr}
 use Rattle.tables.specs.Count.{count}
 use Rattle.tables.proofs.Cases.{not-so}
-use Rattle.tables.proofs.ListLaws.{mem-append, mem-take, mem-right, every-mem, mem-every, last-in}
+use Rattle.tables.proofs.ListLaws.{mem-append, mem-take, mem-right, every-mem, mem-every}
 use Rattle.boot.specs.declared.layout.Layout.{Layout}
 use Rattle.boot.specs.Limits.{inMap}
 use Rattle.boot.specs.Layout.{inHeap, isBitmapCluster}
-use Rattle.boot.proofs.Apart.{in-heap}
 use Rattle.boot.proofs.CauseLaws.{cause-skip, cause-last, heap-kept}
 use Rattle.metadata.specs.Fat.{fatEntry}
 use Rattle.metadata.specs.Marks.{marked}
@@ -116,11 +115,7 @@ module _ (y : Layout) (d m : List ℕ) (w : Fits y d) (mapped : Mapped y m) (S :
       (λ j b n t. grown-other y d m (o .volume) (o .answer .allocation) old got w grown b (clustersIn y d b) (reads-as y d b (f .reads j b t))
       (λ k p q. f .apart j i b a n t s k p q) ∙ sym (reads-as y d b (f .reads j b t)))
       (λ j b n t. bytes-plain y d (o .volume) (grown .long) (grown .bytes-kept) (clustersIn y d b) (f .plains j b t))
-      (λ k l. record {
-        mark = grown .marks-kept k (l .heap) (not-new k l);
-        entry = grown .fat-kept k (l .heap) (l .off i a s) (not-new k l);
-        bytes = λ h. cluster-cong y d (o .volume) k (grown .long) (λ r. grown .bytes-kept k r (plain-at y k (l .heap) h));
-      })
+      (λ k l. grown .marks-kept k (l .heap) (not-new k l))
       (o .answer .allocation)
       (number-of y (o .volume) (o .answer .allocation) (old ++ got) (grown .reads))
       (ap (every (plain y)) clusters-are ∙ all-plain)
@@ -186,7 +181,7 @@ module _ (y : Layout) (d m : List ℕ) (w : Fits y d) (S : ℕ → Option Alloca
   shorter : (e : List ℕ) → length e ≡ length d
       → ((b : Allocation) (js : List ℕ) → streamOf y d b ≡ listed js → ((k : ℕ) → Mem k js → Mem k ks → ⊥) → streamOf y e b ≡ listed js)
       → ((k j : ℕ) → plain y k ≡ true → j < y .size → clusterByte y e k j ≡ clusterByte y d k j)
-      → ((k : ℕ) → Outside y d S k → (marked y e k ≡ marked y d k) × (fatEntry y e k ≡ fatEntry y d k))
+      → ((k : ℕ) → Outside y d S k → marked y e k ≡ marked y d k)
       → streamOf y e a′ ≡ listed (take keep ks) → markedCount y e + (length ks - keep) ≡ markedCount y d
       → Shorter y d S i a keep e a′
   shorter e long others same outside reads counts = record {
@@ -194,11 +189,7 @@ module _ (y : Layout) (d m : List ℕ) (w : Fits y d) (S : ℕ → Option Alloca
         (λ j b n t. others b (clustersIn y d b) (reads-as y d b (f .reads j b t)) (λ k p q. f .apart j i b a n t s k p q)
         ∙ sym (reads-as y d b (f .reads j b t)))
         (λ j b n t. bytes-plain y d e long same (clustersIn y d b) (f .plains j b t))
-        (λ k l. record {
-          mark = outside k l .0;
-          entry = outside k l .1;
-          bytes = λ h. cluster-cong y d e k long (λ r. same k r (plain-at y k (l .heap) h));
-        })
+        outside
         a′ (number-of y e a′ (take keep ks) reads) (ap (every (plain y)) clusters ∙ front-plain)
         (λ j b n t k p q. f .apart i j a b (λ z. n (sym z)) s t k (mem-take keep ks (subst (Mem k) clusters p)) q)
         (λ k l p. l .off i a s (mem-take keep ks (subst (Mem k) clusters p)));
@@ -267,12 +258,6 @@ module _ (y : Layout) (d m : List ℕ) (w : Fits y d) (S : ℕ → Option Alloca
       clear : shrinkCause y d m a keep ≡ 0
       clear = unfold shrinkCause in (cause-skip _ _ own′ ∙ cause-last _ ∙ (unfold clustersIn in system))
 
-  -- and a cluster of no member is not the last kept one
-  not-last : (k : ℕ) → Outside y d S k → (l : List ℕ) → (Mem k l → Mem k ks) → k ≢ lastOr 0 l
-  unfolding lastOr
-  not-last k o [] h e = omega (arith, in-heap (y .count) k (o .heap) .0)
-  not-last k o (c ∷ cs) h e = o .off i a s (h (subst (λ (x : ℕ). Mem x (c ∷ cs)) (sym e) (last-in c cs)))
-
   pub cut-member : Shorter y d S i a keep (shrinkIn y d m a keep hint .volume) (keptRecord a (take keep (clustersIn y d a)))
   unfolding clustersIn
   cut-member =
@@ -290,10 +275,7 @@ module _ (y : Layout) (d m : List ℕ) (w : Fits y d) (S : ℕ → Option Alloca
       freed-others : Shorter y d S i a keep d₂ a′
       freed-others =
           shorter d₂ (shrunk .long) (shrunk .others) (shrunk .bytes)
-          (λ k l. (
-            shrunk .marks k (l .heap) (λ q. l .off i a s (inside k q)),
-            shrunk .fats k (l .heap) (λ q. l .off i a s (inside k q)) (λ _. not-last k l (take keep ks) (λ q. mem-take keep ks q)),
-          ))
+          (λ k l. shrunk .marks k (l .heap) (λ q. l .off i a s (inside k q)))
           (shrunk .reads)
           (ap (λ (x : ℕ). markedCount y d₂ + x) (sym (length-drop keep ks)) ∙ shrunk .counts)
 
@@ -301,4 +283,4 @@ module _ (y : Layout) (d m : List ℕ) (w : Fits y d) (S : ℕ → Option Alloca
       all-kept l =
           let n = clusters-length y d a own′ in
           let q : take keep ks ≡ ks = take-all keep ks (omega arith) in
-          shorter d refl (λ b js e _. e) (λ _ _ _ _. refl) (λ _ _. (refl, refl)) (same-reads (take keep ks) (sym q)) (omega arith)
+          shorter d refl (λ b js e _. e) (λ _ _ _ _. refl) (λ _ _. refl) (same-reads (take keep ks) (sym q)) (omega arith)

@@ -1,6 +1,6 @@
 -- The stream of a file changed, then its set stored anew: what write and a new length that is not shorter do. Assumes nothing.
 use mathlib.Core.Path.{_≡_, refl, sym, _∙_, ap, ap₂, subst}
-use mathlib.Core.Logic.{⊎-elim}
+use mathlib.Core.Logic.{_≢_, ⊎-elim}
 use mathlib.Core.Bool.{Bool, true, false, cond}
 use mathlib.Core.List.{List, _++_}
 use mathlib.Core.Option.{Option, none, some, Option·some-injective}
@@ -9,7 +9,7 @@ use native.Mathlib.Omega.{arith}
 use lib.ListN.{length, take, length-take}
 use Rattle.primitives.specs.Splice.{splice}
 use Rattle.tables.specs.Table.{upd}
-use Rattle.tables.specs.Lists.{Mem}
+use Rattle.tables.specs.Lists.{Mem, lastOr}
 use Rattle.tables.specs.Count.{count}
 use Rattle.tables.proofs.TableLaws.{upd-same}
 use Rattle.tables.proofs.ListLaws.{mem-append}
@@ -39,10 +39,10 @@ use Rattle.write_dir.specs.Outcome.{carried}
 use Rattle.write_dir.specs.Open.{fileRecord}
 use Rattle.write_file.specs.Refresh.{entriesOf, recorded, stored, missing}
 use Rattle.write.specs.Calls.{Call, step}
-use Rattle.write.specs.Consistent.{Consistent, lay, root, rootClusters, rootBytes, setOf}
+use Rattle.write.specs.Consistent.{Consistent, lay, root, rootClusters, rootBytes, setOf, fileClusters}
 use Rattle.write.specs.Contents.{shown, contents}
 use Rattle.write.specs.Model.{accepted, finds}
-use Rattle.write.specs.Demand.{slotOf, setAfter, entriesPut, rootAdds, slotAnswered}
+use Rattle.write.specs.Demand.{slotOf, setAfter, entriesPut, rootAdds, slotAnswered, hintAnswered}
 use Rattle.write.proofs.Reading.{reads-as, bytes-length, record-count}
 use Rattle.write.proofs.Family.{Family, Moved, Stored, same-clusters, kept-member, moved-same, moved-again, store-member}
 use Rattle.write.proofs.Resized.{Longer, extend-member}
@@ -50,6 +50,7 @@ use Rattle.write.proofs.Scene.{mapped, members, member-root, member-fil
 use Rattle.write.proofs.Change.{takes, contentsOf, Change, contents-is}
 use Rattle.write.proofs.Moves.{no-zeros, take-whole, moves-none, moves-root, moves-file, change-of}
 use Rattle.write.proofs.Steps.{Step, carried-step}
+use Rattle.write.proofs.Hints.{file-last}
 use Rattle.write.proofs.Recorded.{recorded-entries, recorded-fit, recorded-directory, recorded-valid, recorded-data, recorded-back}
 
 -- ---- the stream
@@ -336,12 +337,19 @@ module _ (g : Geometry) (m d : List ℕ) (c : Consistent g m d) (i : ℕ) (s : L
         ∙ ap (λ (l : List ℕ). shown l valid len)
         (ap (bytesIn y d′) record-back ∙ st .moved .bytes (suc i) b (λ h. omega arith) own-now ∙ v .bytes))
 
+    -- the last cluster of its stream there
+    pub rewritten-last : b .count ≢ 0 → lastOr 0 (fileClusters g (stored y e (clustersIn y d (root g d)) i s b valid len t) i) ≡ b .last
+    rewritten-last n =
+        file-last g m d d′ 0 i s′ c rewritten-change (λ z. n (sym (ap (λ (a : Allocation). a .count) record-back) ∙ z))
+        ∙ ap (λ (a : Allocation). a .last) record-back
+
     -- a call that answers 0 and leaves that volume
-    pub rewritten-step : (cl : Call) (hint : ℕ) → step g m d cl ≡ carried 0 hint d′ → slotOf cl 0 ≡ i → setAfter g m d cl ≡ some s′
+    pub rewritten-step : (cl : Call) (hint : ℕ) → step g m d cl ≡ carried 0 hint d′ → hint ≡ hintAnswered g d d′ cl
+        → slotOf cl 0 ≡ i → setAfter g m d cl ≡ some s′
         → isDirectory s ≡ false → accepted (contents g d) cl 0 i ≡ some (shown B valid len)
         → finds cl (contents g d i) ≡ true → rootAdds g d cl ≡ 0 → slotAnswered g d cl ≡ 0 → Step g m d cl
-    rewritten-step cl hint is at after z shows found adds slot =
-        carried-step g m d cl 0 hint d′ 0 (some s′) c is after adds (sym slot) (subst (λ (x : ℕ). Change g m d d′ 0 x (some s′)) (sym at) rewritten-change)
+    rewritten-step cl hint is hinted at after z shows found adds slot =
+        carried-step g m d cl 0 hint d′ 0 (some s′) c is after adds (sym slot) hinted (subst (λ (x : ℕ). Change g m d d′ 0 x (some s′)) (sym at) rewritten-change)
         (rewritten-shows z ∙ sym (ap (accepted (contents g d) cl 0) at ∙ shows)) (ap (λ (x : ℕ). finds cl (contents g d x)) at ∙ found)
 
   -- what it showed

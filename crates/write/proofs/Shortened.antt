@@ -37,12 +37,14 @@ use Rattle.write.specs.Calls.{SetLength, step}
 use Rattle.write.specs.Consistent.{Consistent, lay, root, rootBytes, setOf, streamAt, fileClusters}
 use Rattle.write.specs.Contents.{shown, contents}
 use Rattle.write.specs.Model.{resize, onto, accepted, hasList, finds}
-use Rattle.write.specs.Demand.{slotOf, setAfter, entriesPut, rootAdds, slotAnswered}
+use Rattle.write.specs.Space.{beyond, mustAdd}
+use Rattle.write.specs.Demand.{slotOf, hintOf, setAfter, entriesPut, rootAdds, slotAnswered, hintAnswered}
 use Rattle.write.proofs.Shown.{shown-shorter}
 use Rattle.write.proofs.Reading.{reads-as, bytes-length}
 use Rattle.write.proofs.Scene.{both-clear, members, fits, ordered, slot-number, slot-off, slot-takes, slot-fit}
 use Rattle.write.proofs.Change.{Change, takes, contentsOf, contents-is}
 use Rattle.write.proofs.Steps.{Step, carried-step}
+use Rattle.write.proofs.Hints.{hint-none}
 use Rattle.write.proofs.Answers.{decided-number, decided-carried, set-decided}
 use Rattle.write.proofs.Open.{open-set, open-file}
 use Rattle.write.proofs.Recorded.{recorded-length, recorded-entries, recorded-fit, recorded-directory, recorded-valid, recorded-data, recorded-back}
@@ -230,8 +232,12 @@ module _ (g : Geometry) (m d : List ℕ) (c : Consistent g m d) (i len : ℕ) (t
   unfolding setAfter streamAt fileClusters
   set-after = rw (lt-ltb len (dataLength s) less) refl
 
+  hinted : hint ≡ hintAnswered g d d₂ (SetLength i len t hint)
+  unfolding hintOf mustAdd beyond
+  hinted = hint-none g d d₂ (SetLength i len t hint) (omega (arith, fewer))
+
   pub shorter-step : Step g m d (SetLength i len t hint)
   unfolding slotOf accepted finds hasList rootAdds slotAnswered
   shorter-step =
-      carried-step g m d (SetLength i len t hint) 0 hint d₂ 0 (some x) c done set-after refl refl change
+      carried-step g m d (SetLength i len t hint) 0 hint d₂ 0 (some x) c done set-after refl refl hinted change
       (same ∙ sym (upd-same (contents g d) i (onto (λ l. resize l len) (contents g d i)))) (ap hasList before)

@@ -15,6 +15,9 @@ use Rattle.tables.proofs.TableLaws.{upd-same, upd-other, upd-case}
 use Rattle.boot.specs.declared.geometry.Geometry.{Geometry}
 use Rattle.boot.specs.declared.layout.Layout.{Layout}
 use Rattle.metadata.specs.Marks.{allocatedCount}
+use Rattle.metadata.specs.Kept.{Intact}
+use Rattle.metadata.proofs.IntactKeeps.{intact-same, intact-again}
+use Rattle.stream.proofs.BytesLaws.{cluster-cong}
 use Rattle.directory.specs.Entries.{sets}
 use Rattle.write_dir.specs.Outcome.{Outcome, carried}
 use Rattle.write.specs.Calls.{Call, New, Write, SetLength, Remove, step, run, answers}
@@ -22,12 +25,10 @@ use Rattle.write.specs.Consistent.{Consistent, lay, rootBytes, fileAt, s
 use Rattle.write.specs.Contents.{contents}
 use Rattle.write.specs.Model.{overwrite, resize, onto, accepted, finds, fed, model}
 use Rattle.write.specs.Space.{clustersTaken}
-use Rattle.write.specs.Demand.{slotOf, setAfter, entriesAtSlot, rootAdds, rootGrown, slotAnswered, Lost, Done, Demand}
-use Rattle.write.proofs.Family.{Untouched, untouched-same, untouched-again}
+use Rattle.write.specs.Demand.{slotOf, setAfter, entriesAtSlot, rootAdds, rootGrown, slotAnswered, hintAnswered, Lost, Done, Demand}
 use Rattle.write.proofs.Scene.{lay-same}
-use Rattle.write.proofs.Change.{contentsOf, Change, change-consistent, change-untouched, change-lost, change-sets, change-root-bytes, change-root-clusters, change-other-clusters, change-other-bytes, change-contents, change-marks}
-use Rattle.write.proofs.Outer.{outer-kept, bits-kept}
-use Rattle.write.proofs.Twins.{fats-alike, bitmaps-alike}
+use Rattle.write.proofs.Change.{contentsOf, Change, change-consistent, change-lost, change-sets, change-root-bytes, change-root-clusters, change-other-clusters, change-other-bytes, change-contents, change-marks}
+use Rattle.write.proofs.Kept.{outer-kept, bits-kept, bitmap-rest-kept, foreign-kept, fats-alike, bitmaps-alike, lost-foreign}
 use Rattle.write.proofs.Answers.{refused-same, refused-volume, numbered, seven, carried-out}
 
 -- ---- one call
@@ -42,7 +43,6 @@ pub record Step (g : Geometry) (m d : List ℕ) (c : Call) : Type 0 where
   pub marks : allocatedCount (lay g d) (step g m d c .volume) + clustersTaken g d ≡ allocatedCount (lay g d) d + clustersTaken g (step g m d c .volume)
   -- marked clusters of no stream
   pub lost : (k : ℕ) → Lost g d k → Lost g (step g m d c .volume) k
-  pub untouched : (k : ℕ) → Lost g d k → Untouched (lay g d) d (step g m d c .volume) k
 
 -- a refused call keeps everything
 pub refused-step : (g : Geometry) (m d : List ℕ) (c : Call) → Consistent g m d → step g m d c .answer .number ≢ 0 → Step g m d c
@@ -56,11 +56,14 @@ refused-step g m d c w n =
         number = numbered g m d c;
         outer-kept = outer-kept g m d c;
         bits-kept = bits-kept g m d c;
+        bitmap-rest-kept = bitmap-rest-kept g m d c;
+        foreign-kept = foreign-kept g m d c;
         fats-alike = fats-alike g m d c;
         bitmaps-alike = bitmaps-alike g m d c;
         refused-same = refused-same g m d c;
         same-length = ap length e;
         slot-defined = λ z. absurd (n z);
+        hint-defined = λ z. absurd (n z);
         entries-defined = λ z. absurd (n z);
         root-bytes = λ z. absurd (n z);
         root-clusters = λ z. absurd (n z);
@@ -70,7 +73,6 @@ refused-step g m d c w n =
       };
       marks = ap (λ (v : List ℕ). allocatedCount (lay g d) v + clustersTaken g d) e ∙ ap (λ (v : List ℕ). allocatedCount (lay g d) d + clustersTaken g v) (sym e);
       lost = λ k l. subst (λ (v : List ℕ). Lost g v k) (sym e) l;
-      untouched = λ k _. subst (λ (v : List ℕ). Untouched (lay g d) d v k) (sym e) (untouched-same (lay g d) d k);
     }
   where
     kept : (j : ℕ) → fed (contents g d) c (step g m d c .answer) j ≡ contents g d j
@@ -97,8 +99,9 @@ accepted-step : (g : Geometry) (m d : List ℕ) (c : Call) → Consistent g m d 
     → contentsOf (lay g d) (step g m d c .volume) (setAfter g m d c)
     ≡ accepted (contents g d) c (step g m d c .answer .slot) (slotOf c (step g m d c .answer .slot))
     → finds c (contents g d (slotOf c (step g m d c .answer .slot))) ≡ true → step g m d c .answer .slot ≡ slotAnswered g d c
+    → step g m d c .answer .hint ≡ hintAnswered g d (step g m d c .volume) c
     → Step g m d c
-accepted-step g m d c w z h v f slot = record {
+accepted-step g m d c w z h v f slot hinted = record {
   consistent = change-consistent g m d (step g m d c .volume) _ _ _ w h;
   agree = λ j. change-contents g m d (step g m d c .volume) _ _ _ w h j ∙ at j ∙ sym (fed-is j);
   found = λ _. f;
@@ -106,11 +109,14 @@ accepted-step g m d c w z h v f slot = record {
     number = numbered g m d c;
     outer-kept = outer-kept g m d c;
     bits-kept = bits-kept g m d c;
+    bitmap-rest-kept = bitmap-rest-kept g m d c;
+    foreign-kept = foreign-kept g m d c;
     fats-alike = fats-alike g m d c;
     bitmaps-alike = bitmaps-alike g m d c;
     refused-same = λ n. absurd (n z);
     same-length = h .long;
     slot-defined = λ _. slot;
+    hint-defined = λ _. hinted;
     entries-defined = λ _. entry;
     root-bytes = λ _. unfold rootGrown in (change-root-bytes g m d (step g m d c .volume) _ _ _ w h);
     root-clusters = λ _. change-root-clusters g m d (step g m d c .volume) _ _ _ w h;
@@ -120,7 +126,6 @@ accepted-step g m d c w z h v f slot = record {
   };
   marks = change-marks g m d (step g m d c .volume) _ _ _ w h;
   lost = change-lost g m d (step g m d c .volume) _ _ _ w h;
-  untouched = change-untouched g m d (step g m d c .volume) _ _ _ w h;
 }
   where
     fed-is : (j : ℕ) → fed (contents g d) c (step g m d c .answer) j ≡ accepted (contents g d) c (step g m d c .answer .slot) j
@@ -148,12 +153,13 @@ accepted-step g m d c w z h v f slot = record {
 
 -- the same by its outcome and the set that it leaves
 pub carried-step : (g : Geometry) (m d : List ℕ) (c : Call) (slot hint : ℕ) (d′ : List ℕ) (more : ℕ) (o : Option (List ℕ)) → Consistent g m d
-    → step g m d c ≡ carried slot hint d′ → setAfter g m d c ≡ o → rootAdds g d c ≡ more → slot ≡ slotAnswered g d c → Change g m d d′ more (slotOf c slot) o
+    → step g m d c ≡ carried slot hint d′ → setAfter g m d c ≡ o → rootAdds g d c ≡ more → slot ≡ slotAnswered g d c → hint ≡ hintAnswered g d d′ c
+    → Change g m d d′ more (slotOf c slot) o
     → contentsOf (lay g d) d′ o ≡ accepted (contents g d) c slot (slotOf c slot)
     → finds c (contents g d (slotOf c slot)) ≡ true
     → Step g m d c
 unfolding carried
-carried-step g m d c slot hint d′ more o w e after adds place h shows found =
+carried-step g m d c slot hint d′ more o w e after adds place hinted h shows found =
     accepted-step g m d c w (ap (λ (x : Outcome). x .answer .number) e)
     (subst (λ (x : Outcome). Change g m d (x .volume) (rootAdds g d c) (slotOf c (x .answer .slot)) (setAfter g m d c)) (sym e)
     (subst (Change g m d d′ (rootAdds g d c) (slotOf c slot)) (sym after) (subst (λ (k : ℕ). Change g m d d′ k (slotOf c slot) o) (sym adds) h)))
@@ -162,6 +168,7 @@ carried-step g m d c slot hint d′ more o w e after adds place h shows found =
     (sym e) (ap (contentsOf (lay g d) d′) after ∙ shows))
     (ap (λ (x : Outcome). finds c (contents g d (slotOf c (x .answer .slot)))) e ∙ found)
     (ap (λ (x : Outcome). x .answer .slot) e ∙ place)
+    (ap (λ (x : Outcome). x .answer .hint) e ∙ hinted ∙ ap (λ (x : Outcome). hintAnswered g d (x .volume) c) (sym e))
 
 -- ---- every list of calls
 
@@ -199,14 +206,19 @@ module _ (g : Geometry) (m : List ℕ) (one : (d : List ℕ) (c : Call) → Cons
   run-lost d [] w k l = l
   run-lost d (c ∷ cs) w k l = run-lost (step g m d c .volume) cs (one d c w .consistent) k (one d c w .lost k l)
 
-  run-untouched : (d : List ℕ) (cs : List Call) → Consistent g m d → (k : ℕ) → Lost g d k → Untouched (lay g d) d (run g m d cs) k
+  run-length : (d : List ℕ) (cs : List Call) → Consistent g m d → length (run g m d cs) ≡ length d
   unfolding run
-  run-untouched d [] w k l = untouched-same (lay g d) d k
-  run-untouched d (c ∷ cs) w k l =
+  run-length d [] w = refl
+  run-length d (c ∷ cs) w = let s = one d c w in run-length (step g m d c .volume) cs (s .consistent) ∙ s .done .same-length
+
+  run-intact : (d : List ℕ) (cs : List Call) → Consistent g m d → (k : ℕ) → Lost g d k → Intact (lay g d) d (run g m d cs) k
+  unfolding run
+  run-intact d [] w k l = intact-same (lay g d) d k
+  run-intact d (c ∷ cs) w k l =
       let s = one d c w in
       let v = step g m d c .volume in
-      untouched-again (lay g d) d v (run g m v cs) k (s .untouched k l)
-      (subst (λ (y : Layout). Untouched y v (run g m v cs) k) (lay-same g d v (s .done .same-length)) (run-untouched v cs (s .consistent) k (s .lost k l)))
+      intact-again (lay g d) d v (run g m v cs) k (s .done .foreign-kept k (lost-foreign g m d (slotOf c (step g m d c .answer .slot)) k l))
+      (subst (λ (y : Layout). Intact y v (run g m v cs) k) (lay-same g d v (s .done .same-length)) (run-intact v cs (s .consistent) k (s .lost k l)))
 
   pub every : (d : List ℕ) (cs : List Call) → Consistent g m d → Demand g m d cs
   every d cs w = record {
@@ -218,8 +230,8 @@ module _ (g : Geometry) (m : List ℕ) (one : (d : List ℕ) (c : Call) → Cons
     each-call = λ before rest e c. one (run g m d before) c (run-consistent d before w) .done;
     marks-add-up = run-marks d cs w;
     lost-kept = run-lost d cs w;
-    lost-entry = λ k l. run-untouched d cs w k l .entry;
-    lost-bytes = λ k l. run-untouched d cs w k l .bytes;
+    lost-entry = λ k l. let i = run-intact d cs w k l in (i .entry0, i .entry1);
+    lost-bytes = λ k l o. cluster-cong (lay g d) d (run g m d cs) k (run-length d cs w) (run-intact d cs w k l .bytes o);
     seven = seven g m (run g m d cs);
     carried-out = carried-out g m (run g m d cs);
   }

@@ -12,6 +12,7 @@ use lib.ListN.{length, replicate, length-replicate}
 use borrow.Author.Tests.{eq-eqb, ne-eqb, le-ltb}
 use Rattle.primitives.specs.Splice.{splice}
 use Rattle.tables.specs.Table.{upd}
+use Rattle.tables.specs.Lists.{lastOr}
 use Rattle.tables.specs.Count.{count}
 use Rattle.tables.proofs.TableLaws.{upd-same}
 use Rattle.boot.specs.declared.geometry.Geometry.{Geometry}
@@ -24,7 +25,7 @@ use Rattle.entry_set.specs.declared.stamp.Stamp.{Stamp}
 use Rattle.entry_set.specs.Fields.{validLength, dataLength, clustersFor}
 use Rattle.entry_set.proofs.SetLaws.{formed-lengths}
 use Rattle.entry_set.proofs.LengthLaws.{clusters-some}
-use Rattle.write_alloc.specs.Outcome.{Outcome}
+use Rattle.write_alloc.specs.Outcome.{Outcome, wrap}
 use Rattle.write_extend.specs.Extend.{extendIn}
 use Rattle.write_extend.proofs.ExtendLaws.{extend-none}
 use Rattle.directory.specs.Directory.{clustersIn, bytesIn}
@@ -38,17 +39,19 @@ use Rattle.write_file.proofs.NewFileLaws.{space-enough}
 use Rattle.write_file.proofs.WriteLaws.{larger-above}
 use Rattle.write_length.proofs.SetLengthLaws as new-length
 use Rattle.write.specs.Calls.{Call, Write, SetLength, step}
-use Rattle.write.specs.Consistent.{Consistent, lay, root, rootBytes, setOf, streamAt}
+use Rattle.write.specs.Consistent.{Consistent, lay, root, rootBytes, setOf, streamAt, fileClusters}
 use Rattle.write.specs.Contents.{shown, contents}
 use Rattle.write.specs.Model.{overwrite, resize, onto, accepted, hasList, finds}
-use Rattle.write.specs.Demand.{slotOf, setAfter, rootAdds, slotAnswered}
+use Rattle.write.specs.Space.{beyond, mustAdd}
+use Rattle.write.specs.Demand.{slotOf, hintOf, setAfter, rootAdds, slotAnswered, clustersGrown, hintAnswered}
 use Rattle.write.proofs.Shown.{shown-written, shown-longer, shown-same}
 use Rattle.write.proofs.Reading.{record-empty, record-count}
-use Rattle.write.proofs.Scene.{both-clear, slot-fit, fits}
+use Rattle.write.proofs.Scene.{both-clear, slot-number, slot-fit, fits}
 use Rattle.write.proofs.Open.{open-hint, open-set, open-file}
 use Rattle.write.proofs.Answers.{decided-number, decided-carried, write-decided, set-decided}
 use Rattle.write.proofs.Steps.{Step, refused-step}
-use Rattle.write.proofs.Rewritten.{Streamed, streamed-same, streamed-store, got, streamed-longer, longer-count, longer-room, longer-bytes, old-room, rewritten-step, shows-before}
+use Rattle.write.proofs.Hints.{hint-none, hint-some, extend-next}
+use Rattle.write.proofs.Rewritten.{Streamed, streamed-same, streamed-store, got, streamed-longer, longer-count, longer-room, longer-bytes, old-room, rewritten-last, rewritten-step, shows-before}
 
 larger-mono : (a b c : ℕ) → a ≤ b → larger a c ≤ larger b c
 unfolding larger
@@ -100,10 +103,11 @@ module _ (g : Geometry) (m d : List ℕ) (c : Consistent g m d) where
     refreshed-step : (cl : Call) (t : Stamp) → step g m d cl ≡ refreshedOnly y d (root g d) i s t hint → slotOf cl 0 ≡ i
         → setAfter g m d cl ≡ some (recorded s old (validLength s) (dataLength s) t)
         → accepted (contents g d) cl 0 i ≡ some (shown B (validLength s) (dataLength s))
-        → finds cl (contents g d i) ≡ true → rootAdds g d cl ≡ 0 → slotAnswered g d cl ≡ 0 → Step g m d cl
-    refreshed-step cl t is at after shows found adds slot =
+        → finds cl (contents g d i) ≡ true → rootAdds g d cl ≡ 0 → slotAnswered g d cl ≡ 0 → hintOf cl ≡ hint → mustAdd g d cl ≡ 0 → Step g m d cl
+    refreshed-step cl t is at after shows found adds slot carries nothing =
         rewritten-step g m d c i s q d old (clustersIn y d old) B (streamed-same g m d c i s q) (validLength s) (dataLength s) t valid-le
-        (sym (record-count y d s)) (λ z. record-empty y d s (sym (record-count y d s) ∙ z)) cl hint (is ∙ (unfold refreshedOnly in refl)) at after
+        (sym (record-count y d s)) (λ z. record-empty y d s (sym (record-count y d s) ∙ z)) cl hint (is ∙ (unfold refreshedOnly in refl))
+        (sym carries ∙ hint-none g d _ cl nothing) at after
         (open-file g m d i hint clear) shows found adds slot
 
     -- ---- made longer, or at least not shorter
@@ -123,16 +127,42 @@ module _ (g : Geometry) (m d : List ℕ) (c : Consistent g m d) where
       room : len ≤ length R
       room = longer-bytes g m d c i s q len hint hint-in enough more
 
-      grown-step : (cl : Call) (e A : List ℕ) (valid : ℕ) (t : Stamp)
-          → Streamed g m d i s e (o .answer .allocation) js A → valid ≤ len
-          → step g m d cl ≡ carried 0 (o .answer .hint) (stored y e (clustersIn y d (root g d)) i s (o .answer .allocation) valid len t)
-          → slotOf cl 0 ≡ i → setAfter g m d cl ≡ some (recorded s (o .answer .allocation) valid len t)
-          → accepted (contents g d) cl 0 i ≡ some (shown A valid len)
-          → finds cl (contents g d i) ≡ true → rootAdds g d cl ≡ 0 → slotAnswered g d cl ≡ 0 → Step g m d cl
-      grown-step cl e A valid t v le is at after shows found adds slot =
-          rewritten-step g m d c i s q e (o .answer .allocation) js A v valid len t le (longer-count g m d c i s q len hint hint-in enough more)
-          (λ z. absurd (clusters-some (y .size) size-some len some-len (longer-count g m d c i s q len hint hint-in enough more ∙ z)))
-          cl (o .answer .hint) is at after (open-file g m d i hint clear) shows found adds slot
+      holds : o .answer .allocation .count ≢ 0
+      holds z = clusters-some (y .size) size-some len some-len (longer-count g m d c i s q len hint hint-in enough more ∙ z)
+
+      abbrev n : ℕ
+      n = missing (lay g d) (fileRecord (lay g d) d (setOf g d i)) len
+
+      beyond-is : beyond g d i len ≡ n
+      unfolding beyond missing
+      beyond-is = ap (λ (x : ℕ). clustersFor (y .size) len - x) (sym (record-count y d s))
+
+      module _ (cl : Call) (e A : List ℕ) (valid : ℕ) (t : Stamp) (v : Streamed g m d i s e (o .answer .allocation) js A) (le : valid ≤ len)
+          (carries : hintOf cl ≡ hint) (added : mustAdd g d cl ≡ beyond g d i len) (grows : (l : List ℕ) → clustersGrown g l cl ≡ fileClusters g l i) where
+        abbrev left : List ℕ
+        left = stored (lay g d) e (clustersIn (lay g d) d (root g d)) i (setOf g d i) (o .answer .allocation) valid len t
+
+        -- the hint is as given, or after the file's last cluster
+        hinted : o .answer .hint ≡ hintAnswered g d left cl
+        hinted =
+            elim (ℕ-discrete n 0) [
+              | yes z ↦ ap (λ (x : Outcome). x .answer .hint) (extend-none y d m old n hint hint-in z) ∙ sym carries
+                  ∙ hint-none g d left cl (added ∙ beyond-is ∙ z)
+              | no z ↦ extend-next y d m (fits g m d c) old n hint (slot-number g m d c i s q) hint-in (omega arith) enough
+                  ∙ ap (λ (k : ℕ). wrap (y .count) (k + 1))
+                  (sym
+                  (ap (lastOr 0) (grows left)
+                  ∙ rewritten-last g m d c i s q e (o .answer .allocation) js A v valid len t le (longer-count g m d c i s q len hint hint-in enough more)
+                  (λ x. absurd (holds x)) holds))
+                  ∙ hint-some g d left cl (λ x. z (sym beyond-is ∙ sym added ∙ x))
+            ]
+
+        grown-step : step g m d cl ≡ carried 0 (o .answer .hint) left → slotOf cl 0 ≡ i → setAfter g m d cl ≡ some (recorded s (o .answer .allocation) valid len t)
+            → accepted (contents g d) cl 0 i ≡ some (shown A valid len)
+            → finds cl (contents g d i) ≡ true → rootAdds g d cl ≡ 0 → slotAnswered g d cl ≡ 0 → Step g m d cl
+        grown-step is at after shows found adds slot =
+            rewritten-step g m d c i s q e (o .answer .allocation) js A v valid len t le (longer-count g m d c i s q len hint hint-in enough more)
+            (λ z. absurd (holds z)) cl (o .answer .hint) is hinted at after (open-file g m d i hint clear) shows found adds slot
 
       -- bytes stored in the longer stream
       put : (e A : List ℕ) → Streamed g m d i s e (o .answer .allocation) js A → (at : ℕ) (bs : List ℕ) → at + length bs ≤ length js * y .size
@@ -159,7 +189,7 @@ module _ (g : Geometry) (m d : List ℕ) (c : Consistent g m d) where
     write-none clear z is =
         refreshed-step i hint clear W t is (unfold slotOf in refl) (unfold setAfter in (unfold streamAt in (rw (eq-eqb (length bs) 0 z) refl)))
         (unfold accepted in (rw (eq-eqb (length bs) 0 z) (before i hint clear))) (unfold finds in (listed i hint clear)) (unfold rootAdds in refl)
-        (unfold slotAnswered in refl)
+        (unfold slotAnswered in refl) (unfold hintOf in refl) (unfold mustAdd in (rw (eq-eqb (length bs) 0 z) refl))
 
     -- with data
     module _ (clear : openCause y d m (root g d) i hint ≡ 0) (n : length bs ≢ 0) (free : dataCause y d m (setOf g d i) offset (length bs) ≡ 0) where
@@ -216,7 +246,8 @@ module _ (g : Geometry) (m d : List ℕ) (c : Consistent g m d) where
       write-some : step g m d W ≡ written y d m (root g d) i (setOf g d i) offset bs t hint → Step g m d W
       write-some is =
           grown-step i hint clear len some-len more fit W (withData y (x .volume) ks valid offset bs) all (larger valid end) t stream
-          (larger-mono valid (dataLength (setOf g d i)) end (valid-le i hint clear)) (is ∙ (unfold written in refl)) (unfold slotOf in refl)
+          (larger-mono valid (dataLength (setOf g d i)) end (valid-le i hint clear)) (unfold hintOf in refl)
+          (unfold mustAdd in (rw (ne-eqb (length bs) 0 n) refl)) (λ l. unfold clustersGrown in refl) (is ∙ (unfold written in refl)) (unfold slotOf in refl)
           (unfold setAfter in (unfold streamAt in (rw (ne-eqb (length bs) 0 n) refl))) (unfold accepted in (rw (ne-eqb (length bs) 0 n) model-has)) (unfold finds in (listed i hint clear)) (unfold rootAdds in refl)
           (unfold slotAnswered in refl)
 
@@ -281,7 +312,7 @@ module _ (g : Geometry) (m d : List ℕ) (c : Consistent g m d) where
         (unfold slotOf in refl)
         (unfold setAfter in (unfold streamAt in (rw (le-ltb len len₀ (omega arith)) kept)))
         (unfold accepted in (sized ∙ ap some same)) (unfold finds in (listed i hint open-clear)) (unfold rootAdds in refl)
-        (unfold slotAnswered in refl)
+        (unfold slotAnswered in refl) (unfold hintOf in refl) (unfold mustAdd in (unfold beyond in (omega (arith, ap (clustersFor (y .size)) e))))
       where
         b : Allocation
         b = old i hint open-clear
@@ -305,8 +336,8 @@ module _ (g : Geometry) (m d : List ℕ) (c : Consistent g m d) where
       some-length : len ≢ 0
       some-length e = omega arith
 
-      beyond : dataLength (setOf g d i) ≤ len
-      beyond = omega arith
+      above-le : dataLength (setOf g d i) ≤ len
+      above-le = omega arith
 
       enough : missing y (old i hint open-clear) len ≤ count (isUsable y d m) 2 (y .count)
       unfolding lengthCause
@@ -323,33 +354,33 @@ module _ (g : Geometry) (m d : List ℕ) (c : Consistent g m d) where
 
       -- the longer stream
       abbrev z₁ : Outcome
-      z₁ = o i hint open-clear len some-length beyond enough
+      z₁ = o i hint open-clear len some-length above-le enough
 
       abbrev ks₁ : List ℕ
-      ks₁ = js i hint open-clear len some-length beyond enough
+      ks₁ = js i hint open-clear len some-length above-le enough
 
       -- zeros from valid on
       abbrev all₁ : List ℕ
-      all₁ = splice (R i hint open-clear len some-length beyond enough) valid₀ blank
+      all₁ = splice (R i hint open-clear len some-length above-le enough) valid₀ blank
 
       zeroed : Streamed g m d i (setOf g d i) (storeAt y (z₁ .volume) ks₁ valid₀ blank) (z₁ .answer .allocation) ks₁ all₁
       zeroed =
-          let h = js-room i hint open-clear len some-length beyond enough in
+          let h = js-room i hint open-clear len some-length above-le enough in
           let l = length-replicate {A = ℕ} (end-of - valid₀) 0 in
           let v = valid-le i hint open-clear in
           let a = end-le in
-          put i hint open-clear len some-length beyond enough _ _ (first i hint open-clear len some-length beyond enough) valid₀ blank (omega arith)
+          put i hint open-clear len some-length above-le enough _ _ (first i hint open-clear len some-length above-le enough) valid₀ blank (omega arith)
 
       longer-shows : shown all₁ valid₀ len ≡ resize (shown (B i hint open-clear) valid₀ len₀) len
       longer-shows =
           shown-longer (B i hint open-clear) valid₀ len₀ (valid-le i hint open-clear) (old-room g m d c i (setOf g d i) (q i hint open-clear))
-          (got g m d c i (setOf g d i) (q i hint open-clear) len hint (hint-in i hint open-clear) enough) end-of len beyond end-le
-          (room i hint open-clear len some-length beyond enough)
+          (got g m d c i (setOf g d i) (q i hint open-clear) len hint (hint-in i hint open-clear) enough) end-of len above-le end-le
+          (room i hint open-clear len some-length above-le enough)
 
       pub longer-step : Step g m d (SetLength i len t hint)
       longer-step =
-          grown-step i hint open-clear len some-length beyond enough L (storeAt y (z₁ .volume) ks₁ valid₀ blank) all₁ valid₀ t zeroed
-          (omega (arith, valid-le i hint open-clear))
+          grown-step i hint open-clear len some-length above-le enough L (storeAt y (z₁ .volume) ks₁ valid₀ blank) all₁ valid₀ t zeroed
+          (omega (arith, valid-le i hint open-clear)) (unfold hintOf in refl) (unfold mustAdd in refl) (λ l. unfold clustersGrown in refl)
           (is-resized ∙ (unfold resized in (unfold longerFile in
           (rw (le-ltb len len₀ (omega arith), ne-eqb len len₀ (λ e. omega arith)) refl))))
           (unfold slotOf in refl) (unfold setAfter in (unfold streamAt in (rw (le-ltb len len₀ (omega arith)) refl)))

@@ -31,7 +31,7 @@ use Rattle.write_dir.specs.Place.{Grown, growBy}
 use Rattle.write_dir.proofs.AddedLaws.{Zeroed, zeroed-clusters, zeroed-count, grow-many}
 use Rattle.write_dir.proofs.GrownLaws.{zeroed-off, zeroed-bytes, zeroed-in, Led, grow-led}
 use Rattle.write.proofs.Reading.{number-of, reads-as}
-use Rattle.write.proofs.Family.{Family, Outside, Moved, plain-at, moved}
+use Rattle.write.proofs.Family.{Family, Outside, Moved, moved}
 use Rattle.write.proofs.Resized.{Mapped}
 
 -- w is member i with n zeroed clusters more
@@ -106,11 +106,7 @@ module _ (y : Layout) (m : List ℕ) (mapped : Mapped y m) (i n : ℕ) (g : Grow
   grow-member = record {
     moved = moved y d d′ S i f (z .long) other
         (λ j b r t. zeroed-bytes y d m v old new w z b (clustersIn y d b) (reads-as y d b (f .reads j b t)) (f .plains j b t))
-        (λ k l. record {
-          mark = z .marks-kept k (l .heap) (off-marked k l);
-          entry = z .fat-kept k (l .heap) (l .off i a s) (off-marked k l);
-          bytes = λ h. z .bytes-kept k (plain-at y k (l .heap) h) (off-marked k l);
-        })
+        (λ k l. z .marks-kept k (l .heap) (off-marked k l))
         (v .directory) (number-of y d′ (v .directory) (old ++ new) (z .reads)) (ap (every (plain y)) clusters ∙ all-plain)
         (λ j b r t k p q. ⊎-elim (λ u. f .apart i j a b (λ x. r (sym x)) s t k u q) (off j b t k q) (mem-append old (subst (Mem k) clusters p)))
         (λ k l p. ⊎-elim (l .off i a s) (off-marked k l) (mem-append old (subst (Mem k) clusters p)));

@@ -1,27 +1,28 @@
 -- What holds over every list of calls on a consistent volume (demand 3), as one record.
 use mathlib.Core.Path.{_≡_}
-use mathlib.Core.Logic.{_≢_, _↔_, _⊎_}
+use mathlib.Core.Logic.{_≢_, _↔_}
 use mathlib.Core.Bool.{true, false, cond}
 use mathlib.Core.List.{List, [], _∷_, _++_}
 use mathlib.Core.Option.{Option, none, some}
 use Prim.Native.Nat.{ℕ, _+_, _*_, _≤_, _<_}
 use lib.Dec.{eqb, ltb}
 use lib.ListN.{length, getD, take}
-use Rattle.primitives.specs.Words.{getLe}
 use Rattle.primitives.specs.Splice.{splice}
-use Rattle.tables.specs.Lists.{Mem}
+use Rattle.tables.specs.Lists.{Mem, lastOr}
 use Rattle.boot.specs.declared.geometry.Geometry.{Geometry}
-use Rattle.boot.specs.declared.layout.Layout.{Layout}
 use Rattle.boot.specs.Geometry.{bitmapBytes}
 use Rattle.boot.specs.Layout.{inHeap, isBitmapCluster}
 use Rattle.boot.specs.Causes.{firstCause}
-use Rattle.metadata.specs.Fat.{fatEntry}
 use Rattle.metadata.specs.Marks.{marked, allocatedCount}
+use Rattle.metadata.specs.Usable.{isUsable}
+use Rattle.metadata.specs.Outer.{Outer}
+use Rattle.metadata.specs.Copies.{fat0At, fat1At, bitmap0At, bitmap1At, Twins}
+use Rattle.metadata.specs.Kept.{RestKept, Intact}
 use Rattle.stream.specs.Bytes.{clusterBytes}
 use Rattle.entry_set.specs.Fields.{validLength, dataLength, clustersFor}
 use Rattle.entry_set.specs.New.{newEntries, newSet}
 use Rattle.entry_set.specs.Put.{cleared}
-use Rattle.write_alloc.specs.Outcome.{spaceCause}
+use Rattle.write_alloc.specs.Outcome.{wrap, spaceCause}
 use Rattle.write_extend.specs.Extend.{extendIn}
 use Rattle.write_shrink.specs.Shrink.{keptRecord}
 use Rattle.directory.specs.Room as room
@@ -96,29 +97,24 @@ slotAnswered g d (Write i offset bs t hint) = 0
 slotAnswered g d (SetLength i len t hint) = 0
 slotAnswered g d (Remove i hint) = 0
 
--- byte p is of no cluster: neither of the heap nor of a cluster's FAT entry. It lies before the FATs, in FAT entry 0 or 1, between the
--- last entry and FatLength, before the heap or behind it
-pub record Outer (y : Layout) (p : ℕ) : Type 0 where
-  pub off-fat0 : (k r : ℕ) → inHeap (y .count) k ≡ true → r < 4 → p ≢ y .fat0 + 4 * k + r
-  pub off-fat1 : (k r : ℕ) → inHeap (y .count) k ≡ true → r < 4 → p ≢ y .fat1 + 4 * k + r
-  pub off-heap : (p < y .heap) ⊎ (y .heap + y .count * y .size ≤ p)
+-- the clusters of the stream that a call adds to, on volume d: a new file the root's, write and set length those of the file at the slot
+unfoldable pub clustersGrown : Geometry → List ℕ → Call → List ℕ
+clustersGrown g d (New name attributes hash t hint) = rootClusters g d
+clustersGrown g d (Write i offset bs t hint) = fileClusters g d i
+clustersGrown g d (SetLength i len t hint) = fileClusters g d i
+clustersGrown g d (Remove i hint) = []
 
--- entry k of the first FAT and of the second, byte i of the first bitmap and of the second
-unfoldable pub fat0At : Layout → List ℕ → ℕ → ℕ
-fat0At y d k = getLe 4 d (y .fat0 + 4 * k)
+-- the hint that an accepted call from d to d′ answers: as given where it must add no cluster, else the cluster after the last one of the
+-- stream that grew, 2 after cluster C+1
+unfoldable pub hintAnswered : Geometry → List ℕ → List ℕ → Call → ℕ
+hintAnswered g d d′ c = cond (eqb (mustAdd g d c) 0) (hintOf c) (wrap (lay g d .count) (lastOr 0 (clustersGrown g d′ c) + 1))
 
-unfoldable pub fat1At : Layout → List ℕ → ℕ → ℕ
-fat1At y d k = getLe 4 d (y .fat1 + 4 * k)
-
-unfoldable pub bitmap0At : Layout → List ℕ → ℕ → ℕ
-bitmap0At y d i = getD d (y .bitmap0 + i) 0
-
-unfoldable pub bitmap1At : Layout → List ℕ → ℕ → ℕ
-bitmap1At y d i = getD d (y .bitmap1 + i) 0
-
--- a and b are a′ and b′ now: both as they were, or alike
-unfoldable pub Twins : ℕ → ℕ → ℕ → ℕ → Type 0
-Twins a b a′ b′ = ((a′ ≡ a) × (b′ ≡ b)) ⊎ (a′ ≡ b′)
+-- cluster k is none that a call at slot i may change: not usable, and neither the root's nor of the slot's stream
+pub record Foreign (g : Geometry) (m d : List ℕ) (i k : ℕ) : Type 0 where
+  pub heap : inHeap (lay g d .count) k ≡ true
+  pub not-usable : isUsable (lay g d) d m k ≡ false
+  pub not-root : Mem k (rootClusters g d) → ⊥
+  pub not-file : fileAt g d i ≡ true → Mem k (fileClusters g d i) → ⊥
 
 -- cluster k is marked and of no stream: neither the root's nor that of an in-use 0x85 entry, directories counted too
 pub record Lost (g : Geometry) (d : List ℕ) (k : ℕ) : Type 0 where
@@ -138,6 +134,8 @@ pub record Done (g : Geometry) (m d : List ℕ) (c : Call) (o : Outcome) : Type 
   pub same-length : length (o .volume) ≡ length d
   -- accepted, it answers the slot of the definitions ..
   pub slot-defined : o .answer .number ≡ 0 → o .answer .slot ≡ slotAnswered g d c
+  -- .. and the hint ..
+  pub hint-defined : o .answer .number ≡ 0 → o .answer .hint ≡ hintAnswered g d (o .volume) c
   -- .. and leaves at its slot the set of the definitions
   pub entries-defined : o .answer .number ≡ 0 → entriesAtSlot g (o .volume) (slotOf c (o .answer .slot)) ≡ setAfter g m d c
   -- the root has the bytes that it had, then the zeros that it got, with the call's own entries stored at its slot: labels, bitmap and
@@ -158,6 +156,10 @@ pub record Done (g : Geometry) (m d : List ℕ) (c : Call) (o : Outcome) : Type 
   -- nor does a bit past C "in the bitmap that is read"
   pub bits-kept : (k : ℕ) → lay g d .count + 2 ≤ k → k < 8 * bitmapBytes (lay g d .count) + 2
       → marked (lay g d) (o .volume) k ≡ marked (lay g d) d k
+  -- nor a byte of a bitmap's clusters behind the bitmap
+  pub bitmap-rest-kept : RestKept (lay g d) d (o .volume)
+  -- nor anything of a cluster that was not usable and is neither the root's nor of the stream at the call's slot
+  pub foreign-kept : (k : ℕ) → Foreign g m d (slotOf c (o .answer .slot)) k → Intact (lay g d) d (o .volume) k
   -- of two FATs, a cluster's entry is as it was in both or alike in both ("FAT stores go to every FAT") ..
   pub fats-alike : lay g d .two ≡ true → (k : ℕ) → inHeap (lay g d .count) k ≡ true
       → Twins (fat0At (lay g d) d k) (fat1At (lay g d) d k) (fat0At (lay g d) (o .volume) k) (fat1At (lay g d) (o .volume) k)
@@ -180,8 +182,10 @@ pub record Demand (g : Geometry) (m d : List ℕ) (cs : List Call) : Type 0 wher
   pub marks-add-up : allocatedCount (lay g d) (run g m d cs) + clustersTaken g d ≡ allocatedCount (lay g d) d + clustersTaken g (run g m d cs)
   -- "Marked clusters of no stream stay marked", and of no stream ..
   pub lost-kept : (k : ℕ) → Lost g d k → Lost g (run g m d cs) k
-  -- .. with the FAT entry and the bytes that they had, but for a bitmap's bytes
-  pub lost-entry : (k : ℕ) → Lost g d k → fatEntry (lay g d) (run g m d cs) k ≡ fatEntry (lay g d) d k
+  -- .. with the entry in every FAT and the bytes that they had, but for a bitmap's bytes
+  pub lost-entry : (k : ℕ) → Lost g d k
+      → (fat0At (lay g d) (run g m d cs) k ≡ fat0At (lay g d) d k)
+      × (lay g d .two ≡ true → fat1At (lay g d) (run g m d cs) k ≡ fat1At (lay g d) d k)
   pub lost-bytes : (k : ℕ) → Lost g d k → isBitmapCluster (lay g d) k ≡ false
       → clusterBytes (lay g d) (run g m d cs) k ≡ clusterBytes (lay g d) d k
   -- a further call that meets no other cause gets 7 exactly when it must add more clusters than are usable
