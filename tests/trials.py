@@ -83,6 +83,14 @@ def checksum(bytes_):
     return sum_
 
 
+def sum_of(bytes_):
+    """The program's own checksum of a volume: each word of eight bytes into the sum before it, turned left by one."""
+    sum_ = 0
+    for at in range(0, len(bytes_), 8):
+        sum_ = (sum_ << 1 & (1 << 64) - 1 | sum_ >> 63) ^ int.from_bytes(bytes_[at : at + 8], "little")
+    return sum_
+
+
 def lines():
     for name, answer, (number, clusters), marks, links in TRIALS:
         vol = volume(marks, links)
@@ -94,7 +102,7 @@ def lines():
         yield f"  free 0 {16 - sum(bin(b).count('1') for b in marks)}"
         yield "  marks " + " ".join(f"{b:02x}" for b in marks)
         yield "  fat " + " ".join(f"{({3: END} | links).get(k, 0):08x}" for k in range(18))
-        yield f"  sum {checksum(vol):04x}"
+        yield f"  sum {sum_of(vol):016x}"
 
 
 def length_lines():
@@ -107,7 +115,7 @@ def length_lines():
         yield f"  free 0 {16 - bin(mark).count('1')}"
         yield f"  marks {mark:02x} 00"
         yield "  fat " + " ".join(f"{({3: END}).get(k, 0):08x}" for k in range(18))
-        yield f"  sum {checksum(vol):04x}"
+        yield f"  sum {sum_of(vol):016x}"
         for label, at, n in (("set", 16896, 96), ("from 696", 18104, 8), ("from 896", 18304, 8), ("from 1020", 18428, 8)):
             yield f"  {label} " + " ".join(f"{b:02x}" for b in vol[at : at + n])
 
