@@ -5,8 +5,9 @@
 # tool     the host tool, tools/target/release/bittsalak
 # readers  volumes after random calls, read by fsck.exfat, exfat-fuse, fls and icat
 # oracle   compare the library with the original Rust: CALLS= SEED= KINDS= MODE= (see tests/oracle)
+# model    compare the library with 01 computed in plain Python: CALLS= SEED= (see tests/model)
 # bench    what the calls cost, beside the original Rust and limits in C (docs/BENCHMARKS.md)
-.PHONY: test demo vectors write-vectors lib tool readers oracle bench
+.PHONY: test demo vectors write-vectors lib tool readers oracle model bench
 MAKEFLAGS += --no-print-directory
 
 test:
@@ -34,6 +35,9 @@ readers: lib
 
 oracle: lib
 	@bash tests/oracle
+
+model: lib
+	@bash tests/model
 
 bench: lib
 	@bash bench/run
