@@ -2,41 +2,71 @@
 
 use crate::failure::{usage, Outcome};
 
+/// The options that take a value, of all commands: the word behind one of them
+/// is its value, whatever it looks like.
+const WITH_VALUE: [&str; 13] = [
+    "--at",
+    "--attributes",
+    "--cluster",
+    "--color",
+    "--csv",
+    "--fats",
+    "--hint",
+    "--label",
+    "--per-cell",
+    "--sector",
+    "--size",
+    "--time",
+    "--width",
+];
+
 pub struct Args {
+    options: Vec<(String, Option<String>)>,
     words: Vec<String>,
-    /// What stood behind `--`: never an option.
-    rest: Vec<String>,
 }
 
 impl Args {
-    pub fn new(mut words: Vec<String>) -> Args {
-        let at = words.iter().position(|word| word == "--").unwrap_or(words.len());
-        let rest = words.split_off(at).into_iter().skip(1).collect();
-        Args { words, rest }
+    /// What stands behind `--` is never an option.
+    pub fn new(words: Vec<String>) -> Outcome<Args> {
+        let mut args = Args { options: Vec::new(), words: Vec::new() };
+        let mut left = words.into_iter();
+        while let Some(word) = left.next() {
+            if word == "--" {
+                args.words.extend(left);
+                break;
+            }
+            if word.len() < 2 || !word.starts_with('-') {
+                args.words.push(word);
+                continue;
+            }
+            let option = match word.split_once('=') {
+                Some((name, value)) if WITH_VALUE.contains(&name) => (name.into(), Some(value.into())),
+                _ if WITH_VALUE.contains(&word.as_str()) => match left.next() {
+                    Some(value) => (word, Some(value)),
+                    None => return usage(format!("{word} needs a value")),
+                },
+                _ => (word, None),
+            };
+            args.options.push(option);
+        }
+        Ok(args)
     }
 
     pub fn flag(&mut self, name: &str) -> bool {
-        let before = self.words.len();
-        self.words.retain(|word| word != name);
-        self.words.len() != before
+        let before = self.options.len();
+        self.options.retain(|(option, _)| option != name);
+        self.options.len() != before
     }
 
     /// The value of `NAME VALUE` or `NAME=VALUE`.
     pub fn value(&mut self, name: &str) -> Outcome<Option<String>> {
-        let with = format!("{name}=");
-        let Some(at) = self.words.iter().position(|word| word == name || word.starts_with(&with)) else {
-            return Ok(None);
-        };
-        let word = self.words.remove(at);
-        let value = match word.strip_prefix(&with) {
-            Some(value) => value.to_string(),
-            None if at < self.words.len() => self.words.remove(at),
-            None => return usage(format!("{name} needs a value")),
-        };
-        if self.words.iter().any(|word| word == name || word.starts_with(&with)) {
+        let (its, others) = std::mem::take(&mut self.options).into_iter().partition(|(option, _)| option == name);
+        self.options = others;
+        let mut values: Vec<(String, Option<String>)> = its;
+        if values.len() > 1 {
             return usage(format!("{name} is given twice"));
         }
-        Ok(Some(value))
+        Ok(values.pop().and_then(|(_, value)| value))
     }
 
     pub fn number<T: TryFrom<u64>>(&mut self, name: &str) -> Outcome<Option<T>> {
@@ -48,11 +78,10 @@ impl Args {
 
     /// The words left: as many as `names` has, those in brackets optional.
     pub fn words(self, names: &[&str]) -> Outcome<Vec<String>> {
-        let option = |word: &&String| word.len() > 1 && word.starts_with('-');
-        if let Some(word) = self.words.iter().find(option) {
-            return usage(format!("unknown option {word}"));
+        if let Some((option, _)) = self.options.first() {
+            return usage(format!("unknown option {option}"));
         }
-        let words: Vec<String> = self.words.into_iter().chain(self.rest).collect();
+        let words = self.words;
         if let Some(name) = names.get(words.len()).filter(|name| !name.starts_with('[')) {
             return usage(format!("{name} is missing"));
         }
@@ -104,16 +133,28 @@ mod tests {
     #[test]
     fn options_and_words() {
         let args = |text: &str| Args::new(text.split(' ').map(String::from).collect());
-        let mut some = args("a --at 5 b --stop --to=x -- --c");
+        let good = |text: &str| args(text).ok().expect("good words");
+        let mut some = good("a --at 5 b --stop --csv=x -- --c");
         assert_eq!(some.number::<u64>("--at").ok().flatten(), Some(5));
-        assert_eq!(some.value("--to").ok().flatten().as_deref(), Some("x"));
+        assert_eq!(some.value("--csv").ok().flatten().as_deref(), Some("x"));
         assert!(some.flag("--stop"));
         let words = some.words(&["A", "B", "[C]"]).ok();
         assert_eq!(words, Some(vec!["a".into(), "b".into(), "--c".into()]));
-        assert!(args("a --at").value("--at").is_err());
-        assert!(args("--at 1 --at 2").value("--at").is_err());
-        assert!(args("a").words(&["A", "B"]).is_err());
-        assert!(args("a b").words(&["A"]).is_err());
-        assert!(args("a -x").words(&["A", "[B]"]).is_err());
+        assert!(args("a --at").is_err());
+        assert!(good("--at 1 --at 2").value("--at").is_err());
+        assert!(good("a").words(&["A", "B"]).is_err());
+        assert!(good("a b").words(&["A"]).is_err());
+        assert!(good("a -x").words(&["A", "[B]"]).is_err());
+        assert!(good("a --at 1").words(&["A"]).is_err());
+    }
+
+    #[test]
+    fn a_value_is_no_option() {
+        let mut some =
+            Args::new(["--label", "--help", "--csv", "--", "-"].map(String::from).into()).ok().expect("good words");
+        assert!(!some.flag("--help"));
+        assert_eq!(some.value("--label").ok().flatten().as_deref(), Some("--help"));
+        assert_eq!(some.value("--csv").ok().flatten().as_deref(), Some("--"));
+        assert_eq!(some.words(&["A"]).ok(), Some(vec!["-".into()]));
     }
 }

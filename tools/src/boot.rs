@@ -65,8 +65,8 @@ pub fn read(image_bytes: &[u8]) -> Outcome<(Geometry, usize)> {
     if boot[11..64].iter().any(|byte| *byte != 0) {
         return image("the boot sector's bytes 11 to 63 are not zero");
     }
-    if boot[105] != 1 {
-        return image(format!("file system revision {}.{:02} is not 1", boot[105], boot[104]));
+    if boot[105] != 1 || boot[104] > 99 {
+        return image(format!("file system revision {}.{:02} is not in 1.00..1.99", boot[105], boot[104]));
     }
     let g = Geometry {
         sector_shift: u32::from(boot[108]),

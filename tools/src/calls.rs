@@ -24,10 +24,18 @@ impl Target {
             Target::Slot(slot) => Ok(*slot),
             Target::Name(name) => match volume.find(name) {
                 Some(file) => Ok(file.slot),
+                None if in_folder(name) => Err(format!("no file named {name} in the root: {NOT_FOLLOWED}")),
                 None => Err(format!("no file named {name}")),
             },
         }
     }
+}
+
+const NOT_FOLLOWED: &str = "folders are not followed yet";
+
+/// Whether a name is a path into a folder: no name of the root has a slash.
+fn in_folder(name: &str) -> bool {
+    name.contains('/')
 }
 
 impl fmt::Display for Target {
@@ -155,6 +163,9 @@ fn timed(
 fn new_file(volume: &mut Volume, name: &str, attributes: u16, stamp: &Stamp, hint: &mut u32) -> Result<Answer, String> {
     if let Some(file) = volume.find(name) {
         return Err(format!("slot {} has the name {} already", file.slot, file.name()));
+    }
+    if in_folder(name) {
+        return Err(format!("{name} is no name in the root: {NOT_FOLLOWED}"));
     }
     let units: Vec<u16> = name.encode_utf16().collect();
     let file = NewFile { name: &units, attributes, hash: volume.upcase.hash(&units), stamp: *stamp };

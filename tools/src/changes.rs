@@ -3,13 +3,12 @@
 use crate::args::{self, Args};
 use crate::calls::{self, Call, Place, Target};
 use crate::failure::{refused, say, usage, Failure, Outcome};
+use crate::files;
 use crate::format::{self, Wish};
 use crate::library::{Number, Stamp};
-use crate::replay::{List, Options};
+use crate::replay::{List, Options, MOST};
 use crate::stamp;
 use crate::volume::Volume;
-use std::fs;
-use std::io::Read;
 
 /// A volume has a label unless `--label ''` says otherwise: Debian's fsstat
 /// (sleuthkit 4.11.1) does not end on one without.
@@ -51,7 +50,10 @@ fn time(args: &mut Args) -> Outcome<Stamp> {
     };
     match stamp::parse(&text) {
         Some(stamp) => Ok(stamp),
-        None => usage(format!("--time: {text} is not like 2026-11-16T12:30:05Z, from 1980 to 2107")),
+        None => usage(format!(
+            "--time: {text} is not like 2026-11-16T12:30:05Z or 2026-11-16T12:30:05+01:00, \
+             from 1980 to 2107, zones from -16:00 to +15:45 by quarters of an hour"
+        )),
     }
 }
 
@@ -90,18 +92,21 @@ pub fn write(mut args: Args, out: &mut Vec<u8>) -> Outcome<()> {
     };
     let words = args.words(&["IMAGE", "FILE", "[DATA]"])?;
     let target = Target::parse(&words[1]);
-    let data = read_data(words.get(2).map_or("-", String::as_str))?;
-    call(&words[0], &Call::Write { target, place, data }, &stamp, hint, out)
-}
-
-fn read_data(path: &str) -> Outcome<Vec<u8>> {
-    let told = |error| Failure::Usage(format!("{path}: cannot read: {error}"));
-    if path != "-" {
-        return fs::read(path).map_err(told);
+    // What is wrong with image or name is told before anything is read. The
+    // image is opened anew after that, since it may change while data comes.
+    let most = {
+        let volume = Volume::open(&words[0])?;
+        target.slot(&volume).map_err(Failure::Usage)?;
+        volume.bytes.len()
+    };
+    let data = files::read_input(words.get(2).map_or("-", String::as_str), most)?;
+    let more = data.len() > most;
+    let done = call(&words[0], &Call::Write { target, place, data }, &stamp, hint, out);
+    match done {
+        // More than a volume never fits, so what is cut off here is refused.
+        Err(Failure::Refused(words)) if more => refused(format!("{words}; no more was read")),
+        done => done,
     }
-    let mut data = Vec::new();
-    std::io::stdin().read_to_end(&mut data).map_err(told)?;
-    Ok(data)
 }
 
 pub fn truncate(mut args: Args, out: &mut Vec<u8>) -> Outcome<()> {
@@ -126,11 +131,17 @@ pub fn replay(mut args: Args, out: &mut Vec<u8>) -> Outcome<()> {
         stamp: time(&mut args)?,
         hint: hint(&mut args)?,
     };
-    let quiet = args.flag("--quiet");
+    let (quiet, force) = (args.flag("--quiet"), args.flag("--force"));
     let csv = args.value("--csv")?;
     let words = args.words(&["IMAGE", "LIST"])?;
-    let text = String::from_utf8(read_data(&words[1])?);
-    let Ok(text) = text else {
+    if let Some(path) = &csv {
+        files::may_write(path, &words[0], force)?;
+    }
+    let text = files::read_input(&words[1], MOST)?;
+    if text.len() > MOST {
+        return usage(format!("{}: a list has at most {MOST} bytes", words[1]));
+    }
+    let Ok(text) = String::from_utf8(text) else {
         return usage(format!("{}: not UTF-8", words[1]));
     };
     let told = |failure: Failure| Failure::Usage(format!("{}: {failure}", words[1]));
@@ -141,8 +152,7 @@ pub fn replay(mut args: Args, out: &mut Vec<u8>) -> Outcome<()> {
         out.extend(done.lines.as_bytes());
     }
     if let Some(path) = csv {
-        let told = |error| Failure::Usage(format!("{path}: cannot write: {error}"));
-        fs::write(&path, done.csv).map_err(told)?;
+        files::write(&path, done.csv.as_bytes())?;
     }
     if let Some(words) = done.inconsistent {
         return refused(words);

@@ -3,7 +3,7 @@
 use crate::directory::{self, IN_USE};
 use crate::heap::{ranges, Heap, Owner, Stream};
 use crate::volume::Volume;
-use std::collections::HashMap;
+use std::collections::{BTreeMap, HashMap};
 
 /// Consistent where there are no reasons against it. Notes tell what 01's
 /// word does not ask for.
@@ -32,6 +32,10 @@ pub fn check(volume: &Volume) -> Report {
         }
     }
     reasons.extend(shared(volume, &heap));
+    if heap.unread > 0 {
+        reasons
+            .push(format!("{} more files were not read: those before hold more clusters than there are", heap.unread));
+    }
     reasons.extend(behind_the_end(volume));
     Report { reasons, notes: notes(volume, &heap) }
 }
@@ -40,25 +44,24 @@ fn title(stream: &Stream) -> String {
     format!("slot {} ({})", stream.file.slot, stream.file.name())
 }
 
-/// Clusters that two files hold, by pair of files.
+/// Clusters that two files hold: for each cluster its first file with each
+/// other.
 fn shared(volume: &Volume, heap: &Heap) -> Vec<String> {
-    let mut pairs: Vec<((usize, usize), Vec<u32>)> = Vec::new();
+    let mut pairs: BTreeMap<(usize, usize), Vec<u32>> = BTreeMap::new();
     for cluster in volume.geometry.heap() {
         let file = |owner: &Owner| match owner {
             Owner::File(index) => Some(*index),
             _ => None,
         };
-        let files: Vec<usize> = heap.owners(cluster).iter().filter_map(file).collect();
-        for (place, &one) in files.iter().enumerate() {
-            for &other in &files[place + 1..] {
-                match pairs.iter_mut().find(|(pair, _)| *pair == (one, other)) {
-                    Some((_, clusters)) => clusters.push(cluster),
-                    None => pairs.push(((one, other), vec![cluster])),
-                }
-            }
+        let mut files = heap.owners(cluster).iter().filter_map(file);
+        let Some(one) = files.next() else {
+            continue;
+        };
+        for other in files {
+            pairs.entry((one, other)).or_default().push(cluster);
         }
     }
-    let tell = |((one, other), clusters): &((usize, usize), Vec<u32>)| {
+    let tell = |((one, other), clusters): (&(usize, usize), &Vec<u32>)| {
         let (one, other) = (&heap.streams[*one], &heap.streams[*other]);
         format!("{} and {} share clusters {}", title(one), title(other), ranges(clusters))
     };
@@ -84,13 +87,25 @@ fn notes(volume: &Volume, heap: &Heap) -> Vec<String> {
             notes.push(format!("clusters {} {words}", ranges(&clusters)));
         }
     };
+    let inside = |k| heap.owners(k).contains(&Owner::Inside);
     note(those(&|k| heap.lost(volume, k)), "are marked and no stream's (lost)");
+    note(those(&|k| inside(k) && !volume.marked(k)), "are of what folders hold and not marked");
+    note(those(&|k| inside(k) && heap.owners(k).len() > 1), "are of what folders hold and of another stream too");
     note(those(&|k| volume.bad(k)), "are bad");
     note(those(&|k| volume.system(k) && !volume.marked(k)), "are system clusters and not marked");
     if g.number_of_fats == 2 {
         note(those(&|k| volume.marked_for(0, k) != volume.marked_for(1, k)), "are marked in one bitmap alone");
         let entry = |fat, k| &volume.bytes[g.fat_entry(fat, k)..][..4];
         note(those(&|k| entry(0, k) != entry(1, k)), "have different entries in the two FATs");
+    }
+    if let Some(words) = volume.folders() {
+        notes.push(format!("{words}; what is in folders is not checked"));
+    }
+    if heap.unsound_inside > 0 {
+        notes.push(format!(
+            "entries in folders that are not sound: {}; their clusters count as lost",
+            heap.unsound_inside
+        ));
     }
     let mut names = HashMap::new();
     for stream in &heap.streams {

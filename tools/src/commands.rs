@@ -20,8 +20,8 @@ pub const COMMANDS: [Command; 11] = [
         words: "IMAGE [--size BYTES] [--sector BYTES] [--cluster BYTES] [--fats 1|2] [--label TEXT] [--force]",
         does: "make an image with an empty volume",
         help: "Sizes take K and M: --size 16M (default; 1M to 16M), --sector 512 (512 to 4096), --cluster 4096 (the sector
-to 32K), --fats 1, --label BITTSALAK (at most 11 units; '' for none). An image that is there already is replaced only with --force. The new file is written
-beside it and renamed. The volume's serial number is the time, now or --time.",
+to 32K), --fats 1, --label BITTSALAK (at most 11 units; '' for none). An image that is there already is replaced only
+with --force. The new file is written beside it and renamed. The volume's serial number is the time, now or --time.",
         run: changes::format,
     },
     Command {
@@ -30,7 +30,8 @@ beside it and renamed. The volume's serial number is the time, now or --time.",
         does: "list the root's files",
         help: "Columns: slot, length, valid length, clusters, run or chain with its fragments, attributes (Read-only, Hidden,
 System, Directory, Archive), time of the last change, name. --long adds the other times and the clusters.
-The clusters are listed by the library; where it refuses, its number stands there and the status is 1.",
+The clusters are listed by the library; where it refuses, its number stands there and the status is 1.
+What is in folders is not listed; a note tells that there are folders.",
         run: views::ls,
     },
     Command {
@@ -45,7 +46,9 @@ unless given; the library takes 0x01, 0x02, 0x04, 0x20 and their sums.",
         name: "write",
         words: "IMAGE FILE [DATA|-] [--at OFFSET|--append]",
         does: "write data into a file",
-        help: "DATA is a file, or - (default) for the standard input. OFFSET is 0 unless given; --append is the file's length.",
+        help: "DATA is a file, or - (default) for the standard input. OFFSET is 0 unless given; --append is the file's length.
+Of data that is longer than the volume no more than one byte beyond its length is read: it never fits (7). The image itself
+may be DATA, and never fits either.",
         run: changes::write,
     },
     Command {
@@ -64,9 +67,10 @@ unless given; the library takes 0x01, 0x02, 0x04, 0x20 and their sums.",
     },
     Command {
         name: "cat",
-        words: "IMAGE FILE [TO]",
+        words: "IMAGE FILE [TO] [--force]",
         does: "show a file's contents",
-        help: "To the standard output, or into the file TO. Bytes from the valid length on are zeros.",
+        help: "To the standard output, or into the file TO. A file that is there already is replaced only with --force, and the
+image never. Bytes from the valid length on are zeros.",
         run: views::cat,
     },
     Command {
@@ -81,7 +85,8 @@ unless given; the library takes 0x01, 0x02, 0x04, 0x20 and their sums.",
         words: "IMAGE",
         does: "tell whether the volume is consistent",
         help: "Each reason against it names its slot and clusters, with the library's number; the status is then 1. A note is
-no reason: lost clusters, bad ones, FATs or bitmaps that differ, wrong hashes, repeated names.",
+no reason: lost clusters, bad ones, FATs or bitmaps that differ, wrong hashes, repeated names, and folders, whose
+contents are not checked (01 speaks of the root alone) but followed to know their clusters from lost ones.",
         run: views::check,
     },
     Command {
@@ -91,12 +96,14 @@ no reason: lost clusters, bad ones, FATs or bitmaps that differ, wrong hashes, r
         help: "CELLS in a row: COLUMNS less the margin, or 64, unless given. A cell is one cluster, or the least power of two of them
 that gives at most 32 rows. A cell of several shows a problem where there is one, is free where all are free, and is
 else what most of its clusters in use are. Each row begins with its first cluster; * stands for more free rows.
+Files and folders of the root have letters in slot order, again from A after Z; those without clusters have none. + is
+what is in folders.
 Colours: where the standard output is a terminal, NO_COLOR is not set and TERM is not dumb, or as --color says.",
         run: views::map,
     },
     Command {
         name: "replay",
-        words: "IMAGE LIST [--stop] [--check] [--csv TIMINGS] [--quiet]",
+        words: "IMAGE LIST [--stop] [--check] [--csv TIMINGS] [--force] [--quiet]",
         does: "carry out a list of calls",
         help: "LIST is a file, or -. One call a line:
   new NAME [ATTRIBUTES]
@@ -109,7 +116,8 @@ SOURCE is hex:DIGITS, text:TO THE END OF THE LINE (with \\n \\r \\t \\\\), file:
 A line that starts with # is a comment; a name with spaces stands in double quotes. A bad list is refused whole.
 A refused call is shown with its number and the list goes on, or ends there with --stop; what the others changed
 is written back at the end, and the status is 1. --check ends the list, and changes nothing, where the volume is not
-consistent after a call. --quiet shows the summary alone. TIMINGS gets line,call,number,nanoseconds of the library's calls.",
+consistent after a call. --quiet shows the summary alone. TIMINGS gets line,call,number,nanoseconds of the library's calls;
+a file that is there already is replaced only with --force, and the image never.",
         run: changes::replay,
     },
 ];

@@ -2,6 +2,7 @@
 
 use crate::geometry::{u16_at, u32_at, u64_at, Geometry};
 use crate::library::Stamp;
+use crate::text::plain;
 
 pub const ENTRY: usize = 32;
 pub const IN_USE: u8 = 0x80;
@@ -29,8 +30,9 @@ pub struct File {
 }
 
 impl File {
+    /// The name as it is shown.
     pub fn name(&self) -> String {
-        String::from_utf16_lossy(&self.name).replace(char::is_control, "\u{fffd}")
+        plain(&String::from_utf16_lossy(&self.name))
     }
 
     pub fn is_directory(&self) -> bool {

@@ -1,6 +1,7 @@
 //! Why a command ends without success, with the exit status that tells it;
 //! and what a command says.
 
+use crate::text::plain;
 use std::fmt;
 
 pub enum Failure {
@@ -10,6 +11,8 @@ pub enum Failure {
     Usage(String),
     /// An image that cannot be read or written, or is no volume of ours.
     Image(String),
+    /// A file or the standard output that cannot be written.
+    Output(String),
 }
 
 pub type Outcome<T> = Result<T, Failure>;
@@ -19,19 +22,16 @@ impl Failure {
         match self {
             Failure::Refused(_) => 1,
             Failure::Usage(_) => 2,
-            Failure::Image(_) => 3,
+            Failure::Image(_) | Failure::Output(_) => 3,
         }
     }
 }
 
 impl fmt::Display for Failure {
     fn fmt(&self, out: &mut fmt::Formatter) -> fmt::Result {
-        match self {
-            Failure::Refused(words) | Failure::Usage(words) | Failure::Image(words) => {
-                // One line, whatever a name or a path holds.
-                out.write_str(&words.replace(char::is_control, "?"))
-            }
-        }
+        let (Failure::Refused(words) | Failure::Usage(words) | Failure::Image(words) | Failure::Output(words)) = self;
+        // One line, whatever a name or a path holds.
+        out.write_str(&plain(words))
     }
 }
 
@@ -49,8 +49,9 @@ pub fn refused<T>(words: impl Into<String>) -> Outcome<T> {
 
 /// A line of a command's output, which is collected and shown at its end.
 macro_rules! say {
-    ($out:expr, $($text:tt)*) => {
-        $out.extend(format!("{}\n", format_args!($($text)*)).bytes())
-    };
+    ($out:expr, $($text:tt)*) => {{
+        $out.extend($crate::text::plain(&format!($($text)*)).bytes());
+        $out.push(b'\n');
+    }};
 }
 pub(crate) use say;

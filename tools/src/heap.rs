@@ -1,6 +1,6 @@
 //! Which stream holds which cluster.
 
-use crate::directory::File;
+use crate::directory::{self, File};
 use crate::volume::{Fault, Volume};
 
 #[derive(Clone, Copy, Debug, PartialEq, Eq)]
@@ -10,6 +10,8 @@ pub enum Owner {
     Root,
     /// An index of `Heap::streams`.
     File(usize),
+    /// A file or folder in a folder.
+    Inside,
 }
 
 /// A sound file with its clusters as far as they can be read, and what is
@@ -20,8 +22,17 @@ pub struct Stream {
     pub faults: Vec<Fault>,
 }
 
+/// Files are read until they hold this many heaps full of clusters. One heap
+/// is the most where no two share any, and a volume that was made to mislead
+/// cannot fill the memory.
+const HEAPS: usize = 4;
+
 pub struct Heap {
     pub streams: Vec<Stream>,
+    /// How many more files there are, not read.
+    pub unread: usize,
+    /// Entries in folders that are not sound: their clusters are not known.
+    pub unsound_inside: usize,
     pub root: Vec<u32>,
     pub root_faults: Vec<Fault>,
     /// The owners of cluster k at k - 2, none of them twice.
@@ -32,9 +43,21 @@ impl Heap {
     pub fn of(volume: &Volume) -> Heap {
         let g = &volume.geometry;
         let (root, root_faults) = read_root(volume);
-        let files = volume.sound_files().into_iter();
+        let mut files = volume.sound_files().into_iter();
+        let mut streams: Vec<Stream> = Vec::new();
+        let mut room = HEAPS * g.cluster_count as usize;
+        while room > 0 {
+            let Some(file) = files.next() else {
+                break;
+            };
+            let stream = read(volume, file);
+            room = room.saturating_sub(stream.clusters.len());
+            streams.push(stream);
+        }
         let mut heap = Heap {
-            streams: files.map(|file| read(volume, file)).collect(),
+            streams,
+            unread: files.len(),
+            unsound_inside: 0,
             root,
             root_faults,
             owners: vec![Vec::new(); g.cluster_count as usize],
@@ -46,9 +69,13 @@ impl Heap {
         for (index, stream) in heap.streams.iter().enumerate() {
             claims.extend(stream.clusters.iter().map(|k| (*k, Owner::File(index))));
         }
+        let (held, unsound) = inside(volume, &heap.streams);
+        heap.unsound_inside = unsound;
+        claims.extend(held.into_iter().map(|k| (k, Owner::Inside)));
         for (cluster, owner) in claims {
             let owners = &mut heap.owners[(cluster - 2) as usize];
-            if !owners.contains(&owner) {
+            // The claims of one owner follow each other.
+            if owners.last() != Some(&owner) {
                 owners.push(owner);
             }
         }
@@ -98,6 +125,31 @@ fn read(volume: &Volume, file: File) -> Stream {
     let system: Vec<u32> = clusters.iter().copied().filter(|k| volume.system(*k)).collect();
     faults.extend(some(9, &system, "are system clusters"));
     Stream { file, clusters, faults }
+}
+
+/// The clusters of what folders hold, at any depth, as far as it can be read:
+/// the calls do not look there, but these clusters are in use. Besides, how
+/// many entries there are not sound.
+fn inside(volume: &Volume, streams: &[Stream]) -> (Vec<u32>, usize) {
+    let (mut held, mut unsound) = (Vec::new(), 0);
+    let mut seen = vec![false; volume.geometry.heap().end as usize];
+    let folders = streams.iter().filter(|stream| stream.file.is_directory());
+    let mut left: Vec<Vec<u32>> = folders.map(|stream| stream.clusters.clone()).collect();
+    while let Some(folder) = left.pop() {
+        let files = directory::files(&volume.contents(&folder), &volume.geometry);
+        unsound += files.iter().filter(|(_, file)| file.is_err()).count();
+        for file in files.into_iter().filter_map(|(_, file)| file.ok()) {
+            let is_directory = file.is_directory();
+            let mut clusters = read(volume, file).clusters;
+            // A folder that holds itself is read once.
+            clusters.retain(|k| !std::mem::replace(&mut seen[*k as usize], true));
+            held.extend(&clusters);
+            if is_directory {
+                left.push(clusters);
+            }
+        }
+    }
+    (held, unsound)
 }
 
 fn unmarked(volume: &Volume, clusters: &[u32]) -> Option<Fault> {

@@ -8,6 +8,7 @@ mod check;
 mod commands;
 mod directory;
 mod failure;
+mod files;
 mod format;
 mod geometry;
 mod heap;
@@ -15,6 +16,7 @@ mod library;
 mod map;
 mod replay;
 mod stamp;
+mod text;
 mod upcase;
 mod views;
 mod volume;
@@ -27,23 +29,24 @@ use std::process::ExitCode;
 
 const ABOUT: &str = "bittsalak works on an exFAT image file through the proved library.";
 
-const COMMON: &str = "FILE is a name in the root directory, in any case of its letters, or @SLOT.
-Commands that change a volume take --time 2026-11-16T12:30:05Z (now unless given) and --hint CLUSTER (where a search
-for clusters starts: 2 unless given; in a list each call hands its hint to the next).
+const COMMON: &str = "FILE is a name in the root directory, in any case of its letters, or @SLOT. Folders are not followed yet.
+Commands that change a volume take --time 2026-11-16T12:30:05Z (now unless given; zones -16:00 to +15:45 in place of Z) and
+--hint CLUSTER (where a search for clusters starts: 2 unless given; in a list each call hands its hint to the next).
 They write only the changed blocks of 512 bytes back, after the call has succeeded; a refused one leaves the image as it was.
+An option's value is the word behind it, whatever it looks like, or stands behind =; what follows -- is no option.
 
 Exit status: 0 success; 1 refused by the library, or not consistent; 2 wrong usage, name, list or data file;
-3 an image that cannot be read or written, or that is no volume within the limits.";
+3 an image or an output that cannot be read or written, or an image that is no volume within the limits.";
 
 fn main() -> ExitCode {
     let mut out = Vec::new();
     let result = run(&mut out);
-    // A reader that has gone away wants no more.
-    let _ = std::io::stdout().write_all(&out);
-    match result {
+    // Output that is lost outweighs what the command came to.
+    match files::show(&out).and(result) {
         Ok(()) => ExitCode::SUCCESS,
         Err(failure) => {
-            eprintln!("bittsalak: {failure}");
+            // The status tells it too, where nobody can be told in words.
+            let _ = writeln!(std::io::stderr(), "bittsalak: {failure}");
             ExitCode::from(failure.status())
         }
     }
@@ -75,7 +78,7 @@ fn run(out: &mut Vec<u8>) -> Outcome<()> {
     let Some(command) = COMMANDS.iter().find(|command| command.name == name) else {
         return usage(format!("unknown command {name}; --help lists them"));
     };
-    let mut args = Args::new(words);
+    let mut args = Args::new(words)?;
     if args.flag("--help") || args.flag("-h") {
         help_of(command, out);
         return Ok(());

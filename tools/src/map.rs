@@ -1,6 +1,6 @@
 //! A picture of the heap: which stream holds which clusters.
 
-use crate::heap::{fragments, ranges, Heap, Owner};
+use crate::heap::{fragments, ranges, Heap, Owner, Stream};
 use crate::volume::Volume;
 use std::fmt::Write;
 
@@ -26,14 +26,17 @@ enum Kind {
     Bitmap,
     Upcase,
     Root,
+    /// Counted among the streams with clusters.
     File(usize),
+    Inside,
     Free,
 }
 
+const LETTERS: usize = 26;
 const PROBLEMS: [Kind; 4] = [Kind::Shared, Kind::Unmarked, Kind::Lost, Kind::Bad];
 
 impl Kind {
-    fn of(volume: &Volume, heap: &Heap, cluster: u32) -> Kind {
+    fn of(volume: &Volume, heap: &Heap, places: &[usize], cluster: u32) -> Kind {
         match heap.owners(cluster) {
             [] if volume.bad(cluster) => Kind::Bad,
             [] if volume.marked(cluster) => Kind::Lost,
@@ -42,7 +45,8 @@ impl Kind {
             [Owner::Bitmap] => Kind::Bitmap,
             [Owner::Upcase] => Kind::Upcase,
             [Owner::Root] => Kind::Root,
-            [Owner::File(index)] => Kind::File(*index),
+            [Owner::File(index)] => Kind::File(places[*index]),
+            [Owner::Inside] => Kind::Inside,
             _ => Kind::Shared,
         }
     }
@@ -51,8 +55,9 @@ impl Kind {
     /// begins a fragment.
     fn letter(self, begins: bool) -> char {
         match self {
-            Kind::File(index) if begins => char::from(b'A' + (index % 26) as u8),
-            Kind::File(index) => char::from(b'a' + (index % 26) as u8),
+            Kind::File(place) if begins => char::from(b'A' + (place % LETTERS) as u8),
+            Kind::File(place) => char::from(b'a' + (place % LETTERS) as u8),
+            Kind::Inside => '+',
             Kind::Bitmap => '%',
             Kind::Upcase => '^',
             Kind::Root => '/',
@@ -67,6 +72,7 @@ impl Kind {
     fn words(self) -> &'static str {
         match self {
             Kind::File(_) => "file",
+            Kind::Inside => "in folders",
             Kind::Bitmap => "allocation bitmap",
             Kind::Upcase => "up-case table",
             Kind::Root => "root directory",
@@ -82,8 +88,8 @@ impl Kind {
     fn color(self) -> &'static str {
         const FILES: [&str; 8] = ["30;42", "30;43", "30;46", "30;45", "30;44", "30;102", "30;103", "30;106"];
         match self {
-            Kind::File(index) => FILES[index % FILES.len()],
-            Kind::Bitmap | Kind::Upcase | Kind::Root => "30;47",
+            Kind::File(place) => FILES[place % FILES.len()],
+            Kind::Bitmap | Kind::Upcase | Kind::Root | Kind::Inside => "30;47",
             Kind::Free => "2",
             _ => "97;41",
         }
@@ -116,7 +122,8 @@ pub fn draw(volume: &Volume, style: &Style) -> String {
     let heap = Heap::of(volume);
     let starts: Vec<u32> =
         heap.streams.iter().flat_map(|stream| fragments(&stream.clusters)).map(|part| part.0).collect();
-    let kinds: Vec<Kind> = g.heap().map(|cluster| Kind::of(volume, &heap, cluster)).collect();
+    let places = places(&heap);
+    let kinds: Vec<Kind> = g.heap().map(|cluster| Kind::of(volume, &heap, &places, cluster)).collect();
     let mut clusters: Vec<Cell> = kinds.iter().map(|kind| Cell { kind: *kind, begins: false }).collect();
     for start in starts {
         clusters[(start - 2) as usize].begins = true;
@@ -135,7 +142,22 @@ pub fn draw(volume: &Volume, style: &Style) -> String {
     );
     rows(&cells, style, per_cell, &mut text);
     legend(&heap, &kinds, style, &mut text);
+    if let Some(words) = volume.folders() {
+        let _ = writeln!(text, "note: {words}; what is in folders is not looked at but for its clusters");
+    }
     text
+}
+
+/// How many streams with clusters come before each: those without take no
+/// letter.
+fn places(heap: &Heap) -> Vec<usize> {
+    let mut before = 0;
+    let place = |stream: &Stream| {
+        let place = before;
+        before += usize::from(!stream.clusters.is_empty());
+        place
+    };
+    heap.streams.iter().map(place).collect()
 }
 
 /// Each row begins with its first cluster; rows that are free like the one
@@ -186,14 +208,19 @@ fn legend(heap: &Heap, kinds: &[Kind], style: &Style, text: &mut String) {
             line(kind, format!("{}: {}", kind.words(), ranges(&clusters)));
         }
     }
-    for (index, stream) in heap.streams.iter().enumerate() {
-        let parts = fragments(&stream.clusters).len();
-        let layout = match parts {
-            0 => "no clusters".into(),
-            _ if stream.file.no_fat_chain => format!("{} in a run", counted(stream.clusters.len(), "cluster")),
-            _ => format!("{} in a chain of {}", counted(stream.clusters.len(), "cluster"), counted(parts, "fragment")),
+    let drawn: Vec<&Stream> = heap.streams.iter().filter(|stream| !stream.clusters.is_empty()).collect();
+    for (place, stream) in drawn.iter().enumerate() {
+        let clusters = counted(stream.clusters.len(), "cluster");
+        let layout = match fragments(&stream.clusters).len() {
+            _ if stream.file.no_fat_chain => format!("{clusters} in a run"),
+            parts => format!("{clusters} in a chain of {}", counted(parts, "fragment")),
         };
-        line(Kind::File(index), format!("{}: {layout}", stream.file.name()));
+        let folder = if stream.file.is_directory() { " (folder)" } else { "" };
+        line(Kind::File(place), format!("{}{folder}: {layout}", stream.file.name()));
+    }
+    let inside = those(Kind::Inside);
+    if !inside.is_empty() {
+        line(Kind::Inside, format!("{}: {}", Kind::Inside.words(), ranges(&inside)));
     }
     for kind in PROBLEMS {
         let clusters = those(kind);
@@ -202,8 +229,23 @@ fn legend(heap: &Heap, kinds: &[Kind], style: &Style, text: &mut String) {
         }
     }
     line(Kind::Free, format!("free: {}", counted(those(Kind::Free).len(), "cluster")));
-    if !heap.streams.is_empty() {
+    if !drawn.is_empty() {
         text.push_str("A capital letter begins a fragment.\n");
+    }
+    if drawn.len() > LETTERS {
+        let _ =
+            writeln!(text, "{} files share {LETTERS} letters: after Z comes A again, in the order above.", drawn.len());
+    }
+    let empty = heap.streams.len() - drawn.len();
+    if empty > 0 {
+        let _ = writeln!(text, "Not drawn: {} without clusters.", counted(empty, "file"));
+    }
+    if heap.unread > 0 {
+        let _ = writeln!(
+            text,
+            "Not read: {} more, since those before hold more clusters than there are.",
+            counted(heap.unread, "file")
+        );
     }
 }
 

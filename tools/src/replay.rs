@@ -4,10 +4,11 @@ use crate::args::number;
 use crate::calls::{self, Call, Place, Target};
 use crate::check::check;
 use crate::failure::{usage, Failure, Outcome};
+use crate::files;
 use crate::library::{Number, Stamp};
+use crate::text::plain;
 use crate::volume::Volume;
 use std::fmt::Write;
-use std::fs;
 
 /// What a line of a list asks for.
 enum Step {
@@ -96,7 +97,7 @@ impl Replayed {
         };
         let carried_out = matches!(&result, Ok(answer) if answer.number == Number::DONE);
         self.refused += usize::from(!carried_out);
-        let _ = writeln!(self.lines, "{line:5}  {call}: {shown}");
+        let _ = writeln!(self.lines, "{}", plain(&format!("{line:5}  {call}: {shown}")));
         let _ = writeln!(self.csv, "{line},{},{number},{nanoseconds}", call.verb());
         carried_out
     }
@@ -184,8 +185,11 @@ fn source(text: &str) -> Outcome<Vec<u8>> {
         "text" => unescaped(rest),
         "hex" => hex(rest.trim_end()),
         "file" => {
-            let path = rest.trim_end();
-            fs::read(path).map_err(|error| Failure::Usage(format!("{path}: cannot read: {error}")))
+            let data = files::read(rest.trim_end(), MOST)?;
+            if data.len() > MOST {
+                return usage(format!("{}: more than {MOST} bytes", rest.trim_end()));
+            }
+            Ok(data)
         }
         "fill" => {
             let (byte, count) = times(rest)?;
@@ -200,7 +204,7 @@ fn source(text: &str) -> Outcome<Vec<u8>> {
 }
 
 /// More bytes than any volume holds would only fill the memory.
-const MOST: usize = 1 << 26;
+pub const MOST: usize = 1 << 26;
 
 fn times(text: &str) -> Outcome<(&str, usize)> {
     let Some((what, count)) = text.trim_end().split_once('*') else {

@@ -57,12 +57,11 @@ pub fn parse(text: &str) -> Option<Stamp> {
     let zone_at = rest.find(['Z', '+', '-']).unwrap_or(rest.len());
     let (clock, zone) = rest.split_at(zone_at);
     let (clock, hundredths) = match clock.split_once('.') {
-        Some((clock, digits)) if digits.len() == 2 => (clock, digits.parse().ok()?),
-        Some(_) => return None,
+        Some((clock, hundredths)) => (clock, digits(hundredths, 2)?),
         None => (clock, 0),
     };
-    let [year, month, day] = numbers(date, '-')?;
-    let [hour, minute, second] = numbers(clock, ':')?;
+    let [year, month, day] = numbers(date, '-', [4, 2, 2])?;
+    let [hour, minute, second] = numbers(clock, ':', [2, 2, 2])?;
     let good = (1980..=2107).contains(&year)
         && (1..=12).contains(&month)
         && (1..=days_of(year, month)).contains(&day)
@@ -73,19 +72,27 @@ pub fn parse(text: &str) -> Option<Stamp> {
     good.then(|| stamp([year, month, day], [hour, minute, second], hundredths, offset))
 }
 
-fn numbers(text: &str, between: char) -> Option<[u32; 3]> {
-    let parts: Vec<u32> = text.split(between).map(|part| part.parse().ok()).collect::<Option<_>>()?;
-    parts.try_into().ok()
+/// Numbers of so many digits each, with a mark between.
+fn numbers<const N: usize>(text: &str, between: char, lengths: [usize; N]) -> Option<[u32; N]> {
+    let parts: Vec<&str> = text.split(between).collect();
+    let parts: [&str; N] = parts.try_into().ok()?;
+    let numbers: Option<Vec<u32>> = parts.iter().zip(lengths).map(|(part, length)| digits(part, length)).collect();
+    numbers?.try_into().ok()
 }
 
+fn digits(text: &str, length: usize) -> Option<u32> {
+    let good = text.len() == length && text.bytes().all(|byte| byte.is_ascii_digit());
+    good.then(|| text.parse().ok()).flatten()
+}
+
+/// Section 7.4.10: quarters of an hour in seven bits, from -64 to 63.
 fn parse_zone(zone: &str) -> Option<u8> {
     if zone.is_empty() || zone == "Z" {
         return Some(UTC);
     }
-    let (hours, minutes) = zone[1..].split_once(':')?;
-    let minutes = hours.parse::<i32>().ok()? * 60 + minutes.parse::<i32>().ok()?;
-    let quarters = minutes / 15 * if zone.starts_with('-') { -1 } else { 1 };
-    let good = minutes % 15 == 0 && (-48..=56).contains(&quarters);
+    let [hours, minutes] = numbers(zone.strip_prefix(['+', '-'])?, ':', [2, 2])?;
+    let quarters = (hours * 4 + minutes / 15) as i32 * if zone.starts_with('-') { -1 } else { 1 };
+    let good = minutes < 60 && minutes % 15 == 0 && (-64..=63).contains(&quarters);
     good.then_some(UTC | (quarters as u8 & 0x7f))
 }
 
@@ -119,9 +126,14 @@ mod tests {
 
     #[test]
     fn times_are_shown_as_they_were_read() {
-        for text in
-            ["1980-01-01T00:00:00Z", "2024-02-29T23:59:59Z", "2107-12-31T12:30:05+01:00", "2026-11-16T04:08:53-03:30"]
-        {
+        for text in [
+            "1980-01-01T00:00:00Z",
+            "2024-02-29T23:59:59Z",
+            "2107-12-31T12:30:05+01:00",
+            "2026-11-16T04:08:53-03:30",
+            "2026-11-16T04:08:53+15:45",
+            "2026-11-16T04:08:53-16:00",
+        ] {
             assert_eq!(show(&parse(text).expect(text)), text);
         }
         assert_eq!(parse("2026-11-16T04:08:53.25"), parse("2026-11-16T04:08:53.25Z"));
@@ -137,6 +149,14 @@ mod tests {
             "2026-13-01T00:00:00Z",
             "2026-01-01T24:00:00Z",
             "2026-01-01T00:00:00+01:07",
+            "2026-01-01T00:00:00+01:60",
+            "2026-01-01T00:00:00+16:00",
+            "2026-01-01T00:00:00-16:15",
+            "2026-01-01T00:00:00+-1:00",
+            "2026-01-01T00:00:00Z01:00",
+            "2026-01-01T00:00:00+99999999:00",
+            "2026-01-01T00:00:00.+5",
+            "2026-+1-01T00:00:00Z",
             "2026-01-01",
             "2026-01-01T00:00",
             "",

@@ -5,13 +5,13 @@ use crate::calls::Target;
 use crate::check;
 use crate::directory::File;
 use crate::failure::{refused, say, usage, Failure, Outcome};
+use crate::files;
 use crate::heap;
 use crate::library::{self, Number};
 use crate::map::{self, Style};
 use crate::stamp;
 use crate::volume::Volume;
 use std::env;
-use std::fs;
 use std::io::IsTerminal;
 
 pub fn ls(mut args: Args, out: &mut Vec<u8>) -> Outcome<()> {
@@ -38,6 +38,9 @@ pub fn ls(mut args: Args, out: &mut Vec<u8>) -> Outcome<()> {
                 say!(out, "{slot:5} {}: {words}", Number(10));
             }
         }
+    }
+    if let Some(words) = volume.folders() {
+        say!(out, "note: {words}; what is in folders is not listed");
     }
     if wrong == 0 {
         return Ok(());
@@ -87,9 +90,13 @@ fn attributes(bits: u16) -> String {
     shown.iter().collect()
 }
 
-pub fn cat(args: Args, out: &mut Vec<u8>) -> Outcome<()> {
+pub fn cat(mut args: Args, out: &mut Vec<u8>) -> Outcome<()> {
+    let force = args.flag("--force");
     let words = args.words(&["IMAGE", "FILE", "[TO]"])?;
     let volume = Volume::open(&words[0])?;
+    if let Some(path) = words.get(2) {
+        files::may_write(path, &words[0], force)?;
+    }
     let target = Target::parse(&words[1]);
     let slot = target.slot(&volume).map_err(Failure::Usage)?;
     let told = |number: Number| Failure::Refused(format!("cat {target}: {number}"));
@@ -104,10 +111,7 @@ pub fn cat(args: Args, out: &mut Vec<u8>) -> Outcome<()> {
     contents[file.valid as usize..].fill(0);
     match words.get(2) {
         None => out.extend(contents),
-        Some(path) => {
-            let told = |error| Failure::Usage(format!("{path}: cannot write: {error}"));
-            fs::write(path, contents).map_err(told)?;
-        }
+        Some(path) => files::write(path, &contents)?,
     }
     Ok(())
 }

@@ -3,8 +3,10 @@
 
 use crate::boot;
 use crate::directory::{self, File};
-use crate::failure::{image, Failure, Outcome};
+use crate::failure::{image, usage, Failure, Outcome};
+use crate::files;
 use crate::geometry::{bit, set_bit, u32_at, u64_at, Geometry, FAT_BAD, FAT_END, MAX_BYTES};
+use crate::heap::ranges;
 use crate::library::{self, Allocation, Number, Setting};
 use crate::upcase::{self, Upcase};
 use std::fs;
@@ -62,6 +64,7 @@ impl Volume {
         };
         volume.find_bitmaps()?;
         volume.find_upcase()?;
+        volume.areas_lie_apart()?;
         volume.refresh_map();
         // The library has the last word on the limits.
         let (number, _) = library::free_count(&volume.bytes, volume.setting());
@@ -127,6 +130,28 @@ impl Volume {
         };
         self.upcase = upcase;
         self.upcase_clusters.append(&mut clusters);
+        Ok(())
+    }
+
+    /// Bitmaps, up-case table and root share no cluster: a call that stores in
+    /// one would destroy the other. A root that meets a bitmap can be looked
+    /// at, since the library refuses it (9) in every call that stores.
+    fn areas_lie_apart(&self) -> Outcome<()> {
+        let g = &self.geometry;
+        let bitmap = |fat| (format!("the allocation bitmap of FAT {fat}"), g.bitmap(fat).collect());
+        let bitmaps: Vec<(String, Vec<u32>)> = (0..g.number_of_fats).map(bitmap).collect();
+        let upcase = ("the up-case table".to_string(), self.upcase_clusters.clone());
+        let root = ("the root".to_string(), self.walk(g.root_cluster).0);
+        let mut pairs: Vec<_> = bitmaps.iter().chain([&root]).map(|other| (&upcase, other)).collect();
+        if let [one, other] = &bitmaps[..] {
+            pairs.push((one, other));
+        }
+        for ((one, its), (other, others)) in pairs {
+            let both: Vec<u32> = its.iter().copied().filter(|k| others.contains(k)).collect();
+            if !both.is_empty() {
+                return image(format!("{one} and {other} share clusters {}", ranges(&both)));
+            }
+        }
         Ok(())
     }
 
@@ -240,6 +265,15 @@ impl Volume {
         self.files().into_iter().filter_map(|(_, file)| file.ok()).collect()
     }
 
+    /// That the root has folders, in words.
+    pub fn folders(&self) -> Option<String> {
+        match self.sound_files().iter().filter(|file| file.is_directory()).count() {
+            0 => None,
+            1 => Some("the root has 1 folder".into()),
+            count => Some(format!("the root has {count} folders")),
+        }
+    }
+
     /// The sound file with a name, whatever the case of its letters.
     pub fn find(&self, name: &str) -> Option<File> {
         let units: Vec<u16> = name.encode_utf16().collect();
@@ -272,6 +306,9 @@ impl Volume {
 fn read(path: &str) -> Outcome<Vec<u8>> {
     let told = |error| Failure::Image(format!("{path}: cannot read: {error}"));
     let file = fs::File::open(path).map_err(told)?;
+    if files::standard_output_is(&file.metadata().map_err(told)?) {
+        return usage(format!("{path}: the standard output is the image, and is not written over"));
+    }
     let mut bytes = Vec::new();
     file.take(MAX_BYTES).read_to_end(&mut bytes).map_err(told)?;
     Ok(bytes)
