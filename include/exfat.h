@@ -10,6 +10,10 @@
  * is not null, at length 0 too; nothing else changes a slice or an array during the call; and what a call writes (a volume that
  * is not const, `list`, `out`) overlaps no other argument.
  *
+ * What the library needs: an x86-64 with Linux's calling convention and its SSE2 registers; the C functions memcpy, memmove and
+ * memset; and stack, at most 4,216 bytes in exfat_write, the deepest call, besides what these three take. It uses the red zone
+ * of 128 bytes below the stack pointer, and keeps no data of its own.
+ *
  * Arguments that the calls share
  *
  *   vol         The volume: boot region, FATs and cluster heap, at most 16,777,216 bytes.
@@ -20,8 +24,9 @@
  *               1), ClusterHeapOffset, ClusterCount, FirstClusterOfRootDirectory, first cluster of the first FAT's bitmap,
  *               first cluster of the second FAT's bitmap (not looked at with one FAT). Offsets and FatLength are in sectors.
  *   allocation  A stream's record, 4 words: first cluster, last cluster, count of clusters, NoFatChain (0 is clear, any other
- *               value set). Set, the clusters first..last follow each other and the FAT is not looked at; clear, the FAT links
- *               them. With count 0 the stream is empty, whatever the other words say.
+ *               value set). Set, the clusters first..last follow each other (a run) and the FAT is not looked at; clear, the FAT
+ *               links them (a chain). With count 0 the stream is empty, whatever the other words say. Where a call gives a
+ *               record back, as given too, NoFatChain is 0 or 1: any other word comes back as 1.
  *   slot        The place of a file's entry set in the root directory, counted in entries of 32 bytes from 0: what
  *               exfat_new_file gave, or found by reading the root.
  *   stamp       6 bytes: a time as the entry holds it (4 bytes, low byte first), its 10 ms increment, its UTC offset. They are
@@ -29,14 +34,25 @@
  *   hint        The cluster at which a search starts where nothing else says so: the one that the call before gave back, or 2.
  *   out         8 words that the call stores, all of them: what it gives, then zeros.
  *
- * Numbers
+ * Words that the calls share
+ *
+ *   usable      A cluster that is not marked in the active FAT's bitmap, not in the system map and not bad (0xFFFFFFF7) in the
+ *               active FAT. Only such clusters are taken.
+ *   sound       A file entry set that lies before the first entry of type 0 and inside the root: type 0x85, SecondaryCount 2 to
+ *               18 and right for NameLength, which is not 0; the right checksum; then a 0xC0 with AllocationPossible set, then
+ *               0xC1 entries with flag bits 0 and 1 clear; ValidDataLength at most DataLength; with DataLength 0 the first
+ *               cluster 0 and NoFatChain clear, else the first cluster in the heap, no more clusters than C, and a run that
+ *               ends in the heap. Names, hash and stamps are not looked at.
+ *
+ * Numbers (enum exfat_number has them by name)
  *
  *   0   done
  *   1   the geometry, the volume's length or the map breaks the limits
  *   2   the hint, the near cluster, the root cluster or a cluster of the record is outside 2..C+1
  *   3   a chain meets a FAT value that is neither a cluster nor the end
  *   4   a chain goes on after C clusters
- *   5   the record's count or last cluster is not that of its stream
+ *   5   the record's count or last cluster is not that of its stream, or a file's chain has another count of clusters than its
+ *       length takes
  *   6   a cluster of the record, the root or the file is not marked in the bitmap
  *   7   too few clusters
  *   8   offset and data length add up to more than 2^64 - 1
@@ -63,6 +79,24 @@ extern "C" {
 #define EXFAT_GEOMETRY_WORDS 11
 #define EXFAT_ALLOCATION_WORDS 4
 #define EXFAT_OUT_WORDS 8
+
+enum exfat_number {
+    EXFAT_DONE = 0,
+    EXFAT_LIMITS = 1,
+    EXFAT_OUTSIDE_HEAP = 2,
+    EXFAT_BAD_FAT_VALUE = 3,
+    EXFAT_ENDLESS_CHAIN = 4,
+    EXFAT_OTHER_COUNT = 5,
+    EXFAT_NOT_MARKED = 6,
+    EXFAT_TOO_FEW_CLUSTERS = 7,
+    EXFAT_END_TOO_LARGE = 8,
+    EXFAT_SYSTEM_CLUSTER = 9,
+    EXFAT_NO_FILE = 10,
+    EXFAT_IS_DIRECTORY = 11,
+    EXFAT_NAME_REFUSED = 12,
+    EXFAT_ATTRIBUTE_REFUSED = 13,
+    EXFAT_LIST_TOO_SHORT = 14
+};
 
 /*
  * How many clusters the active FAT's bitmap leaves unmarked.
@@ -101,17 +135,19 @@ uint32_t exfat_allocate(uint8_t *vol, size_t vol_len, const uint8_t *map, size_t
  *
  * Numbers: 1; 2 for the hint; 7 where count and more are above C or more is above the free count; the record's, as for
  * exfat_clusters; 7 for too few usable clusters.
- * out as for exfat_allocate; refused, the record and the hint as given (NoFatChain as 0 or 1).
+ * out as for exfat_allocate; refused or with `more` 0, the record and the hint as given (NoFatChain as 0 or 1).
  */
 uint32_t exfat_extend(uint8_t *vol, size_t vol_len, const uint8_t *map, size_t map_len, const uint32_t geometry[11],
                       const uint32_t allocation[4], uint32_t more, uint32_t hint, uint32_t out[8]);
 
 /*
  * Cuts a record to its first `keep` clusters and frees the others: each gets FAT entry 0 and is unmarked. A chain whose kept
- * numbers rise by one becomes a run. `keep` at or above the count changes nothing, and the record is not looked at.
+ * numbers rise by one becomes a run, a single kept cluster included. `keep` at or above the count changes nothing, and the
+ * record is not looked at.
  *
  * Numbers: 1; 2 for the hint; the record's, as for exfat_clusters; 9 for a system cluster among those to be freed.
- * out[0..3] is the record that is left (empty: four zeros), out[4] the hint as given; refused, the record and the hint as given.
+ * out[0..3] is the record that is left (empty: four zeros), out[4] the hint as given; refused or with nothing to cut, the record
+ * and the hint as given (NoFatChain as 0 or 1).
  */
 uint32_t exfat_shrink(uint8_t *vol, size_t vol_len, const uint8_t *map, size_t map_len, const uint32_t geometry[11],
                       const uint32_t allocation[4], uint32_t keep, uint32_t hint, uint32_t out[8]);
@@ -130,7 +166,8 @@ uint32_t exfat_new_file(uint8_t *vol, size_t vol_len, const uint8_t *map, size_t
 
 /*
  * Writes data to a file from an offset on and makes it longer as needed. What lies between the file's valid length and the
- * offset is zeroed. The modified and accessed stamps become the one given, and attribute 0x20 is set; empty data does no more.
+ * offset is zeroed. The modified and accessed stamps become the one given, attribute 0x20 is set, the stream's flags byte is
+ * written whole (1, or 3 for a run: its other bits go) and the checksum made anew; empty data does no more than that.
  *
  * Numbers: 1; 2 for the hint; the root's 2, 3, 4, 6, 9; 10; 11; the file's 3 or 4, 5, 6, 9; and with data 8, then 7.
  * out[0] is the hint, new where the file got clusters; refused, the hint as given.
@@ -140,9 +177,11 @@ uint32_t exfat_write(uint8_t *vol, size_t vol_len, const uint8_t *map, size_t ma
                      uint32_t out[8]);
 
 /*
- * Sets a file's length. Shorter, the clusters past the new end are freed, and the valid length is at most the length; longer,
- * clusters are added, and what is read past the valid length is 0: the rest of its cluster is zeroed, the others stay as they
- * were. Stamps and attribute as for exfat_write.
+ * Sets a file's length. Shorter, the clusters past the new end are freed, the valid length becomes at most the length, and a
+ * chain whose kept numbers rise by one becomes a run, also where no cluster is freed; an equal length leaves a chain a chain.
+ * Longer, clusters are added and the valid length stays: the bytes from it to the end of its cluster are zeroed, but none past
+ * the new length (length and valid length 700, set to 900: 700..899), and further clusters keep the bytes that they have; a
+ * reader shows 0 from the valid length on. Stamps, attribute, flags byte and checksum as for exfat_write.
  *
  * Numbers: 1; 2 for the hint; the root's 2, 3, 4, 6, 9; 10; 11; the file's 3 or 4, 5, 6, 9; 7.
  * out[0] is the hint, new where the file got clusters; refused, the hint as given.
@@ -151,7 +190,8 @@ uint32_t exfat_set_length(uint8_t *vol, size_t vol_len, const uint8_t *map, size
                           uint32_t slot, uint64_t length, const uint8_t stamp[6], uint32_t hint, uint32_t out[8]);
 
 /*
- * Removes a file: its entries are marked unused and its clusters freed.
+ * Removes a file: bit 0x80 of the type of each of its entries is cleared, every other byte of them stays; its clusters are freed
+ * (FAT entry 0, unmarked) and keep their bytes.
  *
  * Numbers: 1; 2 for the hint; the root's 2, 3, 4, 6, 9; 10; 11; the file's 3 or 4, 5, 6, 9.
  * out[0] is the hint as given.

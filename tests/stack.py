@@ -1,5 +1,5 @@
 #!/usr/bin/env python3
-"""The stack that a call of the library may take, against docs/CERTIFICATE.md.
+"""The stack that a call of the library may take, against the documents that tell it.
 
 stack.py LIBRARY. Reads the machine code: what each function pushes and subtracts from the stack pointer, all of it at once, and
 which functions it calls or jumps to. The sum along the deepest path, return addresses included, is a bound, without what the C
@@ -12,7 +12,8 @@ import re
 import subprocess
 import sys
 
-CERTIFICATE = pathlib.Path("docs/CERTIFICATE.md")
+# what each document says of it
+TOLD = {"docs/CERTIFICATE.md": "add up to %s bytes", "include/exfat.h": "at most %s bytes in", "README.md": "and %s bytes of stack"}
 TABLE = "(the table of addresses)"
 faults = []
 
@@ -75,8 +76,9 @@ def main():
     outside = sorted({other for all_ in goes.values() for other in all_} - set(frames))
     if outside != ["memcpy", "memmove", "memset"]:
         faults.append("the library goes to %s" % ", ".join(outside))
-    if "add up to %s bytes" % format(most, ",") not in CERTIFICATE.read_text(encoding="utf-8"):
-        faults.append("%s does not say that the frames of %s add up to %s bytes" % (CERTIFICATE, call, format(most, ",")))
+    for document, words in TOLD.items():
+        if words % format(most, ",") not in pathlib.Path(document).read_text(encoding="utf-8"):
+            faults.append("%s does not say, of %s, `%s`" % (document, call, words % format(most, ",")))
     for fault in faults:
         print("stack: " + fault)
     if faults:
