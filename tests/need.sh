@@ -12,6 +12,11 @@ need() {
     return 1
 }
 
+# left_out WHAT: notes what a test leaves out here; tests/run prints it above the verdict.
+left_out() {
+    [ -z "${LEFT_OUT:-}" ] || echo "$1" >> "$LEFT_OUT"
+}
+
 # need_rt: the Rattle kit is no Debian package, so it has to be there.
 need_rt() {
     command -v rt > /dev/null 2>&1 && return 0

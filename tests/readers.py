@@ -23,6 +23,9 @@ import subprocess
 import sys
 import tempfile
 
+sys.dont_write_bytecode = True
+import left_out  # noqa: E402, beside this file
+
 END = 0xFFFFFFFF
 MIB = 1 << 20
 
@@ -764,6 +767,7 @@ def main():
         kinds = [kind for kind in KINDS if kind[:2] != ("mkfs.exfat", 4096)]
         print("readers: ================================================================")
         print("readers: NOT MOUNTED, as READERS_WITHOUT_MOUNT asks: no exfat-fuse, and no 4096-byte sectors from mkfs.exfat")
+        left_out.left_out("no volume was mounted with exfat-fuse, nor made with 4096-byte sectors by mkfs.exfat (no loop device or no /dev/fuse)")
         print("readers: ================================================================")
     with tempfile.TemporaryDirectory() as scratch:
         folder = words.keep or scratch

@@ -1,11 +1,11 @@
 #!/usr/bin/env python3
-"""docs/TRACE.md against the repository, and against 01 where that is at hand; and the count of docs/CERTIFICATE.md.
+"""docs/TRACE.md against the repository, and against 01 where that is at hand.
 
 A line of TRACE.md is  - "BEGINNING": `FILE: NAME`, `FILE`, ..  or  - "BEGINNING": demands nothing, REASON  under a heading of 01;
 a line for a clause inside a sentence is indented. Every file must be there and define the name, every must-fail edit and every
 public call must be cited, and the beginnings must be those of all sentences of 01, in its order. 01 is ../shared/docs/01-scope.md,
-or the file that EXFAT_SCOPE names. The certificate's crates and edits, and their sum, which is the gate's last line, must be those
-that are there, and the C code of README.md a part of examples/firmware.c.
+or the file that EXFAT_SCOPE names. docs/CLAIM.md must have each clause of the claim over lists, with an edit of it. The C code of
+README.md must be a part of examples/firmware.c.
 """
 
 import functools
@@ -16,6 +16,7 @@ import sys
 
 sys.dont_write_bytecode = True
 import contracts  # noqa: E402, beside this file
+import left_out  # noqa: E402
 
 TRACE = pathlib.Path("docs/TRACE.md")
 SCOPE = pathlib.Path(os.environ.get("EXFAT_SCOPE", "../shared/docs/01-scope.md"))
@@ -98,7 +99,7 @@ def check_names(lines):
     for edit in sorted(pathlib.Path("crates").glob("*/must-fail/*.edit")):
         if str(edit) not in cited:
             faults.append("%s is cited nowhere" % edit)
-    for call in sorted(contracts.PUBLIC_CALLS | exported()):
+    for call in sorted(set(contracts.PUBLIC_CALLS) | exported()):
         crate, *modules, name = call.split("::")
         if "crates/%s/src/%s.rt: %s" % (crate, "/".join(modules) or "lib", name) not in cited:
             faults.append("the public call %s is cited nowhere" % call)
@@ -157,14 +158,24 @@ def check_scope(lines):
         faults.append('TRACE.md ends before 01\'s "%s"' % s[:60])
 
 
-def check_certificate():
-    """`N passed, 0 failed`: A crates proved .., and B wrong edits."""
-    crates = [line for line in text_of("crates.txt").splitlines() if line.split("#")[0].strip()]
-    edits = list(pathlib.Path("crates").glob("*/must-fail/*.edit"))
-    said = re.search(r"`(\d+) passed, 0 failed`: (\d+) crates .*?(\d+) wrong edits", text_of("docs/CERTIFICATE.md"))
-    there = (len(crates) + len(edits), len(crates), len(edits))
-    if not said or tuple(map(int, said.groups())) != there:
-        faults.append("CERTIFICATE.md does not say `%d passed, 0 failed`: %d crates .. %d wrong edits" % there)
+def check_claim():
+    """docs/CLAIM.md has a row for each clause of the claim, with an edit that is there, and names each edit of the claim's crate."""
+    text, told = text_of("docs/CLAIM.md"), set()
+    for record, path in (("Demand", "Demand"), ("Done", "Demand"), ("Consistent", "Consistent")):
+        part = re.search(r"^## [^\n]*`%s`\n(.*?)(?=^## |\Z)" % record, text, re.M | re.S)
+        rows = [[cell.strip() for cell in line.strip("|").split("|")] for line in (part[1] if part else "").splitlines() if line.startswith("| ")][1:]
+        clauses = {name.partition(".")[2] for name in antt_names("crates/write/specs/%s.antt" % path) if name.startswith(record + ".")}
+        there = [re.search(r"`([^`]+)`", next(cell for cell in row if "`" in cell))[1] for row in rows]
+        if sorted(there) != sorted(clauses):
+            faults.append("CLAIM.md does not have the clauses of %s: %s" % (record, ", ".join(sorted(set(there) ^ clauses))))
+        for clause, row in zip(there, rows):
+            edits = [crate or "write/" + name for crate, name in re.findall(r"\b([a-z]+/\w+)|\b([a-z]+(?:_[a-z]+)+)\b", row[-1])]
+            told.update(edits)
+            if not edits and clause != "each-call":
+                faults.append("CLAIM.md names no edit for %s.%s" % (record, clause))
+    there = {"%s/%s" % (edit.parts[1], edit.stem) for edit in pathlib.Path("crates").glob("*/must-fail/*.edit")}
+    for edit in sorted(told - there) + sorted(edit for edit in there - told if edit.startswith("write/")):
+        faults.append("CLAIM.md and the must-fail folders do not both have %s" % edit)
 
 
 def check_readme():
@@ -178,7 +189,7 @@ def check_readme():
 def main():
     lines = read_trace()
     cited = check_names(lines)
-    check_certificate()
+    check_claim()
     check_readme()
     count = sum(quote is not None and not inside for _, _, inside, quote, _ in lines)
     if count == 0:
@@ -187,6 +198,7 @@ def main():
         check_scope(lines)
     else:
         print("trace: NOT COMPARED WITH 01, which is not at %s (EXFAT_SCOPE names another file)" % SCOPE)
+        left_out.left_out("docs/TRACE.md was not compared with 01, which is not at %s" % SCOPE)
     for fault in faults:
         print("trace: " + fault)
     if faults:
