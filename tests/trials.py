@@ -84,10 +84,11 @@ def checksum(bytes_):
 
 
 def sum_of(bytes_):
-    """The program's own checksum of a volume: each word of eight bytes into the sum before it, turned left by one."""
+    """The program's own checksum of a volume: each word of eight bytes into the sum before it, turned left by one and folded."""
     sum_ = 0
     for at in range(0, len(bytes_), 8):
-        sum_ = (sum_ << 1 & (1 << 64) - 1 | sum_ >> 63) ^ int.from_bytes(bytes_[at : at + 8], "little")
+        turned = sum_ << 1 & (1 << 64) - 1 | sum_ >> 63
+        sum_ = turned ^ sum_ >> 57 ^ int.from_bytes(bytes_[at : at + 8], "little")
     return sum_
 
 
