@@ -12,6 +12,9 @@ import pathlib
 import re
 import sys
 
+sys.dont_write_bytecode = True
+import verdict  # noqa: E402, beside this file
+
 # Each public call, and the definition that its promise cites for the result and for each `&mut`; where they differ, for each by name.
 # `claim` is what the promise says besides: a definition, and the definitions of the hypotheses that it may stand under.
 PUBLIC_CALLS = {
@@ -421,16 +424,8 @@ def main():
         faults.append("%s is listed as a public call and is not there" % name)
     if seen == 0:
         faults.append("no function was found under crates/")
-    for fault in faults:
-        print("contracts: " + fault)
-    if faults:
-        print("contracts: FAILED, %d faults" % len(faults))
-        return 1
-    print(
-        "contracts: %d functions, the %d that return or change something say so, %d public calls ask nothing and cite their definitions; %d wrong contracts reported"
-        % (seen, giving, len(public), len(BAD))
-    )
-    return 0
+    told = "%d functions, the %d that return or change something say so, %d public calls ask nothing and cite their definitions; %d wrong contracts reported"
+    return verdict.verdict("contracts", faults, told % (seen, giving, len(public), len(BAD)))
 
 
 if __name__ == "__main__":

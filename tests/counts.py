@@ -15,6 +15,7 @@ import sys
 
 sys.dont_write_bytecode = True
 import contracts  # noqa: E402, beside this file
+import verdict  # noqa: E402
 
 faults, held = [], 0
 
@@ -118,13 +119,7 @@ def main():
                 print("counts: not held, since its test was left out: %s" % pattern)
             else:
                 faults.append("no test printed a line like %s" % shown)
-    for fault in faults:
-        print("counts: " + fault)
-    if faults:
-        print("counts: FAILED, %d faults" % len(faults))
-        return 1
-    print("counts: %d counts of the documents are those that are there" % held)
-    return 0
+    return verdict.verdict("counts", faults, "%d counts of the documents are those that are there" % held)
 
 
 if __name__ == "__main__":

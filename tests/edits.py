@@ -14,6 +14,9 @@ import pathlib
 import re
 import sys
 
+sys.dont_write_bytecode = True
+import verdict  # noqa: E402, beside this file
+
 ERROR = re.compile(r"^(?P<path>[^\s:]+\.(?:rt|antt)):(?P<line>\d+):\d+: error(?P<code>\[[^\]]*\])?: (?:`(?P<name>[^`\s]+)`: )?(?P<text>.*)$", re.M)
 
 # messages that tell nothing of the statement: the text is wrong, or the prover stopped at a limit
@@ -139,13 +142,8 @@ def main():
         lesser += not counts
     if not edits:
         faults.append("no edit was found")
-    for fault in faults:
-        print("edits: " + fault)
-    if faults:
-        print("edits: FAILED, %d faults" % len(faults))
-        return 1
-    print("edits: %d edits, %d refused first at a promised result, an invariant or a law, %d for a reason that they name; %d wrong logs reported" % (len(edits), len(edits) - lesser, lesser, len(BAD)))
-    return 0
+    told = "%d edits, %d refused first at a promised result, an invariant or a law, %d for a reason that they name; %d wrong logs reported"
+    return verdict.verdict("edits", faults, told % (len(edits), len(edits) - lesser, lesser, len(BAD)))
 
 
 if __name__ == "__main__":

@@ -17,6 +17,7 @@ import sys
 sys.dont_write_bytecode = True
 import contracts  # noqa: E402, beside this file
 import left_out  # noqa: E402
+import verdict  # noqa: E402
 
 TRACE = pathlib.Path("docs/TRACE.md")
 SCOPE = pathlib.Path(os.environ.get("EXFAT_SCOPE", "../shared/docs/01-scope.md"))
@@ -199,13 +200,7 @@ def main():
     else:
         print("trace: NOT COMPARED WITH 01, which is not at %s (EXFAT_SCOPE names another file)" % SCOPE)
         left_out.left_out("docs/TRACE.md was not compared with 01, which is not at %s" % SCOPE)
-    for fault in faults:
-        print("trace: " + fault)
-    if faults:
-        print("trace: FAILED, %d faults" % len(faults))
-        return 1
-    print("trace: %d sentences, %d names, all there" % (count, len(cited)))
-    return 0
+    return verdict.verdict("trace", faults, "%d sentences, %d names, all there" % (count, len(cited)))
 
 
 if __name__ == "__main__":
