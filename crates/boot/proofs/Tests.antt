@@ -1,25 +1,14 @@
 -- Tests and facts: what the parts of a list of tests say. Assumes nothing.
 use mathlib.Core.Path.{_≡_, refl}
 use mathlib.Core.List.{List, [], _∷_}
-use mathlib.Core.Bool.{Bool, true, false, _&&_, false≢true}
+use mathlib.Core.Bool.{Bool, true}
+use Rattle.tables.proofs.Cases.{and-left, and-right, and-both}
 use Rattle.boot.specs.Limits.{all}
 
 -- each test of a list holds
 abbrev pub Each : List Bool → Type 0
 Each [] = Unit
 Each (b ∷ bs) = (b ≡ true) × Each bs
-
-pub and-left : (a b : Bool) → a && b ≡ true → a ≡ true
-and-left true b e = refl
-and-left false b e = e
-
-pub and-right : (a b : Bool) → a && b ≡ true → b ≡ true
-and-right true b e = e
-and-right false b e = absurd (false≢true e)
-
-pub and-both : (a b : Bool) → a ≡ true → b ≡ true → a && b ≡ true
-and-both true b p q = q
-and-both false b p q = p
 
 pub each-of : (bs : List Bool) → all bs ≡ true → Each bs
 each-of [] e = tt

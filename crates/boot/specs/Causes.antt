@@ -1,8 +1,8 @@
 -- The number of a call: the first of its causes that is met (01, "What a call answers"). 0 is success.
 use mathlib.Core.Bool.{cond}
 use mathlib.Core.List.{List, [], _∷_}
-use Prim.Native.Nat.{ℕ}
-use lib.Dec.{eqb}
+use Prim.Native.Nat.{ℕ, _+_}
+use lib.Dec.{eqb, ltb}
 use lib.ListN.{length}
 use Rattle.boot.specs.declared.geometry.Geometry.{Geometry}
 use Rattle.boot.specs.Limits.{limits}
@@ -20,3 +20,11 @@ limitsCause g d m = cond (limits g (length d) m) 0 1
 -- 2: a hint, a near or a root cluster outside 2..C+1
 unfoldable pub heapCause : ℕ → ℕ → ℕ
 heapCause C k = cond (inHeap C k) 0 2
+
+-- 7: more clusters are wanted than there are
+unfoldable pub spaceCause : ℕ → ℕ → ℕ
+spaceCause wanted there = cond (ltb there wanted) 7 0
+
+-- the hint after cluster k - 1: k, or 2 after cluster C + 1
+unfoldable pub wrap : ℕ → ℕ → ℕ
+wrap C k = cond (ltb k (C + 2)) k 2

@@ -18,20 +18,17 @@ use Rattle.boot.proofs.Apart.{in-heap}
 use Rattle.metadata.specs.Fat.{fatEntry}
 use Rattle.metadata.specs.Marks.{marked}
 use Rattle.metadata.specs.Cluster.{clusterByte}
-use Rattle.metadata.proofs.Frame.{Fits}
+use Rattle.metadata.proofs.Frame.{Fits, small}
 use Rattle.stream.specs.declared.allocation.Allocation.{Allocation}
 use Rattle.stream.specs.Along.{after, along}
-use Rattle.stream.specs.Bytes.{clusterBytes, bytesOf, reached}
-use Rattle.stream.specs.Stream.{numberOf, streamOf}
-use Rattle.stream.specs.Listing.{clustersOf}
+use Rattle.stream.specs.Bytes.{clusterBytes, bytesOf, reached, bytesIn}
+use Rattle.stream.specs.Stream.{numberOf, streamOf, clustersOf}
 use Rattle.stream.proofs.StreamLaws.{length-along, along-head}
 use Rattle.stream.proofs.BytesSteps.{every-from}
 use Rattle.stream.proofs.BytesLaws.{length-of, byte-of}
 use Rattle.stream.proofs.ListingLaws.{stream-read, along-heap}
 use Rattle.stream.proofs.Distinct.{few, read-length, read-distinct}
-use Rattle.write_alloc.proofs.GrowLaws.{small}
 use Rattle.directory.specs.declared.entries.Cursor.{Cursor}
-use Rattle.directory.specs.Directory.{bytesIn}
 use Rattle.directory.specs.Entries.{entryCount, typeAt, inUse}
 use Rattle.directory.specs.Cursor.{nextEntry, entryAt}
 use Rattle.directory.proofs.DirectoryLaws.{clusters-along}

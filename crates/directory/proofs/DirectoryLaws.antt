@@ -19,15 +19,13 @@ use Rattle.stream.specs.declared.allocation.Allocation.{Allocation}
 use Rattle.stream.specs.declared.walk.Walked.{Walked}
 use Rattle.stream.specs.Along.{after, along}
 use Rattle.stream.specs.Chain.{Clusters, listed, refused, readChain}
-use Rattle.stream.specs.Stream.{numberOf, streamOf, checkChain, walked}
-use Rattle.stream.specs.Listing.{clustersOf}
+use Rattle.stream.specs.Stream.{numberOf, streamOf, checkChain, walked, clustersOf, empty, clustersIn}
 use Rattle.stream.proofs.ChainLaws.{chain-out, stream-chain, stream-not-zero}
 use Rattle.stream.proofs.StreamLaws.{read-chain-facts}
 use Rattle.stream.proofs.ListingLaws.{stream-read}
 use Rattle.stream.proofs.Distinct.{read-length}
-use Rattle.write_alloc.specs.Outcome.{empty}
 use Rattle.directory.specs.declared.directory.Directory.{Directory}
-use Rattle.directory.specs.Directory.{chainRecord, rootRecord, bitmapCause, directoryCause, openRoot, clustersIn}
+use Rattle.directory.specs.Directory.{chainRecord, rootRecord, bitmapCause, directoryCause, openRoot}
 
 -- ---- the clusters of a directory
 

@@ -17,13 +17,12 @@ use Rattle.metadata.specs.Fat.{fatEntry}
 use Rattle.metadata.proofs.Frame.{Fits}
 use Rattle.stream.specs.declared.allocation.Allocation.{Allocation}
 use Rattle.stream.specs.Along.{after, along}
-use Rattle.stream.specs.Bytes.{clusterBytes, bytesOf}
+use Rattle.stream.specs.Bytes.{clusterBytes, bytesOf, bytesIn}
 use Rattle.stream.specs.Stream.{numberOf, streamOf}
 use Rattle.stream.proofs.StreamLaws.{along-step, along-head, along-rest}
 use Rattle.stream.proofs.BytesSteps.{length-cluster}
-use Rattle.write_alloc.specs.Choice.{allFrom}
-use Rattle.write_alloc.proofs.Runs.{all-none, all-next, all-not}
-use Rattle.directory.specs.Directory.{bytesIn}
+use Rattle.search.specs.Search.{allFrom}
+use Rattle.search.proofs.Runs.{all-none, all-next, all-not}
 use Rattle.directory.specs.Entries.{entryCount, typeAt, beforeEnd}
 use Rattle.directory.proofs.CursorLaws.{bytes-along, dir-heap, entries-is}
 

@@ -13,10 +13,10 @@ use borrow.Author.Tests.{eqb-true, eqb-false, eq-eqb, ne-eqb, leb-true, le-leb, 
 use Rattle.primitives.specs.Bits.{bitOf}
 use Rattle.primitives.specs.Splice.{splice}
 use Rattle.primitives.proofs.SpliceLaws.{length-splice, splice-in, splice-above}
-use Rattle.boot.proofs.Tests.{and-left, and-right, and-both}
+use Rattle.tables.proofs.Cases.{and-left, and-right, and-both}
 use Rattle.entry_set.specs.Fields.{secondaryCount, entryType}
 use Rattle.entry_set.specs.Sound.{wellFormed}
-use Rattle.write_alloc.proofs.ChoiceLaws.{all-whole, whole-all}
+use Rattle.search.proofs.Lowest.{all-whole, whole-all}
 use Rattle.directory.specs.Entries.{entryCount, typeAt, inUse, beforeEnd, isFile, entriesAt, setAt, isSound}
 
 -- ---- in use, and before the end

@@ -11,7 +11,7 @@ use lib.ListN.{length, getD}
 use borrow.Author.Tests.{eqb-true, leb-true}
 use Rattle.primitives.specs.Bits.{bitOf}
 use Rattle.primitives.specs.Checksum.{checksum}
-use Rattle.boot.proofs.Tests.{and-left, and-right}
+use Rattle.tables.proofs.Cases.{and-left, and-right}
 use Rattle.entry_set.specs.Fields.{entryType, secondaryCount, setChecksum, allocationPossible, nameLength, nameEntries}
 use Rattle.entry_set.specs.Sound.{headOk, streamEntryOk, namesOk, lengthsOk, wellFormed}
 

@@ -15,13 +15,13 @@ use borrow.Author.Tests.{not-true}
 use Rattle.entry_set.specs.Fields.{clustersFor}
 use Rattle.entry_set.proofs.LengthLaws.{clusters-hold, clusters-below}
 use Rattle.entry_set.specs.Sound.{wellFormed}
-use Rattle.metadata.specs.declared.usable.Found.{Found}
-use Rattle.metadata.specs.declared.usable.Found.the-variants.{At, Nothing}
-use Rattle.write_alloc.specs.Choice.{allFrom, runFrom}
-use Rattle.write_alloc.proofs.Runs.{run-hit}
-use Rattle.write_alloc.proofs.ChoiceLaws.{Whole, Lowest, all-whole, whole-all, all-cong, run-at, run-nothing, run-cong}
+use Rattle.search.specs.declared.found.Found.{Found}
+use Rattle.search.specs.declared.found.Found.the-variants.{At, Nothing}
+use Rattle.search.specs.Search.{allFrom, runFrom, fewest}
+use Rattle.search.proofs.Runs.{run-hit}
+use Rattle.search.proofs.Lowest.{Whole, Lowest, all-whole, whole-all, all-cong, run-at, run-nothing, run-cong}
 use Rattle.directory.specs.Entries.{entryCount, typeAt, inUse, beforeEnd, isFile, entriesAt, setAt, sets}
-use Rattle.directory.specs.Room.{Row, freeRun, isAt, slotOf, withZeros, fewest, growth}
+use Rattle.directory.specs.Room.{Row, freeRun, isAt, slotOf, withZeros, growth}
 use Rattle.directory.proofs.EntryLaws.{unused-zero, used-same, sound-formed, sound-of, set-is}
 use Rattle.directory.proofs.OrderedLaws.{Ordered, file-room, file-few, file-fit, file-byte}
 use Rattle.directory.proofs.StoreLaws.{sets-file, sets-none}

@@ -8,9 +8,9 @@ use native.Mathlib.Omega.{arith}
 use lib.ListN.{length}
 use borrow.Author.Tests.{not-false}
 use Rattle.entry_set.specs.Fields.{clustersFor}
-use Rattle.metadata.specs.declared.usable.Found.the-variants.{At}
-use Rattle.write_alloc.specs.Choice.{allFrom, usableTail, runFrom}
-use Rattle.write_alloc.proofs.Runs.{tail-pass, tail-fail, tail-bounds, tail-rest, tail-last, run-skip}
+use Rattle.search.specs.declared.found.Found.the-variants.{At}
+use Rattle.search.specs.Search.{allFrom, pastFailing, runFrom}
+use Rattle.search.proofs.Runs.{tail-pass, tail-fail, tail-bounds, tail-rest, tail-last, run-skip}
 use Rattle.directory.specs.Entries.{entryCount, inUse}
 use Rattle.directory.specs.Room.{freeRun, slotOf, withZeros, growth, roomFor}
 use Rattle.directory.proofs.GrowthLaws.{place-end, place-hit, growth-is, grown-at, growth-zero}
@@ -31,26 +31,26 @@ module _ (bs : List ℕ) (base k : ℕ) (l : base ≤ k) where
   back : k + 1 - 1 ≡ k
   back = omega arith
 
-  pub tail-used : inUse bs k ≡ true → usableTail (λ i. not (inUse bs i)) base (k + 1 - base) ≡ k + 1
+  pub tail-used : inUse bs k ≡ true → pastFailing (λ i. not (inUse bs i)) base (k + 1 - base) ≡ k + 1
   tail-used e = tail-fail free base (k + 1) (omega arith) (ap free back ∙ ap not e)
 
-  pub tail-free : inUse bs k ≡ false → usableTail (λ i. not (inUse bs i)) base (k + 1 - base) ≡ usableTail (λ i. not (inUse bs i)) base (k - base)
-  tail-free e = sym (tail-pass free base (k + 1) (omega arith) (ap free back ∙ ap not e)) ∙ ap (λ (x : ℕ). usableTail free base (x - base)) back
+  pub tail-free : inUse bs k ≡ false → pastFailing (λ i. not (inUse bs i)) base (k + 1 - base) ≡ pastFailing (λ i. not (inUse bs i)) base (k - base)
+  tail-free e = sym (tail-pass free base (k + 1) (omega arith) (ap free back ∙ ap not e)) ∙ ap (λ (x : ℕ). pastFailing free base (x - base)) back
 
 -- a window of n entries from base, t being one past its last entry in use
 module _ (bs : List ℕ) (base n : ℕ) where
-  pub window-used : 1 ≤ n → inUse bs (base + (n - 1)) ≡ true → base + n ≡ usableTail (λ i. not (inUse bs i)) base n
+  pub window-used : 1 ≤ n → inUse bs (base + (n - 1)) ≡ true → base + n ≡ pastFailing (λ i. not (inUse bs i)) base n
   window-used h e =
       let q : n ≡ base + (n - 1) + 1 - base = omega arith in
-      sym (ap (usableTail (λ i. not (inUse bs i)) base) q ∙ tail-used bs base (base + (n - 1)) (omega arith) e ∙ omega arith)
+      sym (ap (pastFailing (λ i. not (inUse bs i)) base) q ∙ tail-used bs base (base + (n - 1)) (omega arith) e ∙ omega arith)
 
-  pub window-free : 1 ≤ n → inUse bs (base + (n - 1)) ≡ false → usableTail (λ i. not (inUse bs i)) base (n - 1) ≡ usableTail (λ i. not (inUse bs i)) base n
+  pub window-free : 1 ≤ n → inUse bs (base + (n - 1)) ≡ false → pastFailing (λ i. not (inUse bs i)) base (n - 1) ≡ pastFailing (λ i. not (inUse bs i)) base n
   window-free h e =
       let q : n ≡ base + (n - 1) + 1 - base = omega arith in
       let r : base + (n - 1) - base ≡ n - 1 = omega arith in
-      sym (ap (usableTail (λ i. not (inUse bs i)) base) q ∙ tail-free bs base (base + (n - 1)) (omega arith) e ∙ ap (usableTail (λ i. not (inUse bs i)) base) r)
+      sym (ap (pastFailing (λ i. not (inUse bs i)) base) q ∙ tail-free bs base (base + (n - 1)) (omega arith) e ∙ ap (pastFailing (λ i. not (inUse bs i)) base) r)
 
-  module _ (t : ℕ) (q : t ≡ usableTail (λ i. not (inUse bs i)) base n) where
+  module _ (t : ℕ) (q : t ≡ pastFailing (λ i. not (inUse bs i)) base n) where
     pub window-in : (base ≤ t) × (t ≤ base + n)
     window-in = let b = tail-bounds (λ i. not (inUse bs i)) base n in omega arith
 

@@ -19,8 +19,8 @@ use Rattle.tables.proofs.Cases.{clash, not-so}
 use Rattle.tables.proofs.TableLaws.{upd-case}
 use Rattle.entry_set.specs.Fields.{entryType, secondaryCount}
 use Rattle.entry_set.specs.Sound.{wellFormed}
-use Rattle.metadata.specs.declared.usable.Found.the-variants.{At}
-use Rattle.write_alloc.proofs.ChoiceLaws.{Lowest, run-at}
+use Rattle.search.specs.declared.found.Found.the-variants.{At}
+use Rattle.search.proofs.Lowest.{Lowest, run-at}
 use Rattle.directory.specs.Entries.{entryCount, typeAt, inUse, beforeEnd, isFile, entriesAt, setAt, isSound, sets}
 use Rattle.directory.specs.Room.{freeRun}
 use Rattle.directory.proofs.EntryLaws.{used-file, unused-zero, used-same, before-at, before-of, file-before, file-type, file-of, sound-formed, sound-of, set-is}

@@ -11,10 +11,7 @@ use Rattle.boot.specs.Causes.{firstCause}
 use Rattle.metadata.specs.Fat.{fatEntry}
 use Rattle.stream.specs.declared.allocation.Allocation.{Allocation}
 use Rattle.stream.specs.Chain.{Clusters, listed, refused, readChain}
-use Rattle.stream.specs.Stream.{numberOf, streamOf}
-use Rattle.stream.specs.Listing.{clustersOf}
-use Rattle.stream.specs.Bytes.{bytesOf}
-use Rattle.write_alloc.specs.Outcome.{empty}
+use Rattle.stream.specs.Stream.{numberOf, streamOf, clustersOf, empty}
 use Rattle.directory.specs.declared.directory.Directory.{Directory}
 
 -- the record of a chain that is walked whole; of one that is refused, a record that is refused with the same number
@@ -40,11 +37,3 @@ openRoot y d root =
     let a = rootRecord y d root in
     let n = directoryCause y d a in
     cond (eqb n 0) (record { number = 0; allocation = a }) (record { number = n; allocation = empty })
-
--- a stream's clusters, none where it is refused
-unfoldable pub clustersIn : Layout → List ℕ → Allocation → List ℕ
-clustersIn y d a = clustersOf (streamOf y d a)
-
--- a stream's bytes
-unfoldable pub bytesIn : Layout → List ℕ → Allocation → List ℕ
-bytesIn y d a = bytesOf y d (clustersIn y d a)

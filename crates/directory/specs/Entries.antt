@@ -8,7 +8,7 @@ use lib.ListN.{length, getD, take, drop, replicate}
 use Rattle.primitives.specs.Bits.{bitOf}
 use Rattle.primitives.specs.Splice.{splice}
 use Rattle.entry_set.specs.Sound.{wellFormed}
-use Rattle.write_alloc.specs.Choice.{allFrom}
+use Rattle.search.specs.Search.{allFrom}
 
 -- how many entries there are
 unfoldable pub entryCount : List ℕ → ℕ

@@ -1,12 +1,12 @@
 -- Where a new set goes: its slot, and the clusters that the directory grows by for it (01, "New file"; Rust: `free_run`).
 use mathlib.Core.Path.{_≡_}
-use mathlib.Core.Bool.{Bool, true, false, not, cond}
+use mathlib.Core.Bool.{Bool, true, false, not}
 use mathlib.Core.List.{List, _++_}
-use Prim.Native.Nat.{ℕ, zero, suc, _+_, _*_, _≤_, _<_}
+use Prim.Native.Nat.{ℕ, _+_, _*_, _≤_, _<_}
 use lib.ListN.{replicate}
-use Rattle.metadata.specs.declared.usable.Found.{Found}
-use Rattle.metadata.specs.declared.usable.Found.the-variants.{At, Nothing}
-use Rattle.write_alloc.specs.Choice.{runFrom}
+use Rattle.search.specs.declared.found.Found.{Found}
+use Rattle.search.specs.declared.found.Found.the-variants.{At, Nothing}
+use Rattle.search.specs.Search.{runFrom}
 use Rattle.directory.specs.declared.entries.Room.{Room}
 use Rattle.directory.specs.Entries.{entryCount, inUse}
 
@@ -31,11 +31,6 @@ slotOf Nothing = 0
 -- the bytes of a directory that grew by g zeroed clusters
 unfoldable pub withZeros : List ℕ → ℕ → List ℕ
 withZeros bs n = bs ++ replicate n 0
-
--- the least of the numbers g, g + 1, .. that a test takes, n of them tried
-unfoldable pub fewest : (ℕ → Bool) → ℕ → ℕ → ℕ
-fewest p zero g = g
-fewest p (suc n) g = cond (p g) g (fewest p n (g + 1))
 
 -- the fewest zeroed clusters that give the directory n such entries in a row: n clusters always do
 unfoldable pub growth : ℕ → List ℕ → ℕ → ℕ

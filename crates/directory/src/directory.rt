@@ -9,8 +9,7 @@ ghost use Rattle.metadata.specs.Fat.{fatEntry};
 ghost use Rattle.metadata.specs.Marks.{marked};
 ghost use Rattle.stream.specs.Along.{along};
 ghost use Rattle.stream.specs.Chain.{readChain};
-ghost use Rattle.stream.specs.Stream.{walked};
-ghost use Rattle.write_alloc.specs.Outcome.{empty};
+ghost use Rattle.stream.specs.Stream.{walked, empty};
 ghost use Rattle.directory.specs.Directory.{bitmapCause, openRoot};
 use boot::layout::Layout;
 use stream::allocation::Allocation;
@@ -33,7 +32,7 @@ fn bitmap_cause(vol: &[u8], y: Layout, run: bool, first: u32, n: u32) -> u32
         if boot::layout::is_bitmap_cluster(y, k) {
             return 9;
         }
-        k = stream::list::next_cluster(vol, y, run, k);
+        k = stream::walk::next_cluster(vol, y, run, k);
         left -= 1;
     }
     0

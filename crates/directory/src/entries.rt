@@ -8,10 +8,9 @@ ghost use Rattle.primitives.specs.Bits.{bitOf};
 ghost use Rattle.boot.specs.Layout.{Laid, Apart};
 ghost use Rattle.metadata.specs.Fat.{fatEntry};
 ghost use Rattle.metadata.specs.Cluster.{clusterByte};
-ghost use Rattle.stream.specs.Bytes.{clusterBytes};
+ghost use Rattle.stream.specs.Bytes.{clusterBytes, bytesIn};
 ghost use Rattle.stream.specs.Stream.{numberOf, streamOf};
-ghost use Rattle.directory.specs.Directory.{bytesIn};
-ghost use Rattle.write_alloc.specs.Choice.{usableTail};
+ghost use Rattle.search.specs.Search.{pastFailing};
 ghost use Rattle.directory.specs.Entries.{entryCount, inUse, beforeEnd};
 ghost use Rattle.directory.specs.Cursor.{nextEntry, entryAt, pastUsed};
 ghost use Rattle.directory.specs.Room.{roomFor};
@@ -64,7 +63,7 @@ fn advance(vol: &[u8], y: Layout, run: bool, e: Cursor) -> Cursor
             at: e.at + 32,
         };
     }
-    let next = stream::list::next_cluster(vol, y, run, e.cluster);
+    let next = stream::walk::next_cluster(vol, y, run, e.cluster);
     Cursor {
         cluster: next,
         at: 0,
@@ -115,7 +114,7 @@ pub fn before_end(vol: &[u8], y: Layout, dir: Allocation, slot: u32) -> bool
     let mut left = slot;
     while per <= left {
         if none_ends_in(vol, y, k, per) {
-            k = stream::list::next_cluster(vol, y, dir.no_fat_chain, k);
+            k = stream::walk::next_cluster(vol, y, dir.no_fat_chain, k);
             left -= per;
         } else {
             return false;
@@ -136,7 +135,7 @@ fn skip(vol: &[u8], y: Layout, dir: Allocation, e: Cursor, k: u32, m: u32) -> Cu
     let mut cluster = e.cluster;
     let mut more = (e.at / 32) as u32 + m;
     while per <= more {
-        cluster = stream::list::next_cluster(vol, y, dir.no_fat_chain, cluster);
+        cluster = stream::walk::next_cluster(vol, y, dir.no_fat_chain, cluster);
         more -= per;
     }
     Cursor {
@@ -148,7 +147,7 @@ fn skip(vol: &[u8], y: Layout, dir: Allocation, e: Cursor, k: u32, m: u32) -> Cu
 // The last in use of the n entries from entry base, which e is: one past it, or base where none is.
 fn last_used(vol: &[u8], y: Layout, dir: Allocation, e: Cursor, base: u32, n: u32) -> Tail
     requires { ⌜ Laid y × ((length (now vol) ≡ y .len) × (Apart y × ((numberOf (streamOf y (now vol) dir) ≡ 0) × ((e ≡ entryAt y (fatEntry y (now vol)) (dir .«no_fat_chain») (dir .first) base) × (base + n ≤ entryCount (bytesIn y (now vol) dir)))))) ⌝ }
-    ensures { λ r. ⌜ (r .slot ≡ usableTail (λ i. not (inUse (bytesIn y (now (vol .entry)) dir) i)) base n) × (r .entry ≡ entryAt y (fatEntry y (now (vol .entry))) (dir .«no_fat_chain») (dir .first) (r .slot)) ⌝ }
+    ensures { λ r. ⌜ (r .slot ≡ pastFailing (λ i. not (inUse (bytesIn y (now (vol .entry)) dir) i)) base n) × (r .entry ≡ entryAt y (fatEntry y (now (vol .entry))) (dir .«no_fat_chain») (dir .first) (r .slot)) ⌝ }
 {
     let mut at = e;
     let mut tail = e;
@@ -178,7 +177,7 @@ fn last_used(vol: &[u8], y: Layout, dir: Allocation, e: Cursor, base: u32, n: u3
 // The same, where the last of the n entries is looked at first.
 fn past_used(vol: &[u8], y: Layout, dir: Allocation, e: Cursor, base: u32, n: u32) -> Tail
     requires { ⌜ Laid y × ((length (now vol) ≡ y .len) × (Apart y × ((numberOf (streamOf y (now vol) dir) ≡ 0) × ((e ≡ entryAt y (fatEntry y (now vol)) (dir .«no_fat_chain») (dir .first) base) × ((1 ≤ n) × ((n ≤ 19) × (base + n ≤ entryCount (bytesIn y (now vol) dir)))))))) ⌝ }
-    ensures { λ r. ⌜ (r .slot ≡ usableTail (λ i. not (inUse (bytesIn y (now (vol .entry)) dir) i)) base n) × (r .entry ≡ entryAt y (fatEntry y (now (vol .entry))) (dir .«no_fat_chain») (dir .first) (r .slot)) ⌝ }
+    ensures { λ r. ⌜ (r .slot ≡ pastFailing (λ i. not (inUse (bytesIn y (now (vol .entry)) dir) i)) base n) × (r .entry ≡ entryAt y (fatEntry y (now (vol .entry))) (dir .«no_fat_chain») (dir .first) (r .slot)) ⌝ }
 {
     let last = skip(vol, y, dir, e, base, n - 1);
     if in_use(vol, y, last) {
@@ -239,7 +238,7 @@ fn pass_used(vol: &[u8], y: Layout, dir: Allocation, e: Cursor, base: u32, n: u3
             entry: here,
         };
     }
-    let cluster = stream::list::next_cluster(vol, y, dir.no_fat_chain, e.cluster);
+    let cluster = stream::walk::next_cluster(vol, y, dir.no_fat_chain, e.cluster);
     let next = Cursor {
         cluster: cluster,
         at: 0,

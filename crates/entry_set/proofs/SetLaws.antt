@@ -18,7 +18,7 @@ use Rattle.primitives.proofs.BitLaws.{set-other, clear-same}
 use Rattle.primitives.proofs.ChecksumLaws.{checksum-same, sealed-right}
 use Rattle.primitives.proofs.WordLaws.{get-same}
 use Rattle.boot.specs.Layout.{inHeap}
-use Rattle.boot.proofs.Tests.{and-left, and-right}
+use Rattle.tables.proofs.Cases.{and-left, and-right}
 use Rattle.entry_set.specs.declared.stamp.Stamp.{Stamp}
 use Rattle.entry_set.specs.declared.stamp.Stamps.{Stamps}
 use Rattle.entry_set.specs.Fields.{entryType, secondaryCount, setChecksum, isDirectory, allocationPossible, noFatChain, nameLength, validLength, firstCluster, dataLength, clustersFor, nameEntries}

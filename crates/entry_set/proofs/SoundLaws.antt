@@ -10,9 +10,8 @@ use borrow.Author.Tests.{eq-eqb, ne-eqb, le-leb, lt-leb, leb-true, eqb-true, eqb
 use lib.Dec.{eqb, leb}
 use lib.ListN.{getD}
 use Rattle.primitives.specs.Checksum.{checksum}
-use Rattle.tables.proofs.Cases.{not-so}
+use Rattle.tables.proofs.Cases.{not-so, and-left, and-right}
 use Rattle.boot.specs.Layout.{inHeap}
-use Rattle.boot.proofs.Tests.{and-left, and-right}
 use Rattle.entry_set.specs.Fields.{entryType, secondaryCount, setChecksum, allocationPossible, noFatChain, nameLength, validLength, firstCluster, dataLength, clustersFor, nameEntries}
 use Rattle.entry_set.specs.Sound.{headOk, streamEntryOk, namesOk, lengthsOk, wellFormed}
 

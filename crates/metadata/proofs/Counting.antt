@@ -19,7 +19,7 @@ use Rattle.boot.specs.declared.layout.Layout.{Layout}
 use Rattle.boot.specs.Limits.{inMap}
 use Rattle.boot.specs.Layout.{inHeap}
 use borrow.Author.Tests.{not-true, eqb-false}
-use Rattle.boot.proofs.Tests.{and-left, and-right}
+use Rattle.tables.proofs.Cases.{and-left, and-right}
 use Rattle.boot.proofs.Apart.{in-heap, heap-in}
 use Rattle.metadata.specs.Fat.{BAD, fatEntry, setFat}
 use Rattle.metadata.specs.Marks.{markByte, marked, setMark, allocatedCount, freeCount}

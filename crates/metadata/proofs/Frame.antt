@@ -243,3 +243,7 @@ module _ (y : Layout) (d : List ℕ) (w : Fits y d) where
       (λ s b e. by-active
       (λ _ p. bitmap0-cluster y (w .laid) (w .apart) k ((i - 2) / 8) (j + s) h o (omega arith) (omega arith) (omega arith))
       (λ _ _ p. bitmap1-cluster y (w .laid) (w .apart) k ((i - 2) / 8) (j + s) h o (omega arith) (omega arith) (omega arith))))
+
+-- the clusters of a heap are not the end of a chain
+pub small : (y : Layout) (d : List ℕ) → Fits y d → y .count + 2 ≤ END
+small y d w = let l = w .laid in omega (arith, l .count-high)

@@ -4,8 +4,3 @@ pub mod FullLaws
 pub mod View
 pub mod Counting
 pub mod Keeps
-pub mod RegionLaws
-pub mod OuterKeeps
-pub mod BitmapKeeps
-pub mod TwinKeeps
-pub mod IntactKeeps

@@ -16,8 +16,8 @@ use Rattle.boot.specs.declared.geometry.Geometry.{Geometry}
 use Rattle.boot.specs.declared.layout.Layout.{Layout}
 use Rattle.boot.specs.Limits.{inMap, limits}
 use Rattle.boot.specs.Layout.{layoutOf}
-use Rattle.metadata.specs.declared.usable.Found.{Found}
-use Rattle.metadata.specs.declared.usable.Found.the-variants.{At, Nothing}
+use Rattle.search.specs.declared.found.Found.{Found}
+use Rattle.search.specs.declared.found.Found.the-variants.{At, Nothing}
 use Rattle.metadata.specs.declared.free.FreeCount.{FreeCount}
 use Rattle.metadata.specs.Fat.{BAD, entryOf, fatEntry, setFat}
 use Rattle.metadata.specs.Marks.{marked, putByte, allocatedCount, freeCount}

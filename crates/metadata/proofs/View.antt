@@ -14,7 +14,7 @@ use Rattle.tables.specs.Table.{upd, updFrom, only}
 use Rattle.tables.proofs.TableLaws.{only-in, only-cong, only-upd, from-other, from-same}
 use Rattle.boot.specs.declared.layout.Layout.{Layout}
 use Rattle.boot.specs.Layout.{inHeap, isBitmapCluster}
-use Rattle.boot.proofs.Tests.{and-left, and-right}
+use Rattle.tables.proofs.Cases.{and-left, and-right}
 use Rattle.boot.proofs.Apart.{in-heap}
 use Rattle.metadata.specs.Fat.{fatEntry, setFat}
 use Rattle.metadata.specs.Marks.{marked, setMark}

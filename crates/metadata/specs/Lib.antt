@@ -3,6 +3,3 @@ pub mod Marks
 pub mod Usable
 pub mod Free
 pub mod Cluster
-pub mod Outer
-pub mod Copies
-pub mod Kept

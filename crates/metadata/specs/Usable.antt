@@ -5,8 +5,8 @@ use Prim.Native.Nat.{ℕ, zero, suc, _+_}
 use lib.Dec.{eqb}
 use Rattle.boot.specs.declared.layout.Layout.{Layout}
 use Rattle.boot.specs.Limits.{inMap}
-use Rattle.metadata.specs.declared.usable.Found.{Found}
-use Rattle.metadata.specs.declared.usable.Found.the-variants.{At, Nothing}
+use Rattle.search.specs.declared.found.Found.{Found}
+use Rattle.search.specs.declared.found.Found.the-variants.{At, Nothing}
 use Rattle.metadata.specs.Fat.{BAD, fatEntry}
 use Rattle.metadata.specs.Marks.{marked}
 

@@ -6,12 +6,7 @@ ghost use Rattle.boot.specs.Layout.{Laid};
 ghost use Rattle.metadata.specs.Fat.{fatEntry, entryOf};
 ghost use Rattle.metadata.specs.Usable.{firstBad, isFree, isUsable};
 use boot::layout::Layout;
-
-// The first cluster of a search, or none.
-pub enum Found {
-    At(u32),
-    Nothing,
-}
+use search::found::Found;
 
 // The first of the n entries from k that is bad. It sees only a FAT's part of the volume.
 fn first_bad(fat: &[u8], first: u32, n: u32) -> Found

@@ -13,8 +13,7 @@ use lib.ListN.{length, take, drop, set, length-append}
 use Rattle.primitives.specs.Splice.{splice}
 use Rattle.primitives.specs.Words.{getLe}
 use Rattle.primitives.proofs.SpliceLaws.{splice-turn, splice-front}
-use Rattle.tables.proofs.Cases.{clash, and-true}
-use Rattle.boot.proofs.Tests.{and-left, and-right}
+use Rattle.tables.proofs.Cases.{clash, and-true, and-left, and-right}
 use Rattle.write.specs.Calls.{Call}
 use Rattle.replay.specs.Replay.{kindAt, ownAt, unitsAt, nextAt, kindOk, callOk, callAt, before, callsFrom, callsOf, callsIn, wellFormed, counted}
 use Rattle.replay.specs.declared.parse.Counted.{Counted}

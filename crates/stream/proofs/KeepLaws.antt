@@ -16,8 +16,7 @@ use Rattle.metadata.proofs.View.{plain}
 use Rattle.metadata.proofs.Keeps.{Keeps, Went, put-on}
 use Rattle.stream.specs.declared.allocation.Allocation.{Allocation}
 use Rattle.stream.specs.Chain.{listed}
-use Rattle.stream.specs.Stream.{numberOf, streamOf}
-use Rattle.stream.specs.Listing.{clustersOf}
+use Rattle.stream.specs.Stream.{numberOf, streamOf, clustersOf}
 use Rattle.stream.specs.Bytes.{storeAt}
 use Rattle.stream.proofs.ChainLaws.{stream-listed}
 use Rattle.stream.proofs.ListingLaws.{stream-read}

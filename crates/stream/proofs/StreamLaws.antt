@@ -13,9 +13,8 @@ use Rattle.primitives.specs.Splice.{splice}
 use Rattle.primitives.proofs.SpliceLaws.{splice-turn}
 use Rattle.tables.specs.Lists.{every, lastOr, consec}
 use Rattle.tables.proofs.ListLaws.{every-cons, every-head, every-tail}
-use Rattle.tables.proofs.Cases.{clash}
+use Rattle.tables.proofs.Cases.{clash, and-left, and-right}
 use Rattle.boot.specs.Layout.{inHeap}
-use Rattle.boot.proofs.Tests.{and-left, and-right}
 use Rattle.metadata.specs.Fat.{END}
 use Rattle.stream.specs.declared.allocation.Allocation.{Allocation}
 use Rattle.stream.specs.declared.walk.Next.{Next}

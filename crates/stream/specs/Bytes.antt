@@ -12,6 +12,7 @@ use Rattle.metadata.specs.Cluster.{putBytes}
 use Rattle.stream.specs.declared.allocation.Allocation.{Allocation}
 use Rattle.stream.specs.declared.bytes.Place.{Place}
 use Rattle.stream.specs.Along.{after}
+use Rattle.stream.specs.Stream.{clustersIn}
 
 -- the bytes of cluster k
 unfoldable pub clusterBytes : Layout → List ℕ → ℕ → List ℕ
@@ -21,6 +22,10 @@ clusterBytes y d k = take (y .size) (drop (clusterAt y k) d)
 unfoldable pub bytesOf : Layout → List ℕ → List ℕ → List ℕ
 bytesOf y d [] = []
 bytesOf y d (k ∷ ks) = clusterBytes y d k ++ bytesOf y d ks
+
+-- a stream's bytes
+unfoldable pub bytesIn : Layout → List ℕ → Allocation → List ℕ
+bytesIn y d a = bytesOf y d (clustersIn y d a)
 
 -- the volume with bytes stored in a list of clusters, from byte `at` of the list's bytes on
 unfoldable pub storeAt : Layout → List ℕ → List ℕ → ℕ → List ℕ → List ℕ

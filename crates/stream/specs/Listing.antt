@@ -10,17 +10,12 @@ use Rattle.boot.specs.declared.layout.Layout.{Layout}
 use Rattle.boot.specs.Layout.{layoutOf}
 use Rattle.boot.specs.Causes.{firstCause, limitsCause}
 use Rattle.stream.specs.declared.allocation.Allocation.{Allocation}
-use Rattle.stream.specs.Chain.{Clusters, listed, refused}
+use Rattle.stream.specs.Chain.{refused}
 use Rattle.stream.specs.Stream.{numberOf, streamOf}
 
 -- 14: the list is shorter than the stream's count
 unfoldable pub roomCause : Allocation → ℕ → ℕ
 roomCause a room = cond (ltb room (a .count)) 14 0
-
--- the clusters of a stream that is not refused
-abbrev pub clustersOf : Clusters → List ℕ
-clustersOf (listed ks) = ks
-clustersOf (refused n) = []
 
 -- on a volume that keeps the limits: 14, then the record's own causes
 unfoldable pub listedNumber : Layout → List ℕ → Allocation → ℕ → ℕ

@@ -1,11 +1,12 @@
 -- A stream record read as its clusters, or the number of what refuses it (01, "Streams").
-use mathlib.Core.Bool.{Bool, true, false, _&&_, cond}
+use mathlib.Core.Bool.{Bool, true, false, _&&_, not, cond}
 use mathlib.Core.List.{List, []}
 use Prim.Native.Nat.{ℕ, zero, suc, _+_}
 use lib.Dec.{eqb}
 use lib.ListN.{length}
 use Rattle.tables.specs.Lists.{every, lastOr, consec}
 use Rattle.boot.specs.declared.layout.Layout.{Layout}
+use Rattle.boot.specs.Limits.{inMap}
 use Rattle.boot.specs.Layout.{inHeap}
 use Rattle.metadata.specs.Fat.{fatEntry}
 use Rattle.metadata.specs.Marks.{marked}
@@ -17,6 +18,11 @@ use Rattle.stream.specs.Chain.{Clusters, listed, refused, readChain}
 unfoldable pub numberOf : Clusters → ℕ
 numberOf (listed ks) = 0
 numberOf (refused n) = n
+
+-- the clusters of a stream that is not refused
+abbrev pub clustersOf : Clusters → List ℕ
+clustersOf (listed ks) = ks
+clustersOf (refused n) = []
 
 -- the n clusters from k, in order: the earliest that is outside the heap gives 2, that is not marked gives 6
 unfoldable pub runCause : ℕ → (ℕ → Bool) → ℕ → ℕ → ℕ
@@ -46,6 +52,18 @@ readStream C fat mark a =
 -- a record's clusters on a volume
 unfoldable pub streamOf : Layout → List ℕ → Allocation → Clusters
 streamOf y d a = readStream (y .count) (fatEntry y d) (marked y d) a
+
+-- a stream's clusters, none where it is refused
+unfoldable pub clustersIn : Layout → List ℕ → Allocation → List ℕ
+clustersIn y d a = clustersOf (streamOf y d a)
+
+-- a newly made empty record: 0 throughout, flag clear
+abbrev pub empty : Allocation
+empty = record { first = 0; last = 0; count = 0; «no_fat_chain» = false }
+
+-- 9: a system cluster among those of a list
+unfoldable pub systemCause : List ℕ → List ℕ → ℕ
+systemCause m ks = cond (every (λ k. not (inMap m k)) ks) 0 9
 
 -- what a walk of a chain answers
 unfoldable pub walked : (ℕ → Bool) → Clusters → Walked

@@ -96,7 +96,7 @@ fn store_chain(vol: &mut [u8], y: Layout, first: u32, count: u32, at: usize, src
     let mut more = src.len();
     while 0 < more {
         let m = lesser(y.size - place, more);
-        let next = crate::list::next_cluster(vol, y, false, k);
+        let next = crate::walk::next_cluster(vol, y, false, k);
         put_piece(vol, y, k, place, src, from, m);
         k = next;
         left -= 1;
@@ -132,7 +132,7 @@ fn fill_from(vol: &mut [u8], y: Layout, run: bool, first: u32, count: u32, at: u
     let mut more = n;
     while 0 < more {
         let m = lesser(y.size - place, more);
-        let next = crate::list::next_cluster(vol, y, run, k);
+        let next = crate::walk::next_cluster(vol, y, run, k);
         put_zeros(vol, y, k, place, m);
         k = next;
         left -= 1;
@@ -164,7 +164,7 @@ fn read_from(
     while 0 < more {
         let m = lesser(y.size - place, more);
         get_piece(vol, y, k, place, dst, put, m);
-        k = crate::list::next_cluster(vol, y, run, k);
+        k = crate::walk::next_cluster(vol, y, run, k);
         left -= 1;
         place = 0;
         put += m;

@@ -2,4 +2,5 @@
 pub mod allocation;
 pub mod bytes;
 pub mod list;
+pub mod system;
 pub mod walk;

@@ -7,22 +7,11 @@ ghost use Rattle.primitives.specs.Splice.{splice};
 ghost use Rattle.tables.specs.Lists.{every};
 ghost use Rattle.boot.specs.Layout.{Laid, inHeap};
 ghost use Rattle.metadata.specs.Fat.{fatEntry};
-ghost use Rattle.stream.specs.Along.{after, along};
+ghost use Rattle.stream.specs.Along.{along};
 ghost use Rattle.stream.specs.Listing.{listedNumber, listedList, listingNumber, listingList};
 use crate::allocation::Allocation;
 use boot::geometry::Geometry;
 use boot::layout::Layout;
-
-// The cluster after k in a stream.
-pub fn next_cluster(vol: &[u8], y: Layout, run: bool, k: u32) -> u32
-    requires { ⌜ Laid y × ((length (now vol) ≡ y .len) × (k < y .count + 2)) ⌝ }
-    ensures { λ r. ⌜ r ≡ after (fatEntry y (now (vol .entry))) run k ⌝ }
-{
-    if run {
-        return k + 1;
-    }
-    metadata::fat::fat_entry(vol, y, k)
-}
 
 // Writes the clusters of a stream to the front of a list.
 fn write_clusters(vol: &[u8], y: Layout, a: Allocation, list: &mut [u32])
@@ -34,7 +23,7 @@ fn write_clusters(vol: &[u8], y: Layout, a: Allocation, list: &mut [u32])
     let mut left = a.count;
     while 0 < left {
         list[i] = k;
-        k = next_cluster(vol, y, a.no_fat_chain, k);
+        k = crate::walk::next_cluster(vol, y, a.no_fat_chain, k);
         i += 1;
         left -= 1;
     }

@@ -7,6 +7,7 @@ ghost use Rattle.boot.specs.Layout.{Laid, inHeap};
 ghost use Rattle.metadata.specs.Fat.{fatEntry};
 ghost use Rattle.metadata.specs.Marks.{marked, pastFull};
 ghost use Rattle.stream.specs.Chain.{nextOf, readChain};
+ghost use Rattle.stream.specs.Along.{after};
 ghost use Rattle.stream.specs.Stream.{runCause, readRun, checkChain, streamOf, numberOf, walked, walkCause};
 use crate::allocation::Allocation;
 use boot::layout::Layout;
@@ -185,4 +186,15 @@ pub fn stream_cause(vol: &[u8], y: Layout, a: Allocation) -> u32
         return read_run(vol, y, a);
     }
     read_chain(vol, y, a)
+}
+
+// The cluster after k in a stream.
+pub fn next_cluster(vol: &[u8], y: Layout, run: bool, k: u32) -> u32
+    requires { ⌜ Laid y × ((length (now vol) ≡ y .len) × (k < y .count + 2)) ⌝ }
+    ensures { λ r. ⌜ r ≡ after (fatEntry y (now (vol .entry))) run k ⌝ }
+{
+    if run {
+        return k + 1;
+    }
+    metadata::fat::fat_entry(vol, y, k)
 }

@@ -1,9 +1,9 @@
 -- The laws of counting. Assumes nothing.
-use mathlib.Core.Path.{_≡_, refl, sym, _∙_, ap, subst}
+use mathlib.Core.Path.{_≡_, refl, sym, _∙_, ap, ap₂, subst}
 use mathlib.Core.Logic.{_≢_, _⊎_, inl, inr}
 use mathlib.Core.Bool.{Bool, true, false, cond}
 use mathlib.Core.List.{List, [], _∷_, _++_}
-use Prim.Native.Nat.{ℕ, zero, suc, _+_, _*_, _≤_, _<_}
+use Prim.Native.Nat.{ℕ, zero, suc, _+_, _-_, _*_, _≤_, _<_}
 use native.Mathlib.Decide.{ℕ-discrete}
 use native.Mathlib.Omega.{arith}
 use native.Mathlib.Numerals.{add-one}
@@ -151,3 +151,42 @@ take-whole p lo (suc n) zero ys l h = absurd (omega arith)
 take-whole p lo (suc n) (suc m) ys l h =
     rw (h lo (omega arith) (omega arith), add-one lo)
     (ap (λ (ks : List ℕ). lo ∷ ks) (take-whole p (suc lo) n m ys (omega arith) (λ k a b. h k (omega arith) (omega arith))))
+
+-- ---- the count from the front
+
+module _ (u : ℕ → Bool) where
+  pub count-none : (lo n : ℕ) → n ≤ 0 → count u lo n ≡ 0
+  unfolding count
+  count-none lo zero h = refl
+  count-none lo (suc n) h = absurd (omega arith)
+
+  count-first : (lo n : ℕ) → count u lo (suc n) ≡ one (u lo) + count u (lo + 1) n
+  unfolding count
+  count-first lo n = rw add-one refl
+
+  pub count-yes : (lo hi : ℕ) → lo < hi → u lo ≡ true → count u lo (hi - lo) ≡ 1 + count u (lo + 1) (hi - (lo + 1))
+  count-yes lo hi h e =
+      ap (count u lo) (omega arith) ∙ count-first lo (hi - (lo + 1)) ∙ ap (λ (b : Bool). one b + count u (lo + 1) (hi - (lo + 1))) e
+
+  count-over : (d lo n : ℕ) → ((j : ℕ) → lo ≤ j → j < lo + d → u j ≡ false) → count u lo (d + n) ≡ count u (lo + d) n
+  count-over zero lo n f = ap₂ (count u) (omega arith) (omega arith)
+  count-over (suc d) lo n f =
+      ap (count u lo) (omega arith) ∙ count-first lo (d + n)
+      ∙ (ap (λ (b : Bool). one b + count u (lo + 1) (d + n)) (f lo (omega arith) (omega arith))
+      ∙ (omega (arith, count-over d (lo + 1) n (λ j a b. f j (omega arith) (omega arith)), ap (λ (x : ℕ). count u x n) (plus d))))
+    where
+      plus : (d : ℕ) → lo + 1 + d ≡ lo + suc d
+      plus d = omega arith
+
+  -- numbers that fail do not count: lo, and those from there to e
+  pub count-beyond : (lo e hi : ℕ) → lo < e → e ≤ hi → u lo ≡ false → ((j : ℕ) → lo + 1 ≤ j → j < e → u j ≡ false)
+      → count u lo (hi - lo) ≡ count u e (hi - e)
+  count-beyond lo e hi h i z f =
+      ap (count u lo) (omega arith) ∙ count-over (e - lo) lo (hi - e) (λ j a b. at j a (omega arith)) ∙ ap (λ (x : ℕ). count u x (hi - e)) (omega arith)
+    where
+      at : (j : ℕ) → lo ≤ j → j < e → u j ≡ false
+      at j a b =
+          elim (ℕ-discrete j lo) [
+            | yes q ↦ ap u q ∙ z
+            | no q ↦ f j (omega arith) b
+          ]

@@ -3,6 +3,7 @@ use mathlib.Core.Path.{_≡_}
 use mathlib.Core.Bool.{Bool, true, _&&_}
 use mathlib.Core.List.{List, [], _∷_}
 use Prim.Native.Nat.{ℕ, zero, suc, _+_}
+use lib.Dec.{eqb}
 
 -- k stands in the list
 pub data Mem (k : ℕ) : List ℕ → Type 0 where
@@ -19,7 +20,7 @@ unfoldable pub every : (ℕ → Bool) → List ℕ → Bool
 every p [] = true
 every p (k ∷ ks) = p k && every p ks
 
--- the last number of the list, or the one before it
+-- the last number of the list; z where it is empty
 unfoldable pub lastOr : ℕ → List ℕ → ℕ
 lastOr z [] = z
 lastOr z (k ∷ ks) = lastOr k ks
@@ -28,3 +29,13 @@ lastOr z (k ∷ ks) = lastOr k ks
 unfoldable pub consec : ℕ → ℕ → List ℕ
 consec k zero = []
 consec k (suc n) = k ∷ consec (k + 1) n
+
+-- each number of a list is the one before it and 1
+unfoldable pub risingFrom : ℕ → List ℕ → Bool
+risingFrom k [] = true
+risingFrom k (j ∷ js) = eqb j (k + 1) && risingFrom j js
+
+-- numbers that rise by one
+unfoldable pub rising : List ℕ → Bool
+rising [] = true
+rising (k ∷ ks) = risingFrom k ks

@@ -6,8 +6,8 @@ use Rattle.primitives.specs.Bits.{bitOf, setBit, clearBit, putBit, bitAt, count
 use Rattle.primitives.specs.Splice.{splice}
 use Rattle.primitives.specs.Words.{getLe, putLe}
 use Rattle.tables.specs.Count.{count, keep}
-use Rattle.tables.specs.Lists.{every, lastOr, consec}
-use Rattle.boot.specs.Causes.{firstCause, limitsCause, heapCause}
+use Rattle.tables.specs.Lists.{every, lastOr, consec, risingFrom, rising}
+use Rattle.boot.specs.Causes.{firstCause, limitsCause, heapCause, wrap, spaceCause}
 use Rattle.boot.specs.Geometry.{sectorSize, clusterSize, bitmapClusters}
 use Rattle.boot.specs.Layout.{fatStart, clusterStart, bitmapFirst, layoutOf, inRun, inHeap}
 use Rattle.boot.specs.Limits.{shapeTests, roomTests, inMap, allInMap, runInMap, apart, secondBitmap, mapTests, limits}
@@ -16,12 +16,12 @@ use Rattle.metadata.specs.Marks.{markByte, marked, putByte, setMark, allocatedC
 use Rattle.metadata.specs.Usable.{isFree, isUsable}
 use Rattle.stream.specs.Chain.{nextOf, chainFrom, readChain}
 use Rattle.stream.specs.Listing.{roomCause, listedNumber, listedList, listingNumber, listingList}
-use Rattle.stream.specs.Stream.{numberOf, runCause, readRun, checkChain, readStream, streamOf}
+use Rattle.stream.specs.Stream.{numberOf, runCause, readRun, checkChain, readStream, streamOf, systemCause}
 use Rattle.write_alloc.specs.Allocate.{nearCause, newCause, newRun, newChain, newStream, allocateIn, allocateClusters}
-use Rattle.write_alloc.specs.Choice.{allFrom, firstRun, runFrom, choose, around, chosen}
+use Rattle.search.specs.Search.{allFrom, firstRun, runFrom}
+use Rattle.choice.specs.Choice.{choose, around, chosen}
 use Rattle.write_extend.specs.Extend.{moreCause, inPlace, longerRun, linkOld, longerChain, longer, extendIn, extendClusters}
-use Rattle.write_alloc.specs.Outcome.{wrap, spaceCause}
-use Rattle.write_shrink.specs.Shrink.{systemCause, freeAll, risingFrom, rising, keptRecord, endKept, shrinkCause, cut, shrinkIn, shrinkClusters}
+use Rattle.write_shrink.specs.Shrink.{freeAll, keptRecord, endKept, shrinkCause, cut, shrinkIn, shrinkClusters}
 use Rattle.write_alloc.specs.Take.{markRun, linkRun, takeOne, takeAll}
 use Rattle.trials.specs.Table.{new, bad6, page, list6, after6, file, after8, after9, loop, old, eight, T1, T2, T3, T4, T5, T6, T6-list, T7, T8, T8-list, T9, T10-list, T10-extend, T10-shrink, T11, T12, old-entries, eight-list, eight-extend, eight-shrink, trials}
 use Rattle.trials.specs.Trial.{Trial, wanted, resultOf, sameFlag, sameList, sameRecord, sameAnswer, sameResult, said, agrees, allAgree}

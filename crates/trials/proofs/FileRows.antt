@@ -7,7 +7,7 @@ use Rattle.primitives.specs.Splice.{splice}
 use Rattle.primitives.specs.Words.{getLe, putLe}
 use Rattle.tables.specs.Count.{count}
 use Rattle.tables.specs.Lists.{every, lastOr, consec}
-use Rattle.boot.specs.Causes.{firstCause, heapCause}
+use Rattle.boot.specs.Causes.{firstCause, heapCause, wrap, spaceCause}
 use Rattle.boot.specs.Geometry.{sectorSize, clusterSize, bitmapClusters}
 use Rattle.boot.specs.Layout.{fatStart, clusterStart, bitmapFirst, layoutOf, clusterAt, inRun, inHeap, isBitmapCluster}
 use Rattle.boot.specs.Limits.{shapeTests, roomTests, inMap, allInMap, runInMap, apart, secondBitmap, mapTests, limits}
@@ -15,18 +15,16 @@ use Rattle.metadata.specs.Cluster.{putBytes}
 use Rattle.metadata.specs.Fat.{fatEntry}
 use Rattle.metadata.specs.Marks.{markByte, marked, putByte, setMark, allocatedCount, freeCount}
 use Rattle.metadata.specs.Usable.{isFree, isUsable}
-use Rattle.stream.specs.Bytes.{clusterBytes, bytesOf, storeAt}
+use Rattle.stream.specs.Bytes.{clusterBytes, bytesOf, storeAt, bytesIn}
 use Rattle.stream.specs.Chain.{nextOf, chainFrom, readChain}
-use Rattle.stream.specs.Stream.{numberOf, runCause, readRun, checkChain, readStream, streamOf}
+use Rattle.stream.specs.Stream.{numberOf, runCause, readRun, checkChain, readStream, streamOf, systemCause, clustersIn}
 use Rattle.entry_set.specs.Fields.{entryType, secondaryCount, setChecksum, isDirectory, allocationPossible, noFatChain, nameLength, validLength, firstCluster, dataLength, clustersFor, nameEntries}
 use Rattle.entry_set.specs.Put.{putModified, putAccessed, putStream, archived, sealed, refreshed}
 use Rattle.entry_set.specs.Sound.{headOk, streamEntryOk, namesOk, lengthsOk, wellFormed}
-use Rattle.write_alloc.specs.Choice.{allFrom}
+use Rattle.search.specs.Search.{allFrom}
 use Rattle.write_extend.specs.Extend.{moreCause, inPlace, longerRun, longer, extendIn}
-use Rattle.write_alloc.specs.Outcome.{wrap, spaceCause}
-use Rattle.write_shrink.specs.Shrink.{systemCause}
 use Rattle.write_alloc.specs.Take.{markRun}
-use Rattle.directory.specs.Directory.{chainRecord, rootRecord, bitmapCause, directoryCause, clustersIn, bytesIn}
+use Rattle.directory.specs.Directory.{chainRecord, rootRecord, bitmapCause, directoryCause}
 use Rattle.directory.specs.Entries.{entryCount, typeAt, beforeEnd, isFile, entriesAt, setAt, isSound}
 use Rattle.write_dir.specs.Open.{fileRecord, entryCause, attributeCause, streamCause, setIn, fileCause}
 use Rattle.write_dir.specs.Outcome.{carried}

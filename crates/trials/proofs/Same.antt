@@ -5,7 +5,7 @@ use mathlib.Core.List.{List, [], _∷_, map}
 use Prim.Native.Nat.{ℕ}
 use lib.Dec.{eqb}
 use borrow.Author.Tests.{eqb-true}
-use Rattle.boot.proofs.Tests.{and-left, and-right}
+use Rattle.tables.proofs.Cases.{and-left, and-right}
 use Rattle.stream.specs.declared.allocation.Allocation.{Allocation}
 use Rattle.write_alloc.specs.declared.answer.Answer.{Answer}
 use Rattle.write_dir.specs.declared.answer.FileAnswer.{FileAnswer}

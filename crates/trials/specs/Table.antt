@@ -5,7 +5,7 @@ use Prim.Native.Nat.{ℕ}
 use lib.ListN.{replicate}
 use Rattle.metadata.specs.Fat.{BAD}
 use Rattle.stream.specs.declared.allocation.Allocation.{Allocation}
-use Rattle.write_alloc.specs.Outcome.{empty}
+use Rattle.stream.specs.Stream.{empty}
 use Rattle.trials.specs.Volume.{Link, Volume, bytesOf, linked, padded}
 use Rattle.trials.specs.File.{earlier, given, entries}
 use Rattle.trials.specs.Trial.{Call, allocate, extend, shrink, listing, newLength, Result, answered, listed, carried, Trial}

@@ -12,7 +12,7 @@ use borrow.Author.Tests.{eq-eqb, ne-eqb, lt-ltb, le-ltb}
 use Rattle.boot.specs.declared.geometry.Geometry.{Geometry}
 use Rattle.boot.specs.declared.layout.Layout.{Layout}
 use Rattle.boot.specs.Limits.{limits}
-use Rattle.boot.specs.Causes.{firstCause, limitsCause, heapCause}
+use Rattle.boot.specs.Causes.{firstCause, limitsCause, heapCause, spaceCause}
 use Rattle.boot.proofs.CauseLaws.{cause-skip, cause-met, cause-last, limits-met, limits-kept}
 use Rattle.stream.specs.declared.allocation.Allocation.{Allocation}
 use Rattle.entry_set.specs.declared.stamp.Stamp.{Stamp}
@@ -20,9 +20,9 @@ use Rattle.entry_set.specs.declared.stamp.Stamps.{Stamps}
 use Rattle.entry_set.specs.Fields.{dataLength, clustersFor}
 use Rattle.entry_set.specs.Name.{nameCause, attributeCause}
 use Rattle.entry_set.specs.New.{newEntries, newSet}
-use Rattle.write_alloc.specs.Outcome.{spaceCause}
 use Rattle.write_shrink.specs.Shrink.{shrinkIn}
-use Rattle.directory.specs.Directory.{directoryCause, clustersIn}
+use Rattle.directory.specs.Directory.{directoryCause}
+use Rattle.stream.specs.Stream.{clustersIn}
 use Rattle.write_dir.specs.Outcome.{Outcome, refuse, carried}
 use Rattle.write_dir.specs.Open.{fileRecord, setIn}
 use Rattle.write_dir.specs.Place.{growBy}

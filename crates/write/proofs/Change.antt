@@ -22,10 +22,10 @@ use Rattle.metadata.specs.Marks.{allocatedCount}
 use Rattle.metadata.proofs.Counting.{markedCount, allocated-is}
 use Rattle.stream.specs.declared.allocation.Allocation.{Allocation}
 use Rattle.stream.specs.Chain.{Clusters}
-use Rattle.stream.specs.Stream.{streamOf}
-use Rattle.stream.specs.Listing.{clustersOf}
+use Rattle.stream.specs.Stream.{streamOf, clustersOf, clustersIn}
 use Rattle.entry_set.specs.Fields.{isDirectory, validLength, dataLength, clustersFor}
-use Rattle.directory.specs.Directory.{rootRecord, clustersIn, bytesIn}
+use Rattle.directory.specs.Directory.{rootRecord}
+use Rattle.stream.specs.Bytes.{bytesIn}
 use Rattle.directory.specs.Entries.{entryCount, isFile, entriesAt, setAt, isSound, sets}
 use Rattle.directory.specs.Room.{withZeros}
 use Rattle.directory.proofs.EntryLaws.{sound-file}

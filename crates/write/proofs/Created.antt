@@ -16,21 +16,20 @@ use Rattle.boot.specs.declared.geometry.Geometry.{Geometry}
 use Rattle.boot.specs.declared.layout.Layout.{Layout}
 use Rattle.boot.specs.Geometry.{rootCluster}
 use Rattle.boot.specs.Layout.{inHeap}
-use Rattle.boot.specs.Causes.{heapCause}
+use Rattle.boot.specs.Causes.{heapCause, wrap, spaceCause}
 use Rattle.boot.proofs.CauseLaws.{cause-none}
 use Rattle.metadata.specs.Usable.{isUsable}
 use Rattle.metadata.proofs.Frame.{Fits, fits-kept}
 use Rattle.stream.specs.declared.allocation.Allocation.{Allocation}
-use Rattle.stream.specs.Stream.{numberOf, streamOf}
-use Rattle.stream.specs.Bytes.{storeAt}
+use Rattle.stream.specs.Stream.{numberOf, streamOf, empty, clustersIn}
+use Rattle.stream.specs.Bytes.{storeAt, bytesIn}
 use Rattle.entry_set.specs.declared.stamp.Stamps.{Stamps}
 use Rattle.entry_set.specs.Fields.{validLength, dataLength}
 use Rattle.entry_set.specs.Name.{nameOk, nameCause, attributesOk, attributeCause}
 use Rattle.entry_set.specs.New.{newEntries, newSet}
 use Rattle.entry_set.proofs.SetLaws.{new-length, new-zero, new-entries, new-valid, new-data, new-directory, new-few, new-formed}
 use Rattle.entry_set.proofs.LengthLaws.{clusters-none}
-use Rattle.write_alloc.specs.Outcome.{empty, wrap, spaceCause}
-use Rattle.directory.specs.Directory.{rootRecord, clustersIn, bytesIn}
+use Rattle.directory.specs.Directory.{rootRecord}
 use Rattle.directory.specs.Entries.{entryCount, sets}
 use Rattle.directory.specs.Room.{freeRun, slotOf, withZeros, growth}
 use Rattle.directory.proofs.FitLaws.{Fit}

@@ -17,11 +17,10 @@ use Rattle.boot.specs.Limits.{inMap}
 use Rattle.metadata.proofs.Frame.{Fits, fits-kept}
 use Rattle.metadata.proofs.Counting.{markedCount}
 use Rattle.stream.specs.declared.allocation.Allocation.{Allocation}
-use Rattle.stream.specs.Stream.{streamOf}
-use Rattle.stream.specs.Bytes.{storeAt}
+use Rattle.stream.specs.Stream.{streamOf, clustersIn}
+use Rattle.stream.specs.Bytes.{storeAt, bytesIn}
 use Rattle.entry_set.specs.Fields.{dataLength, clustersFor}
 use Rattle.write_shrink.specs.Shrink.{keptRecord, shrinkIn}
-use Rattle.directory.specs.Directory.{clustersIn, bytesIn}
 use Rattle.directory.specs.Entries.{entriesAt, sets}
 use Rattle.directory.proofs.FitLaws.{Fit, fit-high}
 use Rattle.directory.proofs.OrderedLaws.{Ordered, file-room}

@@ -17,14 +17,13 @@ use Rattle.boot.specs.Layout.{fatStart, clusterStart, bitmapFirst, layoutOf, cl
 use Rattle.boot.specs.Limits.{shapeTests, roomTests, inMap, allInMap, runInMap, apart, secondBitmap, mapTests, limits}
 use Rattle.metadata.specs.Fat.{fatEntry}
 use Rattle.metadata.specs.Marks.{markByte, marked}
-use Rattle.stream.specs.Bytes.{clusterBytes, bytesOf}
+use Rattle.stream.specs.Bytes.{clusterBytes, bytesOf, bytesIn}
 use Rattle.stream.specs.Chain.{nextOf, chainFrom, readChain}
-use Rattle.stream.specs.Stream.{numberOf, runCause, readRun, checkChain, readStream, streamOf}
+use Rattle.stream.specs.Stream.{numberOf, runCause, readRun, checkChain, readStream, streamOf, systemCause, clustersIn}
 use Rattle.entry_set.specs.Fields.{entryType, secondaryCount, setChecksum, isDirectory, allocationPossible, noFatChain, nameLength, validLength, firstCluster, dataLength, clustersFor, nameEntries}
 use Rattle.entry_set.specs.Sound.{headOk, streamEntryOk, namesOk, lengthsOk, wellFormed}
-use Rattle.write_alloc.specs.Choice.{allFrom}
-use Rattle.write_shrink.specs.Shrink.{systemCause}
-use Rattle.directory.specs.Directory.{chainRecord, rootRecord, bitmapCause, directoryCause, clustersIn, bytesIn}
+use Rattle.search.specs.Search.{allFrom}
+use Rattle.directory.specs.Directory.{chainRecord, rootRecord, bitmapCause, directoryCause}
 use Rattle.directory.specs.Entries.{entryCount, typeAt, inUse, beforeEnd, isFile, entriesAt, setAt, isSound}
 use Rattle.write_dir.specs.Open.{fileRecord, streamCause}
 use Rattle.write.specs.Consistent.{Consistent, lay, root, rootClusters, rootBytes, setOf, streamAt}

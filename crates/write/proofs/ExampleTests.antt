@@ -11,16 +11,16 @@ use lib.ListN.{length, getD, List·getD-eq-default}
 use borrow.Author.Tests.{eqb-true, leb-true, not-true, lt-ltb, eq-eqb}
 use Rattle.primitives.specs.Bits.{bitOf}
 use Rattle.tables.specs.Lists.{Mem, every}
-use Rattle.tables.proofs.Cases.{not-so}
+use Rattle.tables.proofs.Cases.{not-so, and-left, and-right, and-both}
 use Rattle.tables.proofs.ListLaws.{every-mem}
 use Rattle.boot.specs.declared.geometry.Geometry.{Geometry}
 use Rattle.boot.specs.Limits.{limits}
 use Rattle.boot.specs.Layout.{inHeap}
-use Rattle.boot.proofs.Tests.{and-left, and-right, and-both}
 use Rattle.metadata.specs.Marks.{marked}
-use Rattle.write_alloc.specs.Choice.{allFrom}
-use Rattle.write_alloc.proofs.ChoiceLaws.{all-whole}
-use Rattle.directory.specs.Directory.{directoryCause, clustersIn}
+use Rattle.search.specs.Search.{allFrom}
+use Rattle.search.proofs.Lowest.{all-whole}
+use Rattle.directory.specs.Directory.{directoryCause}
+use Rattle.stream.specs.Stream.{clustersIn}
 use Rattle.directory.specs.Entries.{typeAt, inUse, beforeEnd, isFile, entriesAt, setAt, isSound}
 use Rattle.write_dir.specs.Open.{fileRecord, streamCause}
 use Rattle.write.specs.Consistent.{Consistent, lay, root, rootClusters, rootBytes, fileAt, setOf, streamAt, fileClusters}

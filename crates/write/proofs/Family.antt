@@ -13,28 +13,24 @@ use Rattle.primitives.specs.Splice.{splice}
 use Rattle.tables.specs.Table.{upd}
 use Rattle.tables.specs.Lists.{Mem, every}
 use Rattle.tables.specs.Count.{count}
-use Rattle.tables.proofs.Cases.{clash}
+use Rattle.tables.proofs.Cases.{clash, and-both}
 use Rattle.tables.proofs.TableLaws.{upd-same, upd-other}
 use Rattle.tables.proofs.ListLaws.{every-mem}
 use Rattle.tables.proofs.CountLaws.{count-cong}
 use Rattle.boot.specs.declared.layout.Layout.{Layout}
 use Rattle.boot.specs.Layout.{inHeap, isBitmapCluster}
-use Rattle.boot.proofs.Tests.{and-both}
 use Rattle.boot.proofs.Apart.{in-heap, heap-in}
 use Rattle.metadata.specs.Fat.{fatEntry}
 use Rattle.metadata.specs.Marks.{marked}
-use Rattle.metadata.proofs.Frame.{Fits}
+use Rattle.metadata.proofs.Frame.{Fits, small}
 use Rattle.metadata.proofs.View.{plain}
 use Rattle.metadata.proofs.Counting.{markedCount}
 use Rattle.stream.specs.declared.allocation.Allocation.{Allocation}
 use Rattle.stream.specs.Chain.{listed}
-use Rattle.stream.specs.Stream.{numberOf, streamOf}
-use Rattle.stream.specs.Listing.{clustersOf}
-use Rattle.stream.specs.Bytes.{bytesOf, storeAt}
+use Rattle.stream.specs.Stream.{numberOf, streamOf, clustersOf, clustersIn}
+use Rattle.stream.specs.Bytes.{bytesOf, storeAt, bytesIn}
 use Rattle.stream.proofs.Distinct.{stream-frame}
 use Rattle.stream.proofs.BytesLaws.{length-store, fat-store, mark-store, bytes-store-apart, bytes-store}
-use Rattle.write_alloc.proofs.GrowLaws.{small}
-use Rattle.directory.specs.Directory.{clustersIn, bytesIn}
 use Rattle.directory.proofs.DirectoryLaws.{clusters-heap}
 use Rattle.write.proofs.Reading.{clusters-of, number-of, reads-as, empty-reads, clusters-distinct}
 

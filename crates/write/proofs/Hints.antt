@@ -22,18 +22,19 @@ use Rattle.metadata.specs.Usable.{isUsable}
 use Rattle.metadata.proofs.Frame.{Fits, fits-kept}
 use Rattle.stream.specs.declared.allocation.Allocation.{Allocation}
 use Rattle.stream.specs.Chain.{listed}
-use Rattle.stream.specs.Stream.{numberOf, streamOf}
-use Rattle.write_alloc.specs.declared.choice.Choice.{Choice}
-use Rattle.write_alloc.specs.declared.choice.Choice.the-variants.{Run, Scattered, TooFew}
-use Rattle.write_alloc.specs.Choice.{choose}
-use Rattle.write_alloc.specs.Outcome.{Outcome, wrap}
+use Rattle.stream.specs.Stream.{numberOf, streamOf, clustersIn}
+use Rattle.choice.specs.declared.choice.Choice.{Choice}
+use Rattle.choice.specs.declared.choice.Choice.the-variants.{Run, Scattered, TooFew}
+use Rattle.choice.specs.Choice.{choose}
+use Rattle.write_alloc.specs.Outcome.{Outcome}
+use Rattle.boot.specs.Causes.{wrap}
 use Rattle.write_alloc.specs.Allocate.{newRun, newChain, newStream}
-use Rattle.write_alloc.proofs.ChoiceLaws.{few-count}
+use Rattle.choice.proofs.ChoiceLaws.{few-count}
 use Rattle.write_alloc.proofs.AllocateLaws.{stream-run, stream-chain}
 use Rattle.write_extend.specs.Extend.{inPlace, longerRun, longerChain, longer, extendIn}
 use Rattle.write_extend.proofs.ExtendLaws.{longer-in, longer-out}
 use Rattle.write_extend.proofs.EnoughLaws.{grow-new, grow-longer}
-use Rattle.directory.specs.Directory.{rootRecord, clustersIn}
+use Rattle.directory.specs.Directory.{rootRecord}
 use Rattle.directory.specs.Entries.{sets}
 use Rattle.write_dir.specs.Open.{fileRecord}
 use Rattle.write_dir.specs.Place.{Grown, growOne, growBy}

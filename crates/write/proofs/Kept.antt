@@ -11,14 +11,14 @@ use Rattle.boot.specs.Geometry.{fatOffset, sectorSize, bitmapBytes}
 use Rattle.boot.specs.Limits.{limits}
 use Rattle.boot.specs.Layout.{inHeap}
 use Rattle.metadata.specs.Marks.{marked}
-use Rattle.metadata.specs.Outer.{Outer}
-use Rattle.metadata.specs.Copies.{Twins, fat0At, fat1At, bitmap0At, bitmap1At}
-use Rattle.metadata.specs.Kept.{RestKept, Intact}
+use Rattle.kept.specs.Outer.{Outer}
+use Rattle.kept.specs.Copies.{Twins, fat0At, fat1At, bitmap0At, bitmap1At}
+use Rattle.kept.specs.Kept.{RestKept, Intact}
 use Rattle.metadata.proofs.Stores.{usable-not-free, free-marked}
-use Rattle.metadata.proofs.OuterKeeps.{outer-keeps, before-fats, length-keeps}
-use Rattle.metadata.proofs.BitmapKeeps.{BitsKept, bits-keeps, rest-keeps}
-use Rattle.metadata.proofs.TwinKeeps.{FatTwins, BitmapTwins, fat-keeps, bitmap-keeps}
-use Rattle.metadata.proofs.IntactKeeps.{OthersIntact, intact-keeps}
+use Rattle.kept.proofs.OuterKeeps.{outer-keeps, before-fats, length-keeps}
+use Rattle.kept.proofs.BitmapKeeps.{BitsKept, bits-keeps, rest-keeps}
+use Rattle.kept.proofs.TwinKeeps.{FatTwins, BitmapTwins, fat-keeps, bitmap-keeps}
+use Rattle.kept.proofs.IntactKeeps.{OthersIntact, intact-keeps}
 use Rattle.write.specs.Calls.{Call, step, run}
 use Rattle.write.specs.Consistent.{lay}
 use Rattle.write.specs.Demand.{slotOf, Foreign, Lost}

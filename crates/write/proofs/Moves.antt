@@ -18,8 +18,9 @@ use Rattle.boot.specs.Geometry.{rootCluster}
 use Rattle.boot.specs.Limits.{inMap}
 use Rattle.metadata.proofs.Counting.{markedCount}
 use Rattle.stream.specs.declared.allocation.Allocation.{Allocation}
-use Rattle.stream.specs.Stream.{streamOf}
-use Rattle.directory.specs.Directory.{rootRecord, clustersIn, bytesIn}
+use Rattle.stream.specs.Stream.{streamOf, clustersIn}
+use Rattle.directory.specs.Directory.{rootRecord}
+use Rattle.stream.specs.Bytes.{bytesIn}
 use Rattle.directory.specs.Entries.{sets}
 use Rattle.directory.specs.Room.{withZeros}
 use Rattle.directory.proofs.GrowthLaws.{zeros-none}

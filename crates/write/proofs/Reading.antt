@@ -18,20 +18,18 @@ use Rattle.boot.specs.Layout.{inHeap}
 use Rattle.boot.proofs.Apart.{in-heap}
 use Rattle.metadata.specs.Fat.{fatEntry}
 use Rattle.metadata.specs.Marks.{marked}
-use Rattle.metadata.proofs.Frame.{Fits}
+use Rattle.metadata.proofs.Frame.{Fits, small}
 use Rattle.stream.specs.declared.allocation.Allocation.{Allocation}
 use Rattle.stream.specs.Chain.{Clusters, listed, refused, readChain}
-use Rattle.stream.specs.Stream.{numberOf, streamOf, checkChain}
+use Rattle.stream.specs.Stream.{numberOf, streamOf, checkChain, clustersOf, empty, clustersIn}
 use Rattle.stream.specs.Along.{after, along}
-use Rattle.stream.specs.Listing.{clustersOf}
 use Rattle.stream.proofs.ChainLaws.{stream-empty, stream-chain}
 use Rattle.stream.proofs.StreamLaws.{Read, read-facts, along-step, last-consec}
 use Rattle.stream.proofs.Distinct.{read-length, read-run, read-distinct}
 use Rattle.stream.proofs.BytesLaws.{length-of}
 use Rattle.entry_set.specs.Fields.{noFatChain, firstCluster, dataLength, clustersFor}
-use Rattle.write_alloc.specs.Outcome.{empty}
-use Rattle.write_alloc.proofs.GrowLaws.{small}
-use Rattle.directory.specs.Directory.{chainRecord, rootRecord, clustersIn, bytesIn}
+use Rattle.directory.specs.Directory.{chainRecord, rootRecord}
+use Rattle.stream.specs.Bytes.{bytesIn}
 use Rattle.write_dir.specs.Open.{fileRecord}
 use Rattle.write_file.proofs.RefreshLaws.{stream-is}
 

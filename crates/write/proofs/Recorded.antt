@@ -12,12 +12,11 @@ use Rattle.boot.proofs.Apart.{in-heap}
 use Rattle.metadata.proofs.Frame.{Fits}
 use Rattle.stream.specs.declared.allocation.Allocation.{Allocation}
 use Rattle.stream.specs.Chain.{listed}
-use Rattle.stream.specs.Stream.{streamOf}
+use Rattle.stream.specs.Stream.{streamOf, empty}
 use Rattle.entry_set.specs.declared.stamp.Stamp.{Stamp}
 use Rattle.entry_set.specs.Fields.{secondaryCount, isDirectory, noFatChain, validLength, firstCluster, dataLength, clustersFor}
 use Rattle.entry_set.proofs.SetLaws.{StreamFits, refreshed-length, refreshed-byte, refreshed-count, refreshed-directory, refreshed-run, refreshed-valid, refreshed-first, refreshed-data, refreshed-formed}
 use Rattle.entry_set.proofs.LengthLaws.{clusters-hold, clusters-none, clusters-some}
-use Rattle.write_alloc.specs.Outcome.{empty}
 use Rattle.directory.proofs.FitLaws.{Fit, fit-low}
 use Rattle.directory.proofs.CursorLaws.{count-few}
 use Rattle.write_dir.specs.Open.{fileRecord}

@@ -18,7 +18,7 @@ use Rattle.entry_set.specs.Fields.{entryType, secondaryCount}
 use Rattle.entry_set.specs.Put.{cleared}
 use Rattle.entry_set.proofs.SetLaws.{cleared-length, cleared-unused, cleared-not-end}
 use Rattle.write_shrink.specs.Shrink.{shrinkIn}
-use Rattle.directory.specs.Directory.{clustersIn}
+use Rattle.stream.specs.Stream.{clustersIn}
 use Rattle.directory.specs.Entries.{entriesAt, sets}
 use Rattle.directory.proofs.FitLaws.{Fit, fit-high}
 use Rattle.directory.proofs.StoreLaws.{sets-some, removed-ordered, removed-sets}

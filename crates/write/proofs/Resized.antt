@@ -24,23 +24,22 @@ use Rattle.metadata.specs.Fat.{fatEntry}
 use Rattle.metadata.specs.Marks.{marked}
 use Rattle.metadata.specs.Usable.{isUsable}
 use Rattle.metadata.specs.Cluster.{clusterByte}
-use Rattle.metadata.proofs.Frame.{Fits}
+use Rattle.metadata.proofs.Frame.{Fits, small}
 use Rattle.metadata.proofs.View.{plain}
 use Rattle.metadata.proofs.Counting.{markedCount, usable-facts}
 use Rattle.stream.specs.declared.allocation.Allocation.{Allocation}
 use Rattle.stream.specs.Chain.{listed}
-use Rattle.stream.specs.Stream.{numberOf, streamOf}
-use Rattle.stream.specs.Bytes.{bytesOf}
+use Rattle.stream.specs.Stream.{numberOf, streamOf, systemCause, clustersIn}
+use Rattle.stream.specs.Bytes.{bytesOf, bytesIn}
 use Rattle.stream.proofs.StreamLaws.{Read}
 use Rattle.stream.proofs.BytesLaws.{cluster-cong, bytes-cong, bytes-append, length-of, take-of}
 use Rattle.write_alloc.specs.Outcome.{Outcome}
 use Rattle.write_extend.specs.Extend.{extendIn}
-use Rattle.write_shrink.specs.Shrink.{systemCause, keptRecord, shrinkCause, cut, shrinkIn}
-use Rattle.write_alloc.proofs.GrowLaws.{Grown, small, grown-other}
+use Rattle.write_shrink.specs.Shrink.{keptRecord, shrinkCause, cut, shrinkIn}
+use Rattle.write_alloc.proofs.GrowLaws.{Grown, grown-other}
 use Rattle.write_extend.proofs.EnoughLaws.{Took, extend-done}
 use Rattle.write_shrink.proofs.Cutting.{shrink-by}
 use Rattle.write_shrink.proofs.ShrinkLaws.{Shrunk, cut-reads, cut-shrunk}
-use Rattle.directory.specs.Directory.{clustersIn, bytesIn}
 use Rattle.directory.proofs.DirectoryLaws.{clusters-heap, clusters-length}
 use Rattle.write.proofs.Reading.{clusters-of, number-of, reads-as, empty-reads, reads, clusters-marked, count-is}
 use Rattle.write.proofs.Family.{Family, Outside, Moved, plain-at, moved}

@@ -22,14 +22,12 @@ use Rattle.metadata.proofs.Frame.{Fits, fits-kept}
 use Rattle.metadata.proofs.Counting.{markedCount}
 use Rattle.stream.specs.declared.allocation.Allocation.{Allocation}
 use Rattle.stream.specs.Chain.{listed}
-use Rattle.stream.specs.Stream.{numberOf, streamOf}
-use Rattle.stream.specs.Bytes.{bytesOf, storeAt}
+use Rattle.stream.specs.Stream.{numberOf, streamOf, empty, clustersIn}
+use Rattle.stream.specs.Bytes.{bytesOf, storeAt, bytesIn}
 use Rattle.entry_set.specs.declared.stamp.Stamp.{Stamp}
 use Rattle.entry_set.specs.Fields.{isDirectory, validLength, dataLength, clustersFor}
 use Rattle.entry_set.proofs.LengthLaws.{clusters-hold, clusters-mono}
-use Rattle.write_alloc.specs.Outcome.{empty}
 use Rattle.write_extend.specs.Extend.{extendIn}
-use Rattle.directory.specs.Directory.{clustersIn, bytesIn}
 use Rattle.directory.specs.Entries.{isFile, entriesAt, sets}
 use Rattle.directory.proofs.DirectoryLaws.{clusters-length}
 use Rattle.directory.proofs.FitLaws.{Fit}

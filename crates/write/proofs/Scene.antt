@@ -28,15 +28,14 @@ use Rattle.metadata.proofs.Frame.{Fits}
 use Rattle.metadata.proofs.View.{plain, plain-off}
 use Rattle.stream.specs.declared.allocation.Allocation.{Allocation}
 use Rattle.stream.specs.Chain.{Clusters, listed, refused, readChain}
-use Rattle.stream.specs.Stream.{numberOf, streamOf}
-use Rattle.stream.specs.Listing.{clustersOf}
+use Rattle.stream.specs.Stream.{numberOf, streamOf, clustersOf, systemCause, clustersIn}
 use Rattle.stream.proofs.StreamLaws.{Read, read-chain-facts}
 use Rattle.stream.proofs.Distinct.{read-length}
 use Rattle.stream.proofs.ListingLaws.{stream-read}
 use Rattle.stream.proofs.BytesLaws.{length-of}
 use Rattle.entry_set.specs.Fields.{dataLength, clustersFor}
-use Rattle.write_shrink.specs.Shrink.{systemCause}
-use Rattle.directory.specs.Directory.{chainRecord, rootRecord, bitmapCause, directoryCause, clustersIn, bytesIn}
+use Rattle.directory.specs.Directory.{chainRecord, rootRecord, bitmapCause, directoryCause}
+use Rattle.stream.specs.Bytes.{bytesIn}
 use Rattle.directory.specs.Entries.{entryCount, entriesAt, sets}
 use Rattle.directory.proofs.FitLaws.{Fit}
 use Rattle.directory.proofs.OrderedLaws.{Ordered, file-fit}

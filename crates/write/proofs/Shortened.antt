@@ -16,15 +16,13 @@ use Rattle.boot.specs.declared.geometry.Geometry.{Geometry}
 use Rattle.boot.specs.declared.layout.Layout.{Layout}
 use Rattle.stream.specs.declared.allocation.Allocation.{Allocation}
 use Rattle.stream.specs.Chain.{listed}
-use Rattle.stream.specs.Stream.{numberOf, streamOf}
-use Rattle.stream.specs.Bytes.{storeAt}
+use Rattle.stream.specs.Stream.{numberOf, streamOf, empty, clustersIn}
+use Rattle.stream.specs.Bytes.{storeAt, bytesIn}
 use Rattle.entry_set.specs.declared.stamp.Stamp.{Stamp}
 use Rattle.entry_set.specs.Fields.{isDirectory, validLength, dataLength, clustersFor}
 use Rattle.entry_set.proofs.SetLaws.{formed-lengths}
 use Rattle.entry_set.proofs.LengthLaws.{clusters-hold, clusters-mono}
-use Rattle.write_alloc.specs.Outcome.{empty}
 use Rattle.write_shrink.specs.Shrink.{keptRecord, shrinkIn}
-use Rattle.directory.specs.Directory.{clustersIn, bytesIn}
 use Rattle.directory.specs.Entries.{entriesAt, sets}
 use Rattle.directory.proofs.FitLaws.{Fit}
 use Rattle.directory.proofs.StoreLaws.{sets-some, replaced-ordered, replaced-sets}

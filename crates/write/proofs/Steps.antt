@@ -15,8 +15,8 @@ use Rattle.tables.proofs.TableLaws.{upd-same, upd-other, upd-case}
 use Rattle.boot.specs.declared.geometry.Geometry.{Geometry}
 use Rattle.boot.specs.declared.layout.Layout.{Layout}
 use Rattle.metadata.specs.Marks.{allocatedCount}
-use Rattle.metadata.specs.Kept.{Intact}
-use Rattle.metadata.proofs.IntactKeeps.{intact-same, intact-again}
+use Rattle.kept.specs.Kept.{Intact}
+use Rattle.kept.proofs.IntactKeeps.{intact-same, intact-again}
 use Rattle.stream.proofs.BytesLaws.{cluster-cong}
 use Rattle.directory.specs.Entries.{sets}
 use Rattle.write_dir.specs.Outcome.{Outcome, carried}

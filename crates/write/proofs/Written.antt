@@ -20,15 +20,16 @@ use Rattle.boot.specs.declared.layout.Layout.{Layout}
 use Rattle.boot.specs.Layout.{inHeap}
 use Rattle.metadata.specs.Usable.{isUsable}
 use Rattle.stream.specs.declared.allocation.Allocation.{Allocation}
-use Rattle.stream.specs.Bytes.{storeAt}
+use Rattle.stream.specs.Bytes.{storeAt, bytesIn}
 use Rattle.entry_set.specs.declared.stamp.Stamp.{Stamp}
 use Rattle.entry_set.specs.Fields.{validLength, dataLength, clustersFor}
 use Rattle.entry_set.proofs.SetLaws.{formed-lengths}
 use Rattle.entry_set.proofs.LengthLaws.{clusters-some}
-use Rattle.write_alloc.specs.Outcome.{Outcome, wrap}
+use Rattle.write_alloc.specs.Outcome.{Outcome}
+use Rattle.boot.specs.Causes.{wrap}
 use Rattle.write_extend.specs.Extend.{extendIn}
 use Rattle.write_extend.proofs.ExtendLaws.{extend-none}
-use Rattle.directory.specs.Directory.{clustersIn, bytesIn}
+use Rattle.stream.specs.Stream.{clustersIn}
 use Rattle.directory.specs.Entries.{sets}
 use Rattle.write_dir.specs.Outcome.{carried}
 use Rattle.write_dir.specs.Open.{fileRecord, setIn}

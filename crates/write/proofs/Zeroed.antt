@@ -16,15 +16,14 @@ use Rattle.boot.specs.Layout.{inHeap}
 use Rattle.metadata.specs.Fat.{fatEntry}
 use Rattle.metadata.specs.Marks.{marked}
 use Rattle.metadata.specs.Usable.{isUsable}
-use Rattle.metadata.proofs.Frame.{Fits}
+use Rattle.metadata.proofs.Frame.{Fits, small}
 use Rattle.metadata.proofs.View.{plain}
 use Rattle.metadata.proofs.Counting.{markedCount}
 use Rattle.stream.specs.declared.allocation.Allocation.{Allocation}
 use Rattle.stream.specs.Chain.{listed}
-use Rattle.stream.specs.Stream.{streamOf}
+use Rattle.stream.specs.Stream.{streamOf, clustersIn}
 use Rattle.stream.proofs.Distinct.{stream-frame}
-use Rattle.write_alloc.proofs.GrowLaws.{small}
-use Rattle.directory.specs.Directory.{clustersIn, bytesIn}
+use Rattle.stream.specs.Bytes.{bytesIn}
 use Rattle.directory.specs.Room.{withZeros}
 use Rattle.directory.proofs.DirectoryLaws.{clusters-heap, clusters-length}
 use Rattle.write_dir.specs.Place.{Grown, growBy}

@@ -12,7 +12,9 @@ use Rattle.boot.specs.Geometry.{rootCluster}
 use Rattle.boot.specs.Limits.{limits}
 use Rattle.boot.specs.Layout.{layoutOf}
 use Rattle.stream.specs.declared.allocation.Allocation.{Allocation}
-use Rattle.directory.specs.Directory.{rootRecord, directoryCause, clustersIn, bytesIn}
+use Rattle.directory.specs.Directory.{rootRecord, directoryCause}
+use Rattle.stream.specs.Stream.{clustersIn}
+use Rattle.stream.specs.Bytes.{bytesIn}
 use Rattle.directory.specs.Entries.{typeAt, inUse, isFile, entriesAt, setAt, isSound}
 use Rattle.write_dir.specs.Open.{fileRecord, streamCause}
 

@@ -6,7 +6,7 @@ use Prim.Native.Nat.{ℕ, _-_}
 use lib.ListN.{take, replicate}
 use Rattle.boot.specs.declared.geometry.Geometry.{Geometry}
 use Rattle.entry_set.specs.Fields.{isDirectory, validLength, dataLength}
-use Rattle.directory.specs.Directory.{bytesIn}
+use Rattle.stream.specs.Bytes.{bytesIn}
 use Rattle.directory.specs.Entries.{isSound}
 use Rattle.write.specs.Consistent.{lay, rootBytes, setOf, streamAt}
 

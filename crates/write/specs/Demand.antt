@@ -12,17 +12,16 @@ use Rattle.tables.specs.Lists.{Mem, lastOr}
 use Rattle.boot.specs.declared.geometry.Geometry.{Geometry}
 use Rattle.boot.specs.Geometry.{bitmapBytes}
 use Rattle.boot.specs.Layout.{inHeap, isBitmapCluster}
-use Rattle.boot.specs.Causes.{firstCause}
+use Rattle.boot.specs.Causes.{firstCause, wrap, spaceCause}
 use Rattle.metadata.specs.Marks.{marked, allocatedCount}
 use Rattle.metadata.specs.Usable.{isUsable}
-use Rattle.metadata.specs.Outer.{Outer}
-use Rattle.metadata.specs.Copies.{fat0At, fat1At, bitmap0At, bitmap1At, Twins}
-use Rattle.metadata.specs.Kept.{RestKept, Intact}
+use Rattle.kept.specs.Outer.{Outer}
+use Rattle.kept.specs.Copies.{fat0At, fat1At, bitmap0At, bitmap1At, Twins}
+use Rattle.kept.specs.Kept.{RestKept, Intact}
 use Rattle.stream.specs.Bytes.{clusterBytes}
 use Rattle.entry_set.specs.Fields.{validLength, dataLength, clustersFor}
 use Rattle.entry_set.specs.New.{newEntries, newSet}
 use Rattle.entry_set.specs.Put.{cleared}
-use Rattle.write_alloc.specs.Outcome.{wrap, spaceCause}
 use Rattle.write_extend.specs.Extend.{extendIn}
 use Rattle.write_shrink.specs.Shrink.{keptRecord}
 use Rattle.directory.specs.Room as room

@@ -12,28 +12,28 @@ use lib.Seq.{length-take-le, getD-take}
 use borrow.Author.Tests.{eq-eqb, ne-eqb, eqb-true, lt-ltb, le-ltb}
 use Rattle.tables.specs.Lists.{Mem, here, there, lastOr}
 use Rattle.tables.specs.Count.{count}
-use Rattle.tables.proofs.Cases.{or-true}
+use Rattle.tables.proofs.Cases.{or-true, and-left, and-right}
 use Rattle.tables.proofs.ListLaws.{mem-take, last-of}
 use Rattle.boot.specs.declared.layout.Layout.{Layout}
 use Rattle.boot.specs.Layout.{Laid, Apart, inHeap, layoutOf}
-use Rattle.boot.proofs.Tests.{and-left, and-right}
 use Rattle.boot.proofs.Apart.{in-heap, heap-in}
 use Rattle.tables.proofs.CountLaws.{in-keep}
 use Rattle.boot.specs.declared.geometry.Geometry.{Geometry}
 use Rattle.boot.specs.Limits.{limits}
-use Rattle.boot.specs.Causes.{firstCause, heapCause}
+use Rattle.boot.specs.Causes.{firstCause, heapCause, wrap, spaceCause}
 use Rattle.boot.proofs.CauseLaws.{heap-met, heap-kept}
 use Rattle.metadata.specs.Marks.{marked, freeCount}
 use Rattle.metadata.specs.Fat.{END, setFat}
 use Rattle.metadata.specs.Usable.{isUsable}
 use Rattle.metadata.proofs.Frame.{Fits}
-use Rattle.write_alloc.specs.Choice.{choose, around, firstUsable}
+use Rattle.choice.specs.Choice.{choose, around, firstUsable}
 use Rattle.write_alloc.specs.Take.{takeAll, prevTaken, prevOk, takenFrom, takenOf}
 use Rattle.write_alloc.specs.declared.answer.Answer.{Answer}
-use Rattle.write_alloc.specs.declared.choice.Choice.the-variants.{Run, Scattered, TooFew}
-use Rattle.write_alloc.specs.Outcome.{Outcome, unchanged, empty, wrap, spaceCause}
+use Rattle.choice.specs.declared.choice.Choice.the-variants.{Run, Scattered, TooFew}
+use Rattle.write_alloc.specs.Outcome.{Outcome, unchanged}
+use Rattle.stream.specs.Stream.{empty}
 use Rattle.write_alloc.specs.Allocate.{nearCause, newCause, newRun, newChain, newStream, allocateIn, allocateClusters}
-use Rattle.write_alloc.proofs.ChoiceLaws.{length-around, in-around, chosen-scattered, count-few}
+use Rattle.choice.proofs.ChoiceLaws.{length-around, in-around, chosen-scattered, count-few}
 use Rattle.write_alloc.specs.declared.take.Taken.{Taken}
 use Rattle.write_alloc.proofs.TakeLaws.{Before, Inside, taken-prev, taken-twice, last-twice}
 

@@ -24,17 +24,18 @@ use Rattle.metadata.proofs.View.{plain}
 use Rattle.metadata.proofs.Counting.{markedCount, free-is-unmarked, fat-counts, usable-facts, usable-free, usableCount}
 use Rattle.stream.specs.declared.allocation.Allocation.{Allocation}
 use Rattle.stream.specs.Chain.{listed}
-use Rattle.stream.specs.Stream.{streamOf}
+use Rattle.stream.specs.Stream.{streamOf, empty}
 use Rattle.stream.proofs.StreamLaws.{Read, read-facts}
 use Rattle.stream.proofs.Distinct.{chain-links, chain-listed, run-listed, record-listed, stream-frame}
-use Rattle.write_alloc.specs.declared.choice.Choice.{Choice}
-use Rattle.write_alloc.specs.declared.choice.Choice.the-variants.{Run, Scattered, TooFew}
-use Rattle.write_alloc.specs.Choice.{choose, chosen}
+use Rattle.choice.specs.declared.choice.Choice.{Choice}
+use Rattle.choice.specs.declared.choice.Choice.the-variants.{Run, Scattered, TooFew}
+use Rattle.choice.specs.Choice.{choose, chosen}
 use Rattle.write_alloc.specs.Take.{markRun, takeAll}
-use Rattle.write_alloc.specs.Outcome.{Outcome, unchanged, empty}
+use Rattle.write_alloc.specs.Outcome.{Outcome, unchanged}
 use Rattle.write_alloc.specs.Allocate.{nearCause, newRun, newChain, newStream, allocateIn}
 use Rattle.write_alloc.proofs.Links.{Linked, linked-at}
-use Rattle.write_alloc.proofs.ChoiceLaws.{Whole, choose-inside, chosen-run, chosen-scattered, length-chosen, in-chosen, chosen-distinct, few-count, count-few, enough-count}
+use Rattle.search.proofs.Lowest.{Whole}
+use Rattle.choice.proofs.ChoiceLaws.{choose-inside, chosen-run, chosen-scattered, length-chosen, in-chosen, chosen-distinct, few-count, count-few, enough-count}
 use Rattle.write_alloc.proofs.TakeLaws.{Before, Inside, length-markRun, length-takeAll, fits-takeAll, run-mark, run-mark-other, run-fat, run-byte, run-count-marks, taken-mark, taken-mark-other, taken-fat-other, taken-byte, taken-count, taken-linked, taken-joined}
 use Rattle.write_alloc.proofs.AllocateLaws.{stream-run, stream-chain, stream-few, start-heap, in-hint, in-none, in-free, in-near, in-new}
 
@@ -58,10 +59,6 @@ pub record Grown (y : Layout) (d m d′ : List ℕ) (a : Allocation) (old new : 
 -- an outcome that does that
 abbrev pub Grows : Layout → List ℕ → List ℕ → Outcome → List ℕ → List ℕ → Type 0
 Grows y d m o old new = Grown y d m (o .volume) (o .answer .allocation) old new
-
--- the clusters of a heap are not the end of a chain
-pub small : (y : Layout) (d : List ℕ) → Fits y d → y .count + 2 ≤ END
-small y d w = let l = w .laid in omega (arith, l .count-high)
 
 module _ (y : Layout) (d m : List ℕ) (ks : List ℕ) (f : Fresh y d m ks) where
   pub fresh-inside : Inside y ks

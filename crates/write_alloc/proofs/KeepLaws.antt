@@ -17,13 +17,14 @@ use Rattle.metadata.specs.Fat.{END, setFat}
 use Rattle.metadata.specs.Marks.{setMark}
 use Rattle.metadata.specs.Usable.{isUsable}
 use Rattle.metadata.proofs.Keeps.{Own, Keeps, Went, fat-on, mark-on}
-use Rattle.write_alloc.specs.declared.choice.Choice.{Choice}
-use Rattle.write_alloc.specs.declared.choice.Choice.the-variants.{Run, Scattered, TooFew}
-use Rattle.write_alloc.specs.Choice.{choose, chosen}
+use Rattle.choice.specs.declared.choice.Choice.{Choice}
+use Rattle.choice.specs.declared.choice.Choice.the-variants.{Run, Scattered, TooFew}
+use Rattle.choice.specs.Choice.{choose, chosen}
 use Rattle.write_alloc.specs.Take.{markRun, linkRun, takeOne, takeAll}
-use Rattle.write_alloc.specs.Outcome.{unchanged, empty}
+use Rattle.write_alloc.specs.Outcome.{unchanged}
+use Rattle.stream.specs.Stream.{empty}
 use Rattle.write_alloc.specs.Allocate.{newRun, newChain, byChoice, newStream}
-use Rattle.write_alloc.proofs.ChoiceLaws.{choose-inside, length-chosen, in-chosen}
+use Rattle.choice.proofs.ChoiceLaws.{choose-inside, length-chosen, in-chosen}
 
 -- the usable clusters of e may be stored to
 abbrev pub Taking : Layout → (ℕ → Type 0) → List ℕ → List ℕ → Type 0

@@ -1,13 +1,6 @@
-pub mod AddsLaws
 pub mod AllocateLaws
-pub mod ChoiceLaws
-pub mod FirstLaws
 pub mod GrowLaws
-pub mod KeptLaws
 pub mod Links
-pub mod OrderLaws
-pub mod PickedLaws
-pub mod Runs
 pub mod TakeLaws
 pub mod Taking
 pub mod KeepLaws

@@ -10,15 +10,16 @@ use Rattle.boot.specs.declared.geometry.Geometry.{Geometry}
 use Rattle.boot.specs.declared.layout.Layout.{Layout}
 use Rattle.boot.specs.Limits.{limits}
 use Rattle.boot.specs.Layout.{layoutOf}
-use Rattle.boot.specs.Causes.{firstCause, heapCause}
+use Rattle.boot.specs.Causes.{firstCause, heapCause, wrap, spaceCause}
 use Rattle.metadata.specs.Fat.{END, setFat}
 use Rattle.metadata.specs.Marks.{freeCount}
 use Rattle.metadata.specs.Usable.{isUsable}
-use Rattle.write_alloc.specs.declared.choice.Choice.{Choice}
-use Rattle.write_alloc.specs.declared.choice.Choice.the-variants.{Run, Scattered, TooFew}
-use Rattle.write_alloc.specs.Choice.{choose, chosen}
+use Rattle.choice.specs.declared.choice.Choice.{Choice}
+use Rattle.choice.specs.declared.choice.Choice.the-variants.{Run, Scattered, TooFew}
+use Rattle.choice.specs.Choice.{choose, chosen}
 use Rattle.write_alloc.specs.Take.{markRun, takeAll}
-use Rattle.write_alloc.specs.Outcome.{Outcome, unchanged, done, empty, wrap, spaceCause}
+use Rattle.write_alloc.specs.Outcome.{Outcome, unchanged, done}
+use Rattle.stream.specs.Stream.{empty}
 
 -- 2: a near cluster that is given lies outside the heap
 unfoldable pub nearCause : ℕ → Bool → ℕ → ℕ

@@ -8,13 +8,14 @@ ghost use Rattle.tables.specs.Lists.{lastOr};
 ghost use Rattle.boot.specs.Layout.{Laid, Apart};
 ghost use Rattle.metadata.specs.Fat.{END, setFat};
 ghost use Rattle.metadata.specs.Usable.{isUsable};
-ghost use Rattle.write_alloc.specs.Choice.{around};
+ghost use Rattle.choice.specs.Choice.{around};
 ghost use Rattle.write_alloc.specs.Take.{takeAll, prevOk};
 ghost use lib.Dec.{eqb};
-ghost use Rattle.write_alloc.specs.Outcome.{wrap, empty};
+ghost use Rattle.boot.specs.Causes.{wrap};
+ghost use Rattle.stream.specs.Stream.{empty};
 ghost use Rattle.write_alloc.specs.Allocate.{nearCause, newRun, newChain, newStream, allocateIn, allocateClusters};
 use crate::answer::Answer;
-use crate::choice::Choice;
+use choice::choice::Choice;
 use crate::take::Taken;
 use boot::geometry::Geometry;
 use boot::layout::Layout;
@@ -80,7 +81,7 @@ fn new_chain(vol: &mut [u8], map: &[u8], y: Layout, start: u32, n: u32) -> Answe
     requires { ⌜ Laid y × ((length (now vol) ≡ y .len) × ((y .count ≤ 8 * length (now map)) × ((2 ≤ start) × ((start < y .count + 2) × (Apart y × ((1 ≤ n) × (n ≤ count (isUsable y (now vol) (now map)) 2 (y .count)))))))) ⌝ }
     ensures { λ r. ⌜ (r ≡ newChain y (now (vol .entry)) (take n (around (isUsable y (now (vol .entry)) (now (map .entry))) (y .count) start)) .answer) × (now (vol .exit) ≡ newChain y (now (vol .entry)) (take n (around (isUsable y (now (vol .entry)) (now (map .entry))) (y .count) start)) .volume) ⌝ }
 {
-    let first = crate::choice::first_usable(vol, map, y, start);
+    let first = choice::choice::first_usable(vol, map, y, start);
     let last = take_chain(vol, map, y, start, n, 0);
     let a = Allocation {
         first: first,
@@ -118,7 +119,7 @@ pub fn new_stream(vol: &mut [u8], map: &[u8], y: Layout, n: u32, start: u32, hin
     requires { ⌜ Laid y × ((length (now vol) ≡ y .len) × ((y .count ≤ 8 * length (now map)) × ((2 ≤ start) × ((start < y .count + 2) × (Apart y × (1 ≤ n)))))) ⌝ }
     ensures { λ r. ⌜ (r ≡ newStream y (now (vol .entry)) (now (map .entry)) n start hint .answer) × (now (vol .exit) ≡ newStream y (now (vol .entry)) (now (map .entry)) n start hint .volume) ⌝ }
 {
-    let choice = crate::choice::choose_clusters(vol, map, y, start, n);
+    let choice = choice::choice::choose_clusters(vol, map, y, start, n);
     match choice {
         Choice::Run(k) => {
             return new_run(vol, y, k, n);

@@ -21,13 +21,12 @@ use Rattle.metadata.specs.Fat.{fatEntry}
 use Rattle.metadata.specs.Marks.{marked}
 use Rattle.metadata.specs.Usable.{isFree, isUsable}
 use Rattle.metadata.specs.Cluster.{putBytes}
-use Rattle.metadata.proofs.Frame.{Fits, fits-kept, length-bytes, fat-bytes, mark-bytes}
+use Rattle.metadata.proofs.Frame.{Fits, fits-kept, length-bytes, fat-bytes, mark-bytes, small}
 use Rattle.metadata.proofs.View.{plain, plain-heap}
 use Rattle.metadata.proofs.Counting.{markedCount, usable-facts}
 use Rattle.stream.specs.declared.allocation.Allocation.{Allocation}
 use Rattle.stream.specs.Chain.{listed}
-use Rattle.stream.specs.Stream.{numberOf, streamOf}
-use Rattle.stream.specs.Listing.{clustersOf}
+use Rattle.stream.specs.Stream.{numberOf, streamOf, clustersOf, clustersIn}
 use Rattle.stream.specs.Bytes.{clusterBytes}
 use Rattle.stream.proofs.ChainLaws.{stream-listed}
 use Rattle.stream.proofs.StreamLaws.{Read, read-facts}
@@ -37,9 +36,8 @@ use Rattle.stream.proofs.Distinct.{read-length, stream-frame}
 use Rattle.write_alloc.specs.declared.answer.Answer.{Answer}
 use Rattle.write_alloc.specs.Outcome.{Outcome}
 use Rattle.write_extend.specs.Extend.{extendIn}
-use Rattle.write_alloc.proofs.GrowLaws.{small, fresh-unmarked}
+use Rattle.write_alloc.proofs.GrowLaws.{fresh-unmarked}
 use Rattle.write_extend.proofs.EnoughLaws.{Took, extend-done, usable-grown}
-use Rattle.directory.specs.Directory.{clustersIn}
 use Rattle.write_dir.specs.declared.place.Added.{Added}
 use Rattle.write_dir.specs.Place.{Grown, standing, addedOf, growOne, growBy, Growable}
 

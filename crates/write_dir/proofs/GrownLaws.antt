@@ -20,16 +20,14 @@ use Rattle.metadata.proofs.Frame.{Fits, fits-kept}
 use Rattle.metadata.proofs.View.{plain}
 use Rattle.stream.specs.declared.allocation.Allocation.{Allocation}
 use Rattle.stream.specs.Chain.{listed}
-use Rattle.stream.specs.Stream.{numberOf, streamOf}
-use Rattle.stream.specs.Listing.{clustersOf}
-use Rattle.stream.specs.Bytes.{clusterBytes, bytesOf}
+use Rattle.stream.specs.Stream.{numberOf, streamOf, clustersOf, clustersIn}
+use Rattle.stream.specs.Bytes.{clusterBytes, bytesOf, bytesIn}
 use Rattle.stream.proofs.StreamLaws.{read-facts}
 use Rattle.stream.proofs.BytesLaws.{bytes-cong, bytes-append}
 use Rattle.write_alloc.specs.Outcome.{Outcome}
 use Rattle.write_extend.specs.Extend.{extendIn, inPlace, longer, longerRun, longerChain}
 use Rattle.write_extend.proofs.ExtendLaws.{longer-in, longer-out}
 use Rattle.write_extend.proofs.EnoughLaws.{grow-longer}
-use Rattle.directory.specs.Directory.{clustersIn, bytesIn}
 use Rattle.directory.specs.Room.{withZeros}
 use Rattle.write_dir.specs.Place.{Grown, growOne, growBy}
 use Rattle.write_dir.proofs.AddedLaws.{Zeroed, zeroed-clusters, zeroed-count, grow-one}

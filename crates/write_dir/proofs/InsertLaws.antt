@@ -10,7 +10,7 @@ use lib.Dec.{eqb}
 use lib.ListN.{take}
 use Rattle.primitives.specs.Splice.{splice}
 use Rattle.tables.specs.Table.{upd}
-use Rattle.metadata.specs.declared.usable.Found.the-variants.{At}
+use Rattle.search.specs.declared.found.Found.the-variants.{At}
 use Rattle.directory.specs.Entries.{entryCount, sets}
 use Rattle.directory.specs.Room.{freeRun, slotOf, withZeros, growth}
 use Rattle.directory.proofs.FitLaws.{Fit}

@@ -21,8 +21,7 @@ use Rattle.metadata.proofs.Counting.{usable-facts}
 use Rattle.metadata.proofs.Keeps.{Keeps, Went, put-on}
 use Rattle.stream.specs.declared.allocation.Allocation.{Allocation}
 use Rattle.stream.specs.Chain.{listed}
-use Rattle.stream.specs.Stream.{numberOf, streamOf}
-use Rattle.stream.specs.Listing.{clustersOf}
+use Rattle.stream.specs.Stream.{numberOf, streamOf, clustersOf, clustersIn}
 use Rattle.stream.proofs.StreamLaws.{read-facts}
 use Rattle.stream.proofs.Distinct.{read-length}
 use Rattle.write_alloc.specs.Outcome.{Outcome}
@@ -31,7 +30,6 @@ use Rattle.write_alloc.proofs.KeepLaws.{Taking}
 use Rattle.write_extend.specs.Extend.{extendIn}
 use Rattle.write_extend.proofs.EnoughLaws.{extend-done}
 use Rattle.write_extend.proofs.KeepLaws.{extend-on}
-use Rattle.directory.specs.Directory.{clustersIn}
 use Rattle.write_dir.specs.Place.{Grown, growOne, growBy}
 use Rattle.write_dir.proofs.AddedLaws.{Zeroed, grow-one}
 

@@ -11,12 +11,11 @@ use lib.ListN.{length, getD, take, drop, replicate}
 use borrow.Author.Tests.{eq-eqb, ne-eqb, leb-true, le-leb}
 use Rattle.primitives.specs.Splice.{splice}
 use Rattle.tables.specs.Lists.{every, lastOr}
-use Rattle.tables.proofs.Cases.{not-so}
+use Rattle.tables.proofs.Cases.{not-so, and-left, and-right, and-both}
 use Rattle.boot.specs.declared.layout.Layout.{Layout}
 use Rattle.boot.specs.Limits.{inMap}
 use Rattle.boot.specs.Layout.{inHeap}
 use Rattle.boot.specs.Causes.{firstCause}
-use Rattle.boot.proofs.Tests.{and-left, and-right, and-both}
 use Rattle.boot.proofs.Apart.{in-heap}
 use Rattle.boot.proofs.CauseLaws.{cause-skip, cause-met, cause-last}
 use Rattle.metadata.specs.Fat.{fatEntry}
@@ -26,10 +25,9 @@ use Rattle.metadata.proofs.Frame.{Fits}
 use Rattle.stream.specs.declared.allocation.Allocation.{Allocation}
 use Rattle.stream.specs.declared.walk.Walked.{Walked}
 use Rattle.stream.specs.Along.{along}
-use Rattle.stream.specs.Bytes.{bytesOf, reached}
+use Rattle.stream.specs.Bytes.{bytesOf, reached, bytesIn}
 use Rattle.stream.specs.Chain.{Clusters, listed, refused, readChain}
-use Rattle.stream.specs.Stream.{numberOf, streamOf, checkChain, walked, walkCause}
-use Rattle.stream.specs.Listing.{clustersOf}
+use Rattle.stream.specs.Stream.{numberOf, streamOf, checkChain, walked, walkCause, clustersOf, empty, systemCause, clustersIn}
 use Rattle.stream.proofs.StreamLaws.{length-along, along-head}
 use Rattle.stream.proofs.ChainLaws.{chain-number, stream-empty, stream-chain, stream-not-zero}
 use Rattle.stream.proofs.ListingLaws.{stream-read}
@@ -37,9 +35,6 @@ use Rattle.stream.proofs.BytesSteps.{some-left, drop-along, Sought, sought}
 use Rattle.stream.proofs.BytesLaws.{byte-of}
 use Rattle.entry_set.specs.Fields.{noFatChain, firstCluster, dataLength, clustersFor, isDirectory}
 use Rattle.entry_set.specs.Sound.{wellFormed}
-use Rattle.write_alloc.specs.Outcome.{empty}
-use Rattle.write_shrink.specs.Shrink.{systemCause}
-use Rattle.directory.specs.Directory.{clustersIn, bytesIn}
 use Rattle.directory.specs.Entries.{entryCount, typeAt, isFile, entriesAt, wholeSet, setAt, isSound}
 use Rattle.directory.proofs.EntryLaws.{sound-file, sound-few, sound-room, sound-formed, sound-of}
 use Rattle.directory.proofs.CursorLaws.{bytes-along, dir-heap, slot-bytes, along-at}

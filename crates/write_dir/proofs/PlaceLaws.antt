@@ -15,13 +15,12 @@ use Rattle.boot.specs.Layout.{Laid, inHeap}
 use Rattle.metadata.specs.Fat.{fatEntry}
 use Rattle.metadata.specs.Cluster.{putBytes}
 use Rattle.stream.specs.declared.allocation.Allocation.{Allocation}
-use Rattle.stream.specs.Stream.{numberOf, streamOf}
+use Rattle.stream.specs.Stream.{numberOf, streamOf, clustersIn}
 use Rattle.stream.specs.Along.{after, along}
 use Rattle.stream.specs.Bytes.{storeAt, reached}
 use Rattle.stream.proofs.ListingLaws.{along-heap}
 use Rattle.stream.proofs.BytesSteps.{take-lesser, splice-none, every-drop, drop-along, every-before, every-from, place-is, place-low, place-count, place-room, store-here, store-empty, store-over, drop-take}
 use Rattle.stream.proofs.BytesLaws.{store-front}
-use Rattle.directory.specs.Directory.{clustersIn}
 use Rattle.directory.proofs.DirectoryLaws.{clusters-along, clusters-heap, clusters-length}
 use Rattle.write_dir.specs.declared.place.Spot.{Spot}
 use Rattle.write_dir.specs.Place.{spotOf, spotClusters, Reaches}

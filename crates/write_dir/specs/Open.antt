@@ -9,12 +9,9 @@ use Rattle.boot.specs.Causes.{firstCause}
 use Rattle.metadata.specs.Fat.{fatEntry}
 use Rattle.stream.specs.declared.allocation.Allocation.{Allocation}
 use Rattle.stream.specs.Chain.{readChain}
-use Rattle.stream.specs.Stream.{numberOf, streamOf}
-use Rattle.stream.specs.Listing.{clustersOf}
+use Rattle.stream.specs.Stream.{numberOf, streamOf, clustersOf, empty, systemCause, clustersIn}
 use Rattle.entry_set.specs.Fields.{isDirectory, noFatChain, firstCluster, dataLength, clustersFor}
-use Rattle.write_alloc.specs.Outcome.{empty}
-use Rattle.write_shrink.specs.Shrink.{systemCause}
-use Rattle.directory.specs.Directory.{clustersIn, bytesIn}
+use Rattle.stream.specs.Bytes.{bytesIn}
 use Rattle.directory.specs.Entries.{setAt, isSound}
 use Rattle.write_dir.specs.declared.open_file.Opened.{Opened}
 

@@ -11,9 +11,8 @@ use Rattle.boot.specs.Layout.{inHeap, isBitmapCluster}
 use Rattle.metadata.specs.Cluster.{putBytes}
 use Rattle.metadata.specs.Usable.{isUsable}
 use Rattle.stream.specs.declared.allocation.Allocation.{Allocation}
-use Rattle.stream.specs.Stream.{numberOf, streamOf}
+use Rattle.stream.specs.Stream.{numberOf, streamOf, clustersIn}
 use Rattle.write_extend.specs.Extend.{extendIn}
-use Rattle.directory.specs.Directory.{clustersIn}
 use Rattle.write_dir.specs.declared.place.Spot.{Spot}
 use Rattle.write_dir.specs.declared.place.Added.{Added}
 

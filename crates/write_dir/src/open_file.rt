@@ -8,11 +8,9 @@ ghost use Rattle.boot.specs.Layout.{Laid, Apart, inHeap};
 ghost use Rattle.metadata.specs.Fat.{fatEntry};
 ghost use Rattle.metadata.specs.Cluster.{clusterByte};
 ghost use Rattle.stream.specs.Chain.{readChain};
-ghost use Rattle.stream.specs.Stream.{numberOf, streamOf, walkCause};
-ghost use Rattle.stream.specs.Listing.{clustersOf};
+ghost use Rattle.stream.specs.Stream.{numberOf, streamOf, walkCause, clustersOf, empty};
 ghost use Rattle.entry_set.specs.Sound.{wellFormed};
-ghost use Rattle.write_alloc.specs.Outcome.{empty};
-ghost use Rattle.directory.specs.Directory.{bytesIn};
+ghost use Rattle.stream.specs.Bytes.{bytesIn};
 ghost use Rattle.directory.specs.Entries.{entryCount, beforeEnd, entriesAt, wholeSet, isSound};
 ghost use Rattle.write_dir.specs.Open.{fileRecord, attributeCause, setIn, openedStream, openFile};
 use crate::place::Spot;
@@ -181,7 +179,7 @@ fn open_run(vol: &[u8], map: &[u8], y: Layout, first: u32, n: u32) -> Opened
     if number != 0 {
         return not_opened(number);
     }
-    let system = write_shrink::shrink::system_cause(vol, map, y, true, first, n);
+    let system = stream::system::system_cause(vol, map, y, true, first, n);
     if system != 0 {
         return not_opened(system);
     }

@@ -34,7 +34,7 @@ fn next_of(vol: &[u8], y: Layout, run: bool, k: u32, left: u32) -> u32
     ensures { λ r. ⌜ r ≡ getD (along (fatEntry y (now (vol .entry))) run k left) 1 0 ⌝ }
 {
     if 1 < left {
-        return stream::list::next_cluster(vol, y, run, k);
+        return stream::walk::next_cluster(vol, y, run, k);
     }
     0
 }

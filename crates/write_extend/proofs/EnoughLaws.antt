@@ -19,25 +19,25 @@ use Rattle.boot.proofs.Apart.{in-heap, heap-in}
 use Rattle.metadata.specs.Fat.{fatEntry}
 use Rattle.metadata.specs.Marks.{marked, freeCount}
 use Rattle.metadata.specs.Usable.{isFree, isUsable}
-use Rattle.metadata.proofs.Frame.{Fits}
+use Rattle.metadata.proofs.Frame.{Fits, small}
 use Rattle.metadata.proofs.Stores.{usable-not-free, free-marked}
 use Rattle.metadata.proofs.Counting.{usableCount, usable-facts, usable-free}
 use Rattle.stream.specs.declared.allocation.Allocation.{Allocation}
 use Rattle.stream.specs.Chain.{listed}
-use Rattle.stream.specs.Stream.{numberOf, streamOf}
-use Rattle.stream.specs.Listing.{clustersOf}
+use Rattle.stream.specs.Stream.{numberOf, streamOf, clustersOf}
 use Rattle.stream.proofs.ListingLaws.{stream-read}
 use Rattle.stream.proofs.Distinct.{read-length, read-distinct}
-use Rattle.write_alloc.specs.declared.choice.Choice.{Choice}
-use Rattle.write_alloc.specs.declared.choice.Choice.the-variants.{Run, Scattered, TooFew}
-use Rattle.write_alloc.specs.Choice.{choose, chosen}
-use Rattle.write_alloc.specs.Outcome.{Outcome, unchanged, wrap, spaceCause}
+use Rattle.choice.specs.declared.choice.Choice.{Choice}
+use Rattle.choice.specs.declared.choice.Choice.the-variants.{Run, Scattered, TooFew}
+use Rattle.choice.specs.Choice.{choose, chosen}
+use Rattle.write_alloc.specs.Outcome.{Outcome, unchanged}
+use Rattle.boot.specs.Causes.{wrap, spaceCause}
 use Rattle.write_alloc.specs.Allocate.{newRun, newChain, newStream, allocateIn}
 use Rattle.write_extend.specs.Extend.{Allowed, inPlace, longerRun, longerChain, longer, extendIn}
-use Rattle.write_alloc.proofs.ChoiceLaws.{choose-inside, chosen-scattered, length-chosen, few-count}
+use Rattle.choice.proofs.ChoiceLaws.{choose-inside, chosen-scattered, length-chosen, few-count}
 use Rattle.write_alloc.proofs.AllocateLaws.{near-none, space-met, space-kept, stream-run, stream-chain, in-new}
 use Rattle.write_extend.proofs.ExtendLaws.{more-heap, more-none, tail-of, wrap-heap, longer-in, longer-out, given-done, given-refused, extend-none, extend-new, extend-longer, extend-refused}
-use Rattle.write_alloc.proofs.GrowLaws.{Fresh, Grown, Grows, small, chosen-fresh, stream-grown, allocate-few, allocate-enough}
+use Rattle.write_alloc.proofs.GrowLaws.{Fresh, Grown, Grows, chosen-fresh, stream-grown, allocate-few, allocate-enough}
 use Rattle.write_extend.proofs.LongerLaws.{length-more, longer-grown, longer-number, extend-few}
 
 -- ---- lists

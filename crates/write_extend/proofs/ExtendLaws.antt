@@ -16,31 +16,31 @@ use Rattle.boot.specs.declared.geometry.Geometry.{Geometry}
 use Rattle.boot.specs.declared.layout.Layout.{Layout}
 use Rattle.boot.specs.Limits.{limits}
 use Rattle.boot.specs.Layout.{Laid, Apart, inHeap, layoutOf}
-use Rattle.boot.specs.Causes.{firstCause, heapCause}
+use Rattle.boot.specs.Causes.{firstCause, heapCause, wrap, spaceCause}
 use Rattle.boot.proofs.CauseLaws.{cause-skip, cause-met, cause-last, heap-met, heap-kept}
 use Rattle.boot.proofs.Apart.{in-heap, heap-in}
-use Rattle.boot.proofs.Tests.{and-left, and-right}
+use Rattle.tables.proofs.Cases.{and-left, and-right}
 use Rattle.tables.proofs.CountLaws.{count-cong}
 use Rattle.metadata.specs.Fat.{END, fatEntry, setFat}
 use Rattle.metadata.specs.Marks.{marked, freeCount}
 use Rattle.metadata.specs.Usable.{isUsable}
 use Rattle.stream.specs.declared.allocation.Allocation.{Allocation}
-use Rattle.stream.specs.Stream.{numberOf, streamOf}
-use Rattle.stream.specs.Listing.{clustersOf}
+use Rattle.stream.specs.Stream.{numberOf, streamOf, clustersOf}
 use Rattle.stream.specs.Along.{along}
 use Rattle.stream.proofs.StreamLaws.{length-along, consec-along, last-consec}
 use Rattle.stream.proofs.ListingLaws.{stream-read}
 use Rattle.metadata.proofs.Frame.{Fits, fits-kept, length-fat, mark-fat}
 use Rattle.metadata.proofs.Counting.{usable-fat-marked}
-use Rattle.write_alloc.specs.declared.choice.Choice.{Choice}
-use Rattle.write_alloc.specs.declared.choice.Choice.the-variants.{Run, Scattered, TooFew}
-use Rattle.write_alloc.specs.Choice.{allFrom, choose, around, beginOf, chosen}
+use Rattle.choice.specs.declared.choice.Choice.{Choice}
+use Rattle.choice.specs.declared.choice.Choice.the-variants.{Run, Scattered, TooFew}
+use Rattle.search.specs.Search.{allFrom}
+use Rattle.choice.specs.Choice.{choose, around, beginOf, chosen}
 use Rattle.write_alloc.specs.Take.{linkRun, takeAll, prevOk}
-use Rattle.write_alloc.specs.Outcome.{Outcome, unchanged, wrap, spaceCause}
+use Rattle.write_alloc.specs.Outcome.{Outcome, unchanged}
 use Rattle.write_alloc.specs.Allocate.{allocateIn}
 use Rattle.write_extend.specs.Extend.{moreCause, inPlace, linkOld, longerRun, longerChain, longer, orGiven, extendIn, extendClusters, Allowed}
 use Rattle.write_alloc.proofs.AllocateLaws.{space-met, space-kept, wrap-low, wrap-high, prev-heap, Shown}
-use Rattle.write_alloc.proofs.ChoiceLaws.{few-count, choose-inside, around-cong, length-chosen}
+use Rattle.choice.proofs.ChoiceLaws.{few-count, choose-inside, around-cong, length-chosen}
 use Rattle.write_alloc.proofs.TakeLaws.{length-linkRun}
 
 -- ---- what refuses it

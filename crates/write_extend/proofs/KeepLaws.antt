@@ -8,26 +8,27 @@ use native.Mathlib.Omega.{arith}
 use lib.Dec.{leb}
 use Rattle.tables.specs.Lists.{Mem, here, there, lastOr}
 use Rattle.tables.specs.Count.{count}
-use Rattle.tables.proofs.Cases.{cond-case}
+use Rattle.tables.proofs.Cases.{cond-case, and-right}
 use Rattle.tables.proofs.ListLaws.{every-mem, consec-in, last-in, last-of}
 use Rattle.boot.specs.declared.layout.Layout.{Layout}
 use Rattle.boot.specs.Layout.{inHeap}
-use Rattle.boot.proofs.Tests.{and-right}
 use Rattle.boot.proofs.Apart.{in-heap, heap-in}
 use Rattle.metadata.specs.Fat.{END, fatEntry, setFat}
 use Rattle.metadata.specs.Marks.{marked}
 use Rattle.metadata.specs.Usable.{isUsable}
 use Rattle.metadata.proofs.Keeps.{Own, Keeps, Went, fat-on}
 use Rattle.stream.specs.declared.allocation.Allocation.{Allocation}
-use Rattle.stream.specs.Stream.{numberOf, streamOf}
-use Rattle.stream.specs.Listing.{clustersOf}
+use Rattle.stream.specs.Stream.{numberOf, streamOf, clustersOf}
 use Rattle.stream.proofs.StreamLaws.{Read}
 use Rattle.stream.proofs.ListingLaws.{stream-read}
 use Rattle.stream.proofs.Distinct.{read-length, read-run}
-use Rattle.write_alloc.specs.Choice.{allFrom, chosen}
+use Rattle.search.specs.Search.{allFrom}
+use Rattle.choice.specs.Choice.{chosen}
 use Rattle.write_alloc.specs.Take.{linkRun, takeAll}
-use Rattle.write_alloc.specs.Outcome.{Outcome, wrap}
-use Rattle.write_alloc.proofs.ChoiceLaws.{Whole, all-whole, in-chosen}
+use Rattle.write_alloc.specs.Outcome.{Outcome}
+use Rattle.boot.specs.Causes.{wrap}
+use Rattle.search.proofs.Lowest.{Whole, all-whole}
+use Rattle.choice.proofs.ChoiceLaws.{in-chosen}
 use Rattle.write_alloc.proofs.KeepLaws.{Taking, mark-run-on, link-run-on, take-on, new-on}
 use Rattle.write_extend.specs.Extend.{inPlace, longerRun, linkOld, longerChain, longer, extendIn}
 use Rattle.write_extend.proofs.ExtendLaws.{wrap-heap, place-facts, extend-none}

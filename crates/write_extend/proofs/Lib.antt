@@ -1,5 +1,4 @@
 pub mod EnoughLaws
 pub mod ExtendLaws
-pub mod ExtendsLaws
 pub mod LongerLaws
 pub mod KeepLaws

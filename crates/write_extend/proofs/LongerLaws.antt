@@ -16,34 +16,36 @@ use Rattle.tables.proofs.ListLaws.{mem-append, every-mem, mem-every, consec-in,
 use Rattle.tables.proofs.CountLaws.{count-cong}
 use Rattle.boot.specs.declared.layout.Layout.{Layout}
 use Rattle.boot.specs.Layout.{inHeap}
-use Rattle.boot.proofs.Tests.{and-left}
+use Rattle.tables.proofs.Cases.{and-left}
 use Rattle.boot.proofs.Apart.{in-heap}
 use Rattle.metadata.specs.Fat.{END, fatEntry, setFat}
 use Rattle.metadata.specs.Marks.{marked, freeCount}
 use Rattle.metadata.specs.Usable.{isUsable}
 use Rattle.metadata.specs.Cluster.{clusterByte}
-use Rattle.metadata.proofs.Frame.{Fits, fits-kept, fat-fat-same, fat-fat-other, cluster-fat}
+use Rattle.metadata.proofs.Frame.{Fits, fits-kept, fat-fat-same, fat-fat-other, cluster-fat, small}
 use Rattle.metadata.proofs.View.{plain}
 use Rattle.metadata.proofs.Counting.{markedCount, usable-free, usableCount}
 use Rattle.stream.specs.declared.allocation.Allocation.{Allocation}
 use Rattle.stream.specs.Chain.{listed, readChain}
-use Rattle.stream.specs.Stream.{numberOf, readStream, streamOf}
-use Rattle.stream.specs.Listing.{clustersOf}
+use Rattle.stream.specs.Stream.{numberOf, readStream, streamOf, clustersOf, empty}
 use Rattle.stream.proofs.StreamLaws.{Read}
 use Rattle.stream.proofs.ListingLaws.{stream-read}
 use Rattle.stream.proofs.Distinct.{Chain, chain-links, chain-listed, chain-append, run-listed, record-listed, read-length, read-run, read-chain}
-use Rattle.write_alloc.specs.Choice.{allFrom, chosen}
+use Rattle.search.specs.Search.{allFrom}
+use Rattle.choice.specs.Choice.{chosen}
 use Rattle.write_alloc.specs.Take.{markRun, linkRun, takeAll}
-use Rattle.write_alloc.specs.Outcome.{Outcome, unchanged, empty, wrap}
+use Rattle.write_alloc.specs.Outcome.{Outcome, unchanged}
+use Rattle.boot.specs.Causes.{wrap}
 use Rattle.write_alloc.specs.Allocate.{allocateIn}
 use Rattle.write_extend.specs.Extend.{moreCause, Allowed, inPlace, linkOld, longerRun, longerChain, longer, extendIn}
 use Rattle.write_alloc.proofs.Links.{last-append}
-use Rattle.write_alloc.proofs.Runs.{run-hit, choose-after}
-use Rattle.write_alloc.proofs.ChoiceLaws.{Whole, all-whole, chosen-run, length-chosen, few-count}
+use Rattle.search.proofs.Runs.{run-hit}
+use Rattle.choice.proofs.ChoiceLaws.{choose-after, chosen-run, length-chosen, few-count}
+use Rattle.search.proofs.Lowest.{Whole, all-whole}
 use Rattle.write_alloc.proofs.TakeLaws.{Before, Inside, fits-linkRun, run-link, run-link-other, run-link-byte}
 use Rattle.write_alloc.proofs.AllocateLaws.{wrap-low}
 use Rattle.write_extend.proofs.ExtendLaws.{more-free, more-few, more-none, allowed-of, place-usable, place-facts, link-chain, link-run, Tail, tail-of, old-kept, length-old, start-in, longer-in, longer-out, given-done, given-refused, extend-hint, extend-none, extend-new, extend-longer, extend-refused}
-use Rattle.write_alloc.proofs.GrowLaws.{Fresh, Grows, small, fresh-inside, fresh-unmarked, run-fresh, run-new, run-other, run-grown, sealed-long, sealed-mark, sealed-mark-other, sealed-fat, sealed-byte, sealed-count, sealed-end, sealed-links, sealed-first, chosen-fresh, allocate-kept}
+use Rattle.write_alloc.proofs.GrowLaws.{Fresh, Grows, fresh-inside, fresh-unmarked, run-fresh, run-new, run-other, run-grown, sealed-long, sealed-mark, sealed-mark-other, sealed-fat, sealed-byte, sealed-count, sealed-end, sealed-links, sealed-first, chosen-fresh, allocate-kept}
 
 -- ---- lists
 

@@ -11,15 +11,16 @@ use Rattle.boot.specs.declared.geometry.Geometry.{Geometry}
 use Rattle.boot.specs.declared.layout.Layout.{Layout}
 use Rattle.boot.specs.Limits.{limits}
 use Rattle.boot.specs.Layout.{layoutOf}
-use Rattle.boot.specs.Causes.{firstCause, heapCause}
+use Rattle.boot.specs.Causes.{firstCause, heapCause, wrap, spaceCause}
 use Rattle.metadata.specs.Fat.{END, setFat}
 use Rattle.metadata.specs.Marks.{freeCount}
 use Rattle.metadata.specs.Usable.{isUsable}
 use Rattle.stream.specs.declared.allocation.Allocation.{Allocation}
 use Rattle.stream.specs.Stream.{numberOf, streamOf}
-use Rattle.write_alloc.specs.Choice.{allFrom, chosen}
+use Rattle.search.specs.Search.{allFrom}
+use Rattle.choice.specs.Choice.{chosen}
 use Rattle.write_alloc.specs.Take.{markRun, linkRun, takeAll}
-use Rattle.write_alloc.specs.Outcome.{Outcome, unchanged, done, wrap, spaceCause}
+use Rattle.write_alloc.specs.Outcome.{Outcome, unchanged, done}
 use Rattle.write_alloc.specs.Allocate.{allocateIn}
 
 -- what refuses n more clusters for a record that has some: count plus n above C, n above the free count, the record's own

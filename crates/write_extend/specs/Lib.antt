@@ -1,2 +1,1 @@
 pub mod Extend
-pub mod Extends

@@ -7,15 +7,15 @@ ghost use Rattle.tables.specs.Count.{count};
 ghost use Rattle.boot.specs.Layout.{Laid, Apart, inHeap};
 ghost use Rattle.metadata.specs.Usable.{isUsable};
 ghost use Rattle.stream.specs.Stream.{numberOf, streamOf};
-ghost use Rattle.write_alloc.specs.Choice.{chosen, beginOf};
-ghost use Rattle.write_alloc.specs.Outcome.{wrap};
+ghost use Rattle.choice.specs.Choice.{chosen, beginOf};
+ghost use Rattle.boot.specs.Causes.{wrap};
 ghost use Rattle.write_extend.specs.Extend.{moreCause, inPlace, longerRun, linkOld, longerChain, longer, extendIn, extendClusters, orGiven, Allowed};
 ghost use Rattle.write_alloc.specs.Allocate.{allocateIn};
 use boot::geometry::Geometry;
 use boot::layout::Layout;
 use stream::allocation::Allocation;
 use write_alloc::answer::Answer;
-use write_alloc::choice::Choice;
+use choice::choice::Choice;
 
 // What refuses n more clusters for a record that has some.
 fn more_cause(vol: &[u8], map: &[u8], y: Layout, a: Allocation, n: u32) -> u32
@@ -32,7 +32,7 @@ fn more_cause(vol: &[u8], map: &[u8], y: Layout, a: Allocation, n: u32) -> u32
     if number != 0 {
         return number;
     }
-    if write_alloc::choice::enough(vol, map, y, n as u64) {
+    if choice::choice::enough(vol, map, y, n as u64) {
         return 0;
     }
     7
@@ -46,7 +46,7 @@ fn in_place(vol: &[u8], map: &[u8], y: Layout, a: Allocation, n: u32) -> bool
     if a.no_fat_chain {
         let next = a.last + 1;
         if next + n <= y.count + 2 {
-            return write_alloc::choice::run_is_free(vol, map, y, next, n);
+            return choice::choice::run_is_free(vol, map, y, next, n);
         }
         return false;
     }
@@ -107,7 +107,7 @@ fn longer_chain(vol: &mut [u8], map: &[u8], y: Layout, a: Allocation, n: u32) ->
     ensures { λ r. ⌜ (r ≡ longerChain y (now (vol .entry)) a (chosen (isUsable y (now (vol .entry)) (now (map .entry))) (y .count) n (wrap (y .count) (a .last + 1))) .answer) × (now (vol .exit) ≡ longerChain y (now (vol .entry)) a (chosen (isUsable y (now (vol .entry)) (now (map .entry))) (y .count) n (wrap (y .count) (a .last + 1))) .volume) ⌝ }
 {
     let start = write_alloc::allocate::wrap_cluster(y.count, a.last + 1);
-    let choice = write_alloc::choice::choose_clusters(vol, map, y, start, n);
+    let choice = choice::choice::choose_clusters(vol, map, y, start, n);
     let from = begin_of(choice, start);
     link_old(vol, y, a);
     let last = write_alloc::allocate::take_chain(vol, map, y, from, n, a.last);

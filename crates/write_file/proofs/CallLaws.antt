@@ -14,17 +14,17 @@ use Rattle.boot.specs.declared.layout.Layout.{Layout}
 use Rattle.boot.specs.Geometry.{numberOfFats, clusterCount, bitmap0, bitmap1, bitmapClusters}
 use Rattle.boot.specs.Limits.{all, shapeTests, roomTests, mapTests, inMap, allInMap, runInMap, apart, secondBitmap, limits}
 use Rattle.boot.specs.Layout.{layoutOf, bitmapFirst, inHeap, inRun, isBitmapCluster}
-use Rattle.boot.proofs.Tests.{and-left, and-right, and-both, each-of}
+use Rattle.tables.proofs.Cases.{and-left, and-right, and-both}
+use Rattle.boot.proofs.Tests.{each-of}
 use Rattle.boot.proofs.Accepted.{accepted-of}
 use Rattle.boot.proofs.Places.{first-zero, first-suc}
 use Rattle.boot.proofs.Apart.{bitmap-second}
 use Rattle.boot.proofs.CauseLaws.{cause-last, cause-none}
 use Rattle.metadata.proofs.View.{plain}
 use Rattle.stream.specs.declared.allocation.Allocation.{Allocation}
-use Rattle.stream.specs.Stream.{numberOf, streamOf}
-use Rattle.stream.specs.Listing.{clustersOf}
+use Rattle.stream.specs.Stream.{numberOf, streamOf, clustersOf, clustersIn}
 use Rattle.stream.proofs.ListingLaws.{stream-read}
-use Rattle.directory.specs.Directory.{bitmapCause, directoryCause, clustersIn}
+use Rattle.directory.specs.Directory.{bitmapCause, directoryCause}
 use Rattle.write_dir.specs.declared.answer.FileAnswer.{FileAnswer}
 use Rattle.write_dir.specs.Outcome.{refuse}
 

@@ -8,12 +8,11 @@ use Prim.Native.Nat.{ℕ, _+_, _-_, _≤_}
 use lib.ListN.{length, replicate}
 use Rattle.tables.specs.Lists.{Mem, every}
 use Rattle.tables.specs.Count.{count}
-use Rattle.tables.proofs.Cases.{not-so}
+use Rattle.tables.proofs.Cases.{not-so, and-both}
 use Rattle.tables.proofs.ListLaws.{every-mem, mem-every, mem-append}
 use Rattle.boot.specs.declared.layout.Layout.{Layout}
 use Rattle.boot.specs.Limits.{inMap}
 use Rattle.boot.specs.Layout.{inHeap, isBitmapCluster}
-use Rattle.boot.proofs.Tests.{and-both}
 use Rattle.metadata.specs.Usable.{isUsable}
 use Rattle.metadata.proofs.Frame.{Fits}
 use Rattle.metadata.proofs.View.{plain}
@@ -21,8 +20,7 @@ use Rattle.metadata.proofs.Counting.{usable-facts}
 use Rattle.metadata.proofs.Keeps.{Keeps, Went, went-none}
 use Rattle.stream.specs.declared.allocation.Allocation.{Allocation}
 use Rattle.stream.specs.Chain.{Clusters}
-use Rattle.stream.specs.Stream.{numberOf, streamOf}
-use Rattle.stream.specs.Listing.{clustersOf}
+use Rattle.stream.specs.Stream.{numberOf, streamOf, clustersOf, clustersIn}
 use Rattle.stream.specs.Bytes.{storeAt}
 use Rattle.stream.proofs.ListingLaws.{stream-read}
 use Rattle.stream.proofs.KeepLaws.{store-on, stream-store}
@@ -33,7 +31,7 @@ use Rattle.write_alloc.proofs.KeepLaws.{Taking}
 use Rattle.write_extend.specs.Extend.{extendIn}
 use Rattle.write_extend.proofs.EnoughLaws.{Took, extend-done}
 use Rattle.write_extend.proofs.KeepLaws.{extend-on}
-use Rattle.directory.specs.Directory.{directoryCause, clustersIn}
+use Rattle.directory.specs.Directory.{directoryCause}
 use Rattle.write_dir.specs.Outcome.{carried}
 use Rattle.write_dir.specs.Open.{fileRecord}
 use Rattle.write_dir.specs.Place.{Grown, growBy}

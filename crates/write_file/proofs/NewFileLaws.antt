@@ -15,30 +15,29 @@ use Rattle.boot.specs.declared.layout.Layout.{Layout}
 use Rattle.boot.specs.Geometry.{rootCluster}
 use Rattle.boot.specs.Limits.{limits}
 use Rattle.boot.specs.Layout.{inHeap, layoutOf}
-use Rattle.boot.specs.Causes.{firstCause, heapCause}
-use Rattle.boot.proofs.Tests.{and-left, and-right}
+use Rattle.boot.specs.Causes.{firstCause, heapCause, spaceCause}
+use Rattle.tables.proofs.Cases.{and-left, and-right}
 use Rattle.boot.proofs.Accepted.{accepted-of, map-length}
 use Rattle.boot.proofs.Places.{laid-of}
 use Rattle.boot.proofs.Apart.{apart-of}
 use Rattle.boot.proofs.CauseLaws.{cause-skip, cause-met, cause-last, heap-met, heap-kept}
-use Rattle.metadata.specs.declared.usable.Found.the-variants.{At}
+use Rattle.search.specs.declared.found.Found.the-variants.{At}
 use Rattle.metadata.specs.Usable.{isUsable}
 use Rattle.metadata.proofs.Frame.{Fits, fits-kept}
 use Rattle.stream.specs.declared.allocation.Allocation.{Allocation}
 use Rattle.stream.specs.Chain.{listed}
-use Rattle.stream.specs.Stream.{numberOf, streamOf}
-use Rattle.stream.specs.Bytes.{storeAt}
+use Rattle.stream.specs.Stream.{numberOf, streamOf, clustersIn}
+use Rattle.stream.specs.Bytes.{storeAt, bytesIn}
 use Rattle.stream.proofs.BytesLaws.{take-short}
 use Rattle.entry_set.specs.declared.stamp.Stamps.{Stamps}
 use Rattle.entry_set.specs.Name.{nameOk, nameCause, attributesOk, attributeCause}
 use Rattle.entry_set.specs.Fields.{nameEntries}
 use Rattle.entry_set.specs.New.{newEntries, newSet}
-use Rattle.write_alloc.specs.Outcome.{spaceCause}
 use Rattle.write_alloc.proofs.AllocateLaws.{space-met, space-kept}
-use Rattle.write_alloc.proofs.ChoiceLaws.{run-at}
+use Rattle.search.proofs.Lowest.{run-at}
 use Rattle.directory.specs.declared.directory.Directory.{Directory}
 use Rattle.directory.specs.declared.entries.Room.{Room}
-use Rattle.directory.specs.Directory.{rootRecord, directoryCause, openRoot, clustersIn, bytesIn}
+use Rattle.directory.specs.Directory.{rootRecord, directoryCause, openRoot}
 use Rattle.directory.specs.Entries.{entryCount, inUse}
 use Rattle.directory.specs.Room.{freeRun, slotOf, withZeros, growth, roomFor}
 use Rattle.directory.proofs.CursorLaws.{length-entries, entries-is, slot-bytes}

@@ -13,21 +13,18 @@ use Rattle.boot.specs.Layout.{Laid, inHeap}
 use Rattle.boot.specs.Causes.{firstCause, heapCause}
 use Rattle.boot.proofs.CauseLaws.{cause-skip, cause-met, cause-last, heap-met, heap-kept, cause-none}
 use Rattle.metadata.proofs.Frame.{Fits}
-use Rattle.stream.specs.Bytes.{storeAt}
+use Rattle.stream.specs.Bytes.{storeAt, bytesIn}
 use Rattle.stream.specs.declared.allocation.Allocation.{Allocation}
-use Rattle.stream.specs.Stream.{numberOf, streamOf}
-use Rattle.stream.specs.Listing.{clustersOf}
+use Rattle.stream.specs.Stream.{numberOf, streamOf, clustersOf, systemCause, empty, clustersIn}
 use Rattle.stream.proofs.BytesLaws.{take-short}
 use Rattle.entry_set.specs.declared.stamp.Stamp.{Stamp}
 use Rattle.entry_set.specs.Fields.{validLength, dataLength, clustersFor}
 use Rattle.entry_set.proofs.LengthLaws.{clusters-hold}
 use Rattle.entry_set.proofs.SetLaws.{formed-lengths}
-use Rattle.write_shrink.specs.Shrink.{systemCause}
 use Rattle.write_dir.specs.declared.answer.FileAnswer.{FileAnswer}
 use Rattle.write_dir.specs.Outcome.{Outcome, refuse, carried}
-use Rattle.write_alloc.specs.Outcome.{empty}
 use Rattle.directory.specs.declared.directory.Directory.{Directory}
-use Rattle.directory.specs.Directory.{rootRecord, openRoot, bitmapCause, directoryCause, clustersIn, bytesIn}
+use Rattle.directory.specs.Directory.{rootRecord, openRoot, bitmapCause, directoryCause}
 use Rattle.directory.proofs.DirectoryLaws.{clusters-length}
 use Rattle.directory.specs.Entries.{entryCount, entriesAt, setAt, isSound}
 use Rattle.directory.proofs.EntryLaws.{sound-few, sound-room, sound-formed, set-count}

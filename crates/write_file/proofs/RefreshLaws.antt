@@ -21,9 +21,8 @@ use Rattle.metadata.proofs.Frame.{Fits}
 use Rattle.stream.specs.declared.allocation.Allocation.{Allocation}
 use Rattle.stream.specs.declared.bytes.Place.{Place}
 use Rattle.stream.specs.Chain.{listed}
-use Rattle.stream.specs.Listing.{clustersOf}
+use Rattle.stream.specs.Stream.{clustersOf, numberOf, streamOf, clustersIn}
 use Rattle.stream.specs.Along.{along}
-use Rattle.stream.specs.Stream.{numberOf, streamOf}
 use Rattle.stream.specs.Bytes.{storeAt, Known}
 use Rattle.stream.proofs.BytesSteps.{store-nothing, reach-last, take-along, known-first, known-same}
 use Rattle.stream.proofs.ListingLaws.{stream-read, along-heap}
@@ -37,7 +36,6 @@ use Rattle.write_alloc.specs.Outcome.{Outcome}
 use Rattle.write_extend.specs.Extend.{extendIn}
 use Rattle.write_extend.proofs.EnoughLaws.{Took, extend-done}
 use Rattle.write_alloc.proofs.AllocateLaws.{space-met, space-kept}
-use Rattle.directory.specs.Directory.{clustersIn}
 use Rattle.directory.proofs.DirectoryLaws.{clusters-along}
 use Rattle.write_file.specs.Refresh.{entriesOf, missing, lengthCause, knownPlace}
 

@@ -22,7 +22,8 @@ use Rattle.entry_set.specs.Fields.{validLength, dataLength}
 use Rattle.write_alloc.specs.declared.answer.Answer.{Answer}
 use Rattle.write_alloc.specs.Outcome as Alloc
 use Rattle.write_extend.specs.Extend.{extendIn}
-use Rattle.directory.specs.Directory.{rootRecord, clustersIn}
+use Rattle.directory.specs.Directory.{rootRecord}
+use Rattle.stream.specs.Stream.{clustersIn}
 use Rattle.write_dir.specs.Outcome.{Outcome, carried, refuse}
 use Rattle.write_dir.specs.Open.{fileRecord, setIn}
 use Rattle.write_file.specs.Refresh.{stored, missing, lengthCause, openCause}

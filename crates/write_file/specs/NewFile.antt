@@ -11,15 +11,15 @@ use Rattle.boot.specs.declared.layout.Layout.{Layout}
 use Rattle.boot.specs.Geometry.{rootCluster}
 use Rattle.boot.specs.Limits.{inMap, limits}
 use Rattle.boot.specs.Layout.{Laid, Apart, inHeap, isBitmapCluster, layoutOf}
-use Rattle.boot.specs.Causes.{firstCause, heapCause}
+use Rattle.boot.specs.Causes.{firstCause, heapCause, spaceCause}
 use Rattle.metadata.specs.Usable.{isUsable}
 use Rattle.stream.specs.declared.allocation.Allocation.{Allocation}
-use Rattle.stream.specs.Bytes.{storeAt}
+use Rattle.stream.specs.Bytes.{storeAt, bytesIn}
 use Rattle.entry_set.specs.declared.stamp.Stamps.{Stamps}
 use Rattle.entry_set.specs.Name.{nameCause, attributeCause}
 use Rattle.entry_set.specs.New.{newEntries, newSet}
-use Rattle.write_alloc.specs.Outcome.{spaceCause}
-use Rattle.directory.specs.Directory.{rootRecord, directoryCause, clustersIn, bytesIn}
+use Rattle.directory.specs.Directory.{rootRecord, directoryCause}
+use Rattle.stream.specs.Stream.{clustersIn}
 use Rattle.directory.specs.Room.{freeRun, slotOf, growth}
 use Rattle.write_dir.specs.Outcome.{Outcome, refuse, carried}
 use Rattle.write_dir.specs.Place.{Grown, growBy}

@@ -8,9 +8,8 @@ use lib.ListN.{length}
 use Rattle.boot.specs.declared.layout.Layout.{Layout}
 use Rattle.boot.specs.Layout.{Laid, Apart, inHeap}
 use Rattle.stream.specs.declared.allocation.Allocation.{Allocation}
-use Rattle.stream.specs.Stream.{numberOf, streamOf}
+use Rattle.stream.specs.Stream.{numberOf, streamOf, empty}
 use Rattle.directory.specs.Directory.{directoryCause}
-use Rattle.write_alloc.specs.Outcome.{empty}
 use Rattle.write_dir.specs.Open.{fileRecord, fileCause, setIn}
 use Rattle.write_file.specs.declared.target.Target.{Target}
 use Rattle.write_file.specs.Refresh.{openCause}

@@ -6,7 +6,7 @@ use lib.Dec.{eqb}
 use lib.ListN.{take}
 use Rattle.tables.specs.Count.{count}
 use Rattle.boot.specs.declared.layout.Layout.{Layout}
-use Rattle.boot.specs.Causes.{firstCause, heapCause}
+use Rattle.boot.specs.Causes.{firstCause, heapCause, spaceCause}
 use Rattle.metadata.specs.Usable.{isUsable}
 use Rattle.stream.specs.declared.allocation.Allocation.{Allocation}
 use Rattle.stream.specs.declared.bytes.Place.{Place}
@@ -14,7 +14,6 @@ use Rattle.stream.specs.Bytes.{storeAt}
 use Rattle.entry_set.specs.declared.stamp.Stamp.{Stamp}
 use Rattle.entry_set.specs.Fields.{secondaryCount, clustersFor}
 use Rattle.entry_set.specs.Put.{refreshed}
-use Rattle.write_alloc.specs.Outcome.{spaceCause}
 use Rattle.directory.specs.Directory.{directoryCause}
 use Rattle.write_dir.specs.Open.{fileCause}
 

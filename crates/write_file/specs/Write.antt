@@ -15,7 +15,8 @@ use Rattle.stream.specs.Bytes.{storeAt}
 use Rattle.entry_set.specs.declared.stamp.Stamp.{Stamp}
 use Rattle.entry_set.specs.Fields.{validLength, dataLength}
 use Rattle.write_extend.specs.Extend.{extendIn}
-use Rattle.directory.specs.Directory.{rootRecord, clustersIn}
+use Rattle.directory.specs.Directory.{rootRecord}
+use Rattle.stream.specs.Stream.{clustersIn}
 use Rattle.write_dir.specs.Outcome.{Outcome, refuse, carried}
 use Rattle.write_dir.specs.Open.{fileRecord, setIn}
 use Rattle.write_file.specs.Refresh.{stored, missing, lengthCause, openCause}

@@ -5,8 +5,8 @@ ghost use lib.ListN.{length};
 ghost use Rattle.tables.specs.Count.{count};
 ghost use Rattle.boot.specs.Layout.{Laid};
 ghost use Rattle.metadata.specs.Usable.{isUsable};
-ghost use Rattle.write_alloc.specs.Outcome.{spaceCause};
-ghost use Rattle.directory.specs.Directory.{bytesIn};
+ghost use Rattle.boot.specs.Causes.{spaceCause};
+ghost use Rattle.stream.specs.Bytes.{bytesIn};
 ghost use Rattle.directory.specs.Room.{roomFor};
 ghost use Rattle.write_dir.specs.Place.{standing, growBy};
 ghost use Rattle.write_file.specs.NewFile.{Ready, placed, newFileIn, newFile};
@@ -25,7 +25,7 @@ fn space_cause(vol: &[u8], map: &[u8], y: Layout, n: u32) -> u32
     if n == 0 {
         return 0;
     }
-    if write_alloc::choice::enough(vol, map, y, n as u64) {
+    if choice::choice::enough(vol, map, y, n as u64) {
         return 0;
     }
     7

@@ -4,10 +4,9 @@ ghost use mathlib.Core.Bool.{true};
 ghost use Prim.Native.Nat.{_+_, _-_, _*_, _≤_, _<_};
 ghost use lib.ListN.{length, take, replicate};
 ghost use Rattle.boot.specs.Layout.{Laid, Apart, inHeap};
-ghost use Rattle.stream.specs.Stream.{numberOf, streamOf};
+ghost use Rattle.stream.specs.Stream.{numberOf, streamOf, clustersIn};
 ghost use Rattle.stream.specs.Bytes.{storeAt, Known};
 ghost use Rattle.write_extend.specs.Extend.{extendIn};
-ghost use Rattle.directory.specs.Directory.{clustersIn};
 ghost use Rattle.write_dir.specs.Place.{spotClusters, Reaches};
 ghost use Rattle.write_dir.specs.Open.{fileRecord};
 ghost use Rattle.write_file.specs.Refresh.{entriesOf, recorded, missing, lengthCause, knownPlace};
@@ -38,7 +37,7 @@ pub fn length_cause(vol: &[u8], map: &[u8], y: Layout, b: Allocation, len: u64) 
     if needed <= there {
         return 0;
     }
-    if write_alloc::choice::enough(vol, map, y, needed - there) {
+    if choice::choice::enough(vol, map, y, needed - there) {
         return 0;
     }
     7

@@ -3,7 +3,7 @@ ghost use mathlib.Core.Path.{_≡_};
 ghost use Prim.Native.Nat.{_+_, _*_, _≤_};
 ghost use lib.ListN.{length};
 ghost use Rattle.boot.specs.Layout.{Laid, Apart};
-ghost use Rattle.write_alloc.specs.Outcome.{empty};
+ghost use Rattle.stream.specs.Stream.{empty};
 ghost use Rattle.directory.specs.Directory.{rootRecord};
 ghost use Rattle.write_file.specs.Opens.{target};
 use boot::layout::Layout;

@@ -12,12 +12,10 @@ use Rattle.boot.specs.Layout.{inHeap}
 use Rattle.metadata.specs.Usable.{isUsable}
 use Rattle.metadata.proofs.Keeps.{Keeps, Went}
 use Rattle.stream.specs.declared.allocation.Allocation.{Allocation}
-use Rattle.stream.specs.Stream.{streamOf}
-use Rattle.stream.specs.Listing.{clustersOf}
+use Rattle.stream.specs.Stream.{streamOf, clustersOf, clustersIn}
 use Rattle.entry_set.specs.declared.stamp.Stamp.{Stamp}
 use Rattle.entry_set.specs.Fields.{validLength, dataLength, clustersFor}
 use Rattle.write_shrink.proofs.KeepLaws.{shrink-on}
-use Rattle.directory.specs.Directory.{clustersIn}
 use Rattle.write_dir.specs.Outcome.{Outcome, carried}
 use Rattle.write_dir.specs.Open.{fileRecord}
 use Rattle.write_file.specs.Refresh.{stored, missing}

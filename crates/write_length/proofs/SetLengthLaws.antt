@@ -16,7 +16,7 @@ use Rattle.boot.specs.Layout.{layoutOf, inHeap}
 use Rattle.boot.proofs.CauseLaws.{cause-skip, cause-met, cause-last}
 use Rattle.metadata.specs.Fat.{fatEntry}
 use Rattle.stream.specs.declared.allocation.Allocation.{Allocation}
-use Rattle.stream.specs.Stream.{numberOf, streamOf}
+use Rattle.stream.specs.Stream.{numberOf, streamOf, clustersIn}
 use Rattle.stream.specs.Along.{along}
 use Rattle.stream.specs.Bytes.{storeAt}
 use Rattle.stream.proofs.BytesSteps.{take-along, every-take}
@@ -31,7 +31,7 @@ use Rattle.write_shrink.specs.declared.shrink.Kept.{Kept}
 use Rattle.write_shrink.specs.Shrink.{keptRecord, shrinkIn}
 use Rattle.write_shrink.specs.Kept.{keptPart, partRecord}
 use Rattle.write_shrink.proofs.Cutting.{part-record}
-use Rattle.directory.specs.Directory.{rootRecord, clustersIn}
+use Rattle.directory.specs.Directory.{rootRecord}
 use Rattle.directory.proofs.DirectoryLaws.{clusters-along}
 use Rattle.write_dir.specs.Outcome.{Outcome, carried, refuse}
 use Rattle.write_dir.specs.Open.{fileRecord, setIn}

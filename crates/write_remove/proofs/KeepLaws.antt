@@ -5,7 +5,7 @@ use Rattle.boot.specs.declared.layout.Layout.{Layout}
 use Rattle.metadata.proofs.Keeps.{Keeps, Went}
 use Rattle.stream.specs.declared.allocation.Allocation.{Allocation}
 use Rattle.write_shrink.proofs.KeepLaws.{shrink-on}
-use Rattle.directory.specs.Directory.{clustersIn}
+use Rattle.stream.specs.Stream.{clustersIn}
 use Rattle.write_shrink.specs.Shrink.{shrinkIn}
 use Rattle.write_dir.specs.Outcome.{carried}
 use Rattle.write_dir.specs.Open.{fileRecord}

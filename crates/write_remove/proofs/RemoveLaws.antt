@@ -16,7 +16,8 @@ use Rattle.stream.specs.declared.allocation.Allocation.{Allocation}
 use Rattle.stream.specs.Bytes.{storeAt}
 use Rattle.entry_set.specs.Put.{cleared}
 use Rattle.write_shrink.specs.Shrink.{shrinkIn}
-use Rattle.directory.specs.Directory.{rootRecord, clustersIn}
+use Rattle.directory.specs.Directory.{rootRecord}
+use Rattle.stream.specs.Stream.{clustersIn}
 use Rattle.directory.proofs.DirectoryLaws.{clusters-length}
 use Rattle.write_dir.specs.Outcome.{refuse, carried}
 use Rattle.write_dir.specs.Open.{fileRecord, setIn}

@@ -10,7 +10,7 @@ use lib.Dec.{eqb, leb}
 use lib.ListN.{length, take, drop}
 use lib.Seq.{take-append-seam, drop-append-seam}
 use borrow.Author.Tests.{eq-eqb, ne-eqb, le-leb, lt-leb}
-use Rattle.tables.specs.Lists.{Mem, here, there, Distinct, more, every, lastOr}
+use Rattle.tables.specs.Lists.{Mem, here, there, Distinct, more, every, lastOr, risingFrom, rising}
 use Rattle.tables.proofs.Cases.{cond-case}
 use Rattle.tables.proofs.ListLaws.{mem-left, mem-right, every-mem, mem-every, last-in}
 use Rattle.boot.specs.declared.geometry.Geometry.{Geometry}
@@ -24,9 +24,8 @@ use Rattle.metadata.specs.Fat.{END, fatEntry, setFat}
 use Rattle.metadata.specs.Marks.{marked, setMark}
 use Rattle.metadata.proofs.Frame.{Fits, fits-kept, length-fat, length-mark, fat-fat-other, fat-mark}
 use Rattle.stream.specs.declared.allocation.Allocation.{Allocation}
-use Rattle.stream.specs.Stream.{numberOf, streamOf}
+use Rattle.stream.specs.Stream.{numberOf, streamOf, clustersOf, systemCause}
 use Rattle.stream.specs.Along.{after, along}
-use Rattle.stream.specs.Listing.{clustersOf}
 use Rattle.stream.proofs.StreamLaws.{along-step, length-along, along-head, along-rest}
 use Rattle.stream.proofs.ListingLaws.{stream-read}
 use Rattle.stream.proofs.Distinct.{along-cong, read-distinct}
@@ -34,8 +33,9 @@ use Rattle.write_alloc.specs.declared.answer.Answer.{Answer}
 use Rattle.write_shrink.specs.declared.shrink.Kept.{Kept}
 use Rattle.write_alloc.specs.Outcome.{Outcome, unchanged}
 use Rattle.write_alloc.proofs.AllocateLaws.{Shown}
-use Rattle.write_shrink.specs.Kept.{ahead, keptPart, partRecord}
-use Rattle.write_shrink.specs.Shrink.{systemCause, freeAll, risingFrom, rising, keptRecord, endKept, shrinkCause, cut, shrinkIn, shrinkClusters}
+use Rattle.stream.specs.Bytes.{reached}
+use Rattle.write_shrink.specs.Kept.{keptPart, partRecord}
+use Rattle.write_shrink.specs.Shrink.{freeAll, keptRecord, endKept, shrinkCause, cut, shrinkIn, shrinkClusters}
 
 -- ---- lists put together
 
@@ -50,8 +50,8 @@ distinct-apart (x ∷ xs) ys (more o d) k (there p) q = distinct-apart xs ys d k
 -- ---- the kept part
 
 module _ (fat : ℕ → ℕ) (run : Bool) where
-  pub along-split : (k n m : ℕ) → along fat run k (n + m) ≡ along fat run k n ++ along fat run (ahead fat run k n) m
-  unfolding along ahead
+  pub along-split : (k n m : ℕ) → along fat run k (n + m) ≡ along fat run k n ++ along fat run (reached fat run k n) m
+  unfolding along reached
   along-split k zero m = let e : 0 + m ≡ m = omega arith in rw e refl
   along-split k (suc n) m =
       let e : suc n + m ≡ suc (n + m) = omega arith in
@@ -73,8 +73,8 @@ module _ (fat : ℕ → ℕ) (run : Bool) where
   walk-step b k (suc n) h = rw sub-one refl
 
   walk-is : (b : Bool) (k n : ℕ) → walkKept b k n
-      ≡ record { last = lastOr k (along fat run (after fat run k) n); rising = b && risingFrom k (along fat run (after fat run k) n); next = ahead fat run (after fat run k) n }
-  unfolding walkKept along ahead lastOr risingFrom
+      ≡ record { last = lastOr k (along fat run (after fat run k) n); rising = b && risingFrom k (along fat run (after fat run k) n); next = reached fat run (after fat run k) n }
+  unfolding walkKept along reached lastOr risingFrom
   walk-is b k zero = rw (and-true b) refl
     where
       and-true : (b : Bool) → b && true ≡ b
@@ -89,16 +89,16 @@ module _ (fat : ℕ → ℕ) (run : Bool) where
       and-assoc false b c = refl
 
   pub kept-none : (k n : ℕ) → n ≡ 0 → keptPart fat run k n ≡ record { last = 0; rising = true; next = k }
-  unfolding keptPart along lastOr rising ahead
+  unfolding keptPart along lastOr rising reached
   kept-none k zero h = refl
   kept-none k (suc n) h = absurd (omega arith)
 
   pub kept-some : (k n : ℕ) → n ≢ 0 → keptPart fat run k n ≡ walkKept true k (n - 1)
-  unfolding keptPart along lastOr rising ahead
+  unfolding keptPart along lastOr rising reached
   kept-some k zero h = absurd (h refl)
   kept-some k (suc n) h = rw sub-one (sym (walk-is true k n))
 
-  pub part-next : (k n : ℕ) (p : Kept) → p ≡ keptPart fat run k n → p .next ≡ ahead fat run k n
+  pub part-next : (k n : ℕ) (p : Kept) → p ≡ keptPart fat run k n → p .next ≡ reached fat run k n
   unfolding keptPart
   part-next k n p e = ap (λ (x : Kept). x .next) e
 
@@ -251,7 +251,7 @@ module _ (y : Layout) (d : List ℕ) (a : Allocation) (keep : ℕ) where
   keptOf = along (fatEntry y d) (a .«no_fat_chain») (a .first) keep
 
   abbrev pub freedOf : List ℕ
-  freedOf = along (fatEntry y d) (a .«no_fat_chain») (ahead (fatEntry y d) (a .«no_fat_chain») (a .first) keep) (a .count - keep)
+  freedOf = along (fatEntry y d) (a .«no_fat_chain») (reached (fatEntry y d) (a .«no_fat_chain») (a .first) keep) (a .count - keep)
 
 module _ (y : Layout) (d : List ℕ) (a : Allocation) (keep : ℕ) (l : Laid y) (h : keep < a .count) (e : numberOf (streamOf y d a) ≡ 0) where
   parts : clustersOf (streamOf y d a) ≡ keptOf y d a keep ++ freedOf y d a keep
@@ -310,11 +310,11 @@ module _ (y : Layout) (d : List ℕ) (a : Allocation) (keep : ℕ) (l : Laid y) 
         (in-heap (y .count) j (every-mem (inHeap (y .count)) (freedOf y d a keep) freed-heap j m) .1)
         (λ r. distinct-apart (keptOf y d a keep) (freedOf y d a keep) whole-distinct j (subst (λ (x : ℕ). Mem x (keptOf y d a keep)) (sym r) i) m)))
 
-    freed-same : along (fatEntry y d′) (a .«no_fat_chain») (ahead (fatEntry y d) (a .«no_fat_chain») (a .first) keep) (a .count - keep) ≡ freedOf y d a keep
+    freed-same : along (fatEntry y d′) (a .«no_fat_chain») (reached (fatEntry y d) (a .«no_fat_chain») (a .first) keep) (a .count - keep) ≡ freedOf y d a keep
     freed-same =
-        along-cong (fatEntry y d) (fatEntry y d′) (a .«no_fat_chain») (ahead (fatEntry y d) (a .«no_fat_chain») (a .first) keep) (a .count - keep) ended
+        along-cong (fatEntry y d) (fatEntry y d′) (a .«no_fat_chain») (reached (fatEntry y d) (a .«no_fat_chain») (a .first) keep) (a .count - keep) ended
 
-    module _ (k : ℕ) (n : k ≡ ahead (fatEntry y d) (a .«no_fat_chain») (a .first) keep) where
+    module _ (k : ℕ) (n : k ≡ reached (fatEntry y d) (a .«no_fat_chain») (a .first) keep) where
       pub left-same : along (fatEntry y d′) (a .«no_fat_chain») k (a .count - keep) ≡ freedOf y d a keep
       left-same = ap (λ (x : ℕ). along (fatEntry y d′) (a .«no_fat_chain») x (a .count - keep)) n ∙ freed-same
 

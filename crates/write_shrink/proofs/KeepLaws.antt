@@ -18,8 +18,7 @@ use Rattle.metadata.specs.Marks.{setMark}
 use Rattle.metadata.proofs.Keeps.{Own, Keeps, Went, fat-on, mark-on}
 use Rattle.stream.specs.declared.allocation.Allocation.{Allocation}
 use Rattle.stream.specs.Chain.{Clusters, listed, refused}
-use Rattle.stream.specs.Stream.{numberOf, streamOf}
-use Rattle.stream.specs.Listing.{clustersOf}
+use Rattle.stream.specs.Stream.{numberOf, streamOf, clustersOf}
 use Rattle.stream.proofs.ListingLaws.{stream-read}
 use Rattle.write_alloc.specs.Outcome.{Outcome, unchanged}
 use Rattle.write_shrink.specs.Shrink.{freeAll, endKept, shrinkCause, cut, shrinkIn}

@@ -1,4 +1,3 @@
 pub mod Cutting
-pub mod RunSystem
 pub mod ShrinkLaws
 pub mod KeepLaws

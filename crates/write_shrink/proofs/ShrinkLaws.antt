@@ -10,8 +10,8 @@ use lib.ListN.{length, take, drop, take-append-drop}
 use lib.Seq.{take-append-seam}
 use borrow.Author.Tests.{eqb-true, eqb-false, lt-leb, not-true}
 use Rattle.tables.specs.Table.{upd, updAll}
-use Rattle.tables.specs.Lists.{Mem, here, there, Distinct, every, lastOr, consec}
-use Rattle.tables.proofs.Cases.{clash}
+use Rattle.tables.specs.Lists.{Mem, here, there, Distinct, every, lastOr, consec, risingFrom, rising}
+use Rattle.tables.proofs.Cases.{clash, and-left, and-right}
 use Rattle.tables.proofs.TableLaws.{all-same, all-other, all-upd}
 use Rattle.tables.proofs.ListLaws.{mem-take, mem-left, mem-right, every-mem, mem-every, distinct-take, last-in}
 use Rattle.tables.proofs.CountLaws.{count-cong, count-all}
@@ -20,7 +20,6 @@ use Rattle.boot.specs.Limits.{inMap}
 use Rattle.boot.specs.Layout.{inHeap}
 use Rattle.boot.specs.Causes.{firstCause, heapCause}
 use Rattle.boot.proofs.CauseLaws.{cause-none}
-use Rattle.boot.proofs.Tests.{and-left, and-right}
 use Rattle.boot.proofs.Apart.{in-heap, heap-in}
 use Rattle.metadata.specs.Fat.{END, fatEntry, setFat}
 use Rattle.metadata.specs.Marks.{marked, freeCount}
@@ -30,14 +29,13 @@ use Rattle.metadata.proofs.View.{Tables, plain, view, withMark, view-fat-at, vi
 use Rattle.metadata.proofs.Counting.{markedCount, free-is-unmarked}
 use Rattle.stream.specs.declared.allocation.Allocation.{Allocation}
 use Rattle.stream.specs.Chain.{listed, readChain}
-use Rattle.stream.specs.Stream.{numberOf, readStream, streamOf}
-use Rattle.stream.specs.Listing.{clustersOf}
+use Rattle.stream.specs.Stream.{numberOf, readStream, streamOf, clustersOf, systemCause}
 use Rattle.stream.proofs.StreamLaws.{last-consec, Read, read-facts}
 use Rattle.stream.proofs.ChainLaws.{stream-empty}
 use Rattle.stream.proofs.ListingLaws.{stream-read}
 use Rattle.stream.proofs.Distinct.{chain-cut, run-listed, record-listed, read-run, read-chain, read-distinct, stream-frame}
 use Rattle.write_alloc.specs.Outcome.{Outcome, unchanged}
-use Rattle.write_shrink.specs.Shrink.{systemCause, freeAll, risingFrom, rising, keptRecord, endKept, shrinkCause, cut, shrinkIn}
+use Rattle.write_shrink.specs.Shrink.{freeAll, keptRecord, endKept, shrinkCause, cut, shrinkIn}
 use Rattle.write_alloc.proofs.TakeLaws.{mark-is, fat-is, byte-is}
 use Rattle.write_shrink.proofs.Cutting.{distinct-right, distinct-apart, freeOne, length-one, fits-one, end-case, shrink-by}
 

@@ -1,40 +1,25 @@
 -- Shrink (01, "Shrink"; Rust: `shrink_clusters`).
-use mathlib.Core.Bool.{Bool, true, false, _&&_, _||_, not, cond}
+use mathlib.Core.Bool.{false, _||_, cond}
 use mathlib.Core.List.{List, [], _∷_}
-use Prim.Native.Nat.{ℕ, _+_}
+use Prim.Native.Nat.{ℕ}
 use lib.Dec.{eqb, leb}
 use lib.ListN.{length, take, drop}
-use Rattle.tables.specs.Lists.{every, lastOr}
+use Rattle.tables.specs.Lists.{lastOr}
 use Rattle.boot.specs.declared.geometry.Geometry.{Geometry}
 use Rattle.boot.specs.declared.layout.Layout.{Layout}
-use Rattle.boot.specs.Limits.{inMap, limits}
+use Rattle.boot.specs.Limits.{limits}
 use Rattle.boot.specs.Layout.{layoutOf}
 use Rattle.boot.specs.Causes.{firstCause, heapCause}
 use Rattle.metadata.specs.Fat.{END, setFat}
 use Rattle.metadata.specs.Marks.{setMark}
 use Rattle.stream.specs.declared.allocation.Allocation.{Allocation}
-use Rattle.stream.specs.Stream.{numberOf, streamOf}
-use Rattle.stream.specs.Listing.{clustersOf}
-use Rattle.write_alloc.specs.Outcome.{Outcome, unchanged, done, empty}
-
--- 9: a system cluster among those of a list
-unfoldable pub systemCause : List ℕ → List ℕ → ℕ
-systemCause m ks = cond (every (λ k. not (inMap m k)) ks) 0 9
+use Rattle.stream.specs.Stream.{numberOf, streamOf, clustersOf, empty}
+use Rattle.write_alloc.specs.Outcome.{Outcome, unchanged, done}
 
 -- the clusters of a list freed: each gets FAT entry 0 and is unmarked
 unfoldable pub freeAll : Layout → List ℕ → List ℕ → List ℕ
 freeAll y d [] = d
 freeAll y d (k ∷ ks) = freeAll y (setMark y (setFat y d k 0) k false) ks
-
--- each number of a list is the one before it and 1
-unfoldable pub risingFrom : ℕ → List ℕ → Bool
-risingFrom k [] = true
-risingFrom k (j ∷ js) = eqb j (k + 1) && risingFrom j js
-
--- numbers that rise by one
-unfoldable pub rising : List ℕ → Bool
-rising [] = true
-rising (k ∷ ks) = risingFrom k ks
 
 -- the record of the kept clusters: empty, or a run where it was one or its numbers rise by one
 unfoldable pub keptRecord : Allocation → List ℕ → Allocation

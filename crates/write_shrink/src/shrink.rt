@@ -4,13 +4,13 @@ ghost use mathlib.Core.Bool.{_&&_, true};
 ghost use Prim.Native.Nat.{_+_, _-_, _*_, _≤_, _<_};
 ghost use lib.Dec.{eqb};
 ghost use lib.ListN.{length};
-ghost use Rattle.tables.specs.Lists.{every, lastOr, consec, Distinct};
+ghost use Rattle.tables.specs.Lists.{every, lastOr, Distinct};
 ghost use Rattle.boot.specs.Layout.{Laid, Apart, inHeap};
 ghost use Rattle.metadata.specs.Fat.{fatEntry};
 ghost use Rattle.stream.specs.Stream.{numberOf, streamOf};
 ghost use Rattle.stream.specs.Along.{along};
 ghost use Rattle.write_shrink.specs.Kept.{keptPart, partRecord};
-ghost use Rattle.write_shrink.specs.Shrink.{systemCause, freeAll, endKept, shrinkIn, shrinkClusters};
+ghost use Rattle.write_shrink.specs.Shrink.{freeAll, endKept, shrinkIn, shrinkClusters};
 use boot::geometry::Geometry;
 use boot::layout::Layout;
 use stream::allocation::Allocation;
@@ -47,13 +47,13 @@ pub fn kept_part(vol: &[u8], y: Layout, run: bool, first: u32, n: u32) -> Kept
         };
     }
     let mut k = first;
-    let mut next = stream::list::next_cluster(vol, y, run, k);
+    let mut next = stream::walk::next_cluster(vol, y, run, k);
     let mut rising = true;
     let mut left = n - 1;
     while 0 < left {
         rising = still_rising(k, next, rising);
         k = next;
-        next = stream::list::next_cluster(vol, y, run, k);
+        next = stream::walk::next_cluster(vol, y, run, k);
         left -= 1;
     }
     Kept {
@@ -61,47 +61,6 @@ pub fn kept_part(vol: &[u8], y: Layout, run: bool, first: u32, n: u32) -> Kept
         rising: rising,
         next: next,
     }
-}
-
-// What refuses the n clusters from first as a run: a system cluster among them. Bytes of the map that are 0 are one test.
-fn run_system_cause(map: &[u8], first: u32, n: u32) -> u32
-    requires { ⌜ (2 ≤ first) × ((first + n ≤ 65536) × (first + n ≤ 8 * length (now map) + 2)) ⌝ }
-    ensures { λ r. ⌜ r ≡ systemCause (now (map .entry)) (consec first n) ⌝ }
-{
-    let mut k = first;
-    let mut left = n;
-    while 0 < left {
-        if boot::geometry::in_map(map, k) {
-            return 9;
-        }
-        let next = primitives::bits::past_bytes(map, 0, k - 1, left - 1) + 2;
-        left -= next - k;
-        k = next;
-    }
-    0
-}
-
-// What refuses to free n clusters of a stream: a system cluster among them.
-pub fn system_cause(vol: &[u8], map: &[u8], y: Layout, run: bool, first: u32, n: u32) -> u32
-    requires { ⌜ Laid y × ((length (now vol) ≡ y .len) × ((y .count ≤ 8 * length (now map)) × (every (inHeap (y .count)) (along (fatEntry y (now vol)) run first n) ≡ true))) ⌝ }
-    ensures { λ r. ⌜ r ≡ systemCause (now (map .entry)) (along (fatEntry y (now (vol .entry))) run first n) ⌝ }
-{
-    if n == 0 {
-        return 0;
-    }
-    if run {
-        return run_system_cause(map, first, n);
-    }
-    let mut k = first;
-    let mut left = n;
-    while 0 < left {
-        if boot::geometry::in_map(map, k) {
-            return 9;
-        }
-        k = stream::list::next_cluster(vol, y, run, k);
-        left -= 1;
-    }
-    0
 }
 
 // Makes the last kept cluster of a chain the end.
@@ -126,7 +85,7 @@ fn free_clusters(vol: &mut [u8], y: Layout, run: bool, first: u32, n: u32)
     let mut k = first;
     let mut left = n;
     while 0 < left {
-        let next = stream::list::next_cluster(vol, y, run, k);
+        let next = stream::walk::next_cluster(vol, y, run, k);
         metadata::fat::set_fat(vol, y, k, 0);
         metadata::bitmap::mark(vol, y, k, false);
         k = next;
@@ -160,7 +119,7 @@ fn shrink_read(vol: &mut [u8], map: &[u8], y: Layout, a: Allocation, keep: u32, 
     ensures { λ r. ⌜ (r ≡ shrinkIn y (now (vol .entry)) (now (map .entry)) a keep hint .answer) × (now (vol .exit) ≡ shrinkIn y (now (vol .entry)) (now (map .entry)) a keep hint .volume) ⌝ }
 {
     let part = kept_part(vol, y, a.no_fat_chain, a.first, keep);
-    let number = system_cause(vol, map, y, a.no_fat_chain, part.next, a.count - keep);
+    let number = stream::system::system_cause(vol, map, y, a.no_fat_chain, part.next, a.count - keep);
     if number != 0 {
         return Answer {
             number: number,

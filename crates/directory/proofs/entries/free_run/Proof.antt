@@ -8,8 +8,8 @@ use borrow.Author.Needs.{needs}
 use Rattle.metadata.specs.Fat.{fatEntry}
 use Rattle.metadata.proofs.Frame.{Fits}
 use Rattle.entry_set.specs.Fields.{clustersFor}
-use Rattle.write_alloc.specs.Choice.{allFrom}
-use Rattle.directory.specs.Directory.{bytesIn}
+use Rattle.search.specs.Search.{allFrom}
+use Rattle.stream.specs.Bytes.{bytesIn}
 use Rattle.directory.specs.Entries.{entryCount, inUse}
 use Rattle.directory.specs.Cursor.{entryAt}
 use Rattle.directory.proofs.CursorLaws.{entry-first, length-entries, entries-is}

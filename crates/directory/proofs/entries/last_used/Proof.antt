@@ -5,9 +5,9 @@ use native.Mathlib.Omega.{arith}
 use borrow.Author.Needs.{needs}
 use Rattle.metadata.specs.Fat.{fatEntry}
 use Rattle.metadata.proofs.Frame.{Fits}
-use Rattle.write_alloc.specs.Choice.{usableTail}
-use Rattle.write_alloc.proofs.Runs.{tail-none}
-use Rattle.directory.specs.Directory.{bytesIn}
+use Rattle.search.specs.Search.{pastFailing}
+use Rattle.search.proofs.Runs.{tail-none}
+use Rattle.stream.specs.Bytes.{bytesIn}
 use Rattle.directory.specs.Entries.{inUse}
 use Rattle.directory.specs.Cursor.{entryAt}
 use Rattle.directory.proofs.CursorLaws.{entry-next, cursor-in, cursor-use, entries-small, entries-is}
@@ -16,7 +16,7 @@ use Rattle.directory.proofs.entries.last_used.Statement.{statement}
 use Rattle.directory.proofs.entries.last_used.Tie as tie
 
 abbrev Inv-loop : tie.InvT-loop
-Inv-loop vol y dir base n at₀ tail₀ slot₀ k₀ left₀ at tail slot k left = (base ≤ k) × ((k + left ≡ base + n) × ((at ≡ entryAt y (fatEntry y vol) (dir .«no_fat_chain») (dir .first) k) × ((slot ≡ usableTail (λ i. not (inUse (bytesIn y vol dir) i)) base (k - base)) × (tail ≡ entryAt y (fatEntry y vol) (dir .«no_fat_chain») (dir .first) slot))))
+Inv-loop vol y dir base n at₀ tail₀ slot₀ k₀ left₀ at tail slot k left = (base ≤ k) × ((k + left ≡ base + n) × ((at ≡ entryAt y (fatEntry y vol) (dir .«no_fat_chain») (dir .first) k) × ((slot ≡ pastFailing (λ i. not (inUse (bytesIn y vol dir) i)) base (k - base)) × (tail ≡ entryAt y (fatEntry y vol) (dir .«no_fat_chain») (dir .first) slot))))
 
 abbrev μ-loop : tie.MeasureT-loop
 μ-loop vol y dir base n at₀ tail₀ slot₀ k₀ left₀ at tail slot k left = left
@@ -103,7 +103,7 @@ returns c =
     let a = c .before .before .before .args in
     let l = c .before .loop in
     let e : l .k - a .base ≡ a .n = omega arith in
-    (l .inv .1 .1 .1 .0 ∙ ap (usableTail (λ i. not (inUse (bytesIn (a .y) (a .vol .now) (a .dir)) i)) (a .base)) e, l .inv .1 .1 .1 .1)
+    (l .inv .1 .1 .1 .0 ∙ ap (pastFailing (λ i. not (inUse (bytesIn (a .y) (a .vol .now) (a .dir)) i)) (a .base)) e, l .inv .1 .1 .1 .1)
 
 pub last-used-spec : {M : Type 1} → statement M
 last-used-spec =

@@ -4,7 +4,7 @@ use mathlib.Core.Path.{_≡_, sym, _∙_, ap}
 use native.Mathlib.Omega.{arith}
 use Rattle.metadata.specs.Fat.{fatEntry}
 use Rattle.metadata.proofs.Frame.{Fits}
-use Rattle.directory.specs.Directory.{bytesIn}
+use Rattle.stream.specs.Bytes.{bytesIn}
 use Rattle.directory.specs.Entries.{inUse}
 use Rattle.directory.specs.Cursor.{nextEntry, entryAt}
 use Rattle.directory.proofs.CursorLaws.{entry-next, cursor-in, cursor-use, entries-small, entries-is}

@@ -2,7 +2,7 @@ use Prim.Native.Nat.{_<_}
 use native.Mathlib.Omega.{arith}
 use borrow.Author.Needs.{needs}
 use Rattle.metadata.proofs.Frame.{Fits}
-use Rattle.directory.specs.Directory.{bytesIn}
+use Rattle.stream.specs.Bytes.{bytesIn}
 use Rattle.directory.specs.Entries.{entryCount}
 use Rattle.directory.proofs.EntryLaws.{sound-few, sound-room}
 use Rattle.directory.proofs.CursorLaws.{slot-bytes}

@@ -2,7 +2,7 @@ use mathlib.Core.Path.{_∙_}
 use native.Mathlib.Omega.{arith}
 use borrow.Author.Needs.{needs}
 use Rattle.metadata.proofs.Frame.{Fits}
-use Rattle.directory.specs.Directory.{bytesIn}
+use Rattle.stream.specs.Bytes.{bytesIn}
 use Rattle.directory.proofs.EntryLaws.{file-of, file-type}
 use Rattle.directory.proofs.CursorLaws.{slot-bytes}
 use Rattle.write_dir.proofs.OpenLaws.{whole-no, whole-yes, spot-in, spot-type, spot-count}

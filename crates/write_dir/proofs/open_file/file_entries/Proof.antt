@@ -2,7 +2,7 @@ use mathlib.Core.Path.{_∙_}
 use mathlib.Core.Bool.{false≢true}
 use native.Mathlib.Omega.{arith}
 use borrow.Author.Needs.{needs}
-use Rattle.directory.specs.Directory.{bytesIn}
+use Rattle.stream.specs.Bytes.{bytesIn}
 use Rattle.directory.proofs.EntryLaws.{file-before}
 use Rattle.write_dir.proofs.OpenLaws.{whole-no, entries-low}
 use borrow.Author.Needs.{needs}

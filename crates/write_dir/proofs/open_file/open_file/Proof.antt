@@ -2,7 +2,7 @@ use mathlib.Core.Path.{_∙_, ap}
 use native.Mathlib.Omega.{arith}
 use borrow.Author.Needs.{needs}
 use Rattle.entry_set.specs.Sound.{wellFormed}
-use Rattle.directory.specs.Directory.{bytesIn}
+use Rattle.stream.specs.Bytes.{bytesIn}
 use Rattle.write_dir.proofs.OpenLaws.{whole-some, file-none, file-not, file-formed, file-stream}
 use borrow.Author.Needs.{needs}
 use Rattle.write_dir.proofs.open_file.open_file.Statement.{statement}

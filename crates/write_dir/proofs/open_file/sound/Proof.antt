@@ -1,7 +1,7 @@
 use mathlib.Core.Path.{sym, _∙_}
 use native.Mathlib.Omega.{arith}
 use borrow.Author.Needs.{needs}
-use Rattle.directory.specs.Directory.{bytesIn}
+use Rattle.stream.specs.Bytes.{bytesIn}
 use Rattle.write_dir.proofs.OpenLaws.{whole-some, sound-none, sound-set}
 use borrow.Author.Needs.{needs}
 use Rattle.write_dir.proofs.open_file.sound.Statement.{statement}

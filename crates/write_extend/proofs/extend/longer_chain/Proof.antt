@@ -3,8 +3,8 @@ use mathlib.Core.Path.{_≡_, sym, _∙_, refl, ap}
 use native.Mathlib.Omega.{arith}
 use Rattle.boot.proofs.Apart.{in-heap}
 use Rattle.metadata.specs.Usable.{isUsable}
-use Rattle.write_alloc.specs.Choice.{choose, beginOf}
-use Rattle.write_alloc.specs.Outcome.{wrap}
+use Rattle.choice.specs.Choice.{choose, beginOf}
+use Rattle.boot.specs.Causes.{wrap}
 use Rattle.write_extend.proofs.ExtendLaws.{start-in, begin-heap, old-ready, chain-more, last-facts}
 use borrow.Author.Needs.{needs}
 use Rattle.write_extend.proofs.extend.longer_chain.Statement.{statement}

@@ -3,7 +3,7 @@ use native.Mathlib.Omega.{arith}
 use Rattle.write_file.proofs.RefreshLaws.{entries-some}
 use Rattle.write_file.proofs.OpenLaws.{stands-inside, stands-reaches, stored-spot}
 use Rattle.write_file.proofs.WriteLaws.{refreshed-is}
-use Rattle.directory.specs.Directory.{clustersIn}
+use Rattle.stream.specs.Stream.{clustersIn}
 use Rattle.write_file.specs.Refresh.{stored}
 use borrow.Author.Needs.{needs}
 use Rattle.write_file.proofs.refresh.refresh_only.Statement.{statement}

@@ -3,7 +3,7 @@ use native.Mathlib.Omega.{arith}
 use Rattle.write_file.proofs.RefreshLaws.{entries-some}
 use mathlib.Core.List.{List}
 use Prim.Native.Nat.{ℕ}
-use Rattle.directory.specs.Directory.{clustersIn}
+use Rattle.stream.specs.Stream.{clustersIn}
 use Rattle.write_file.specs.Write.{withData}
 use borrow.Author.Needs.{needs}
 use Rattle.write_file.proofs.write.put_grown.Statement.{statement}

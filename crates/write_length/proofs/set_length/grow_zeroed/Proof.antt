@@ -4,7 +4,7 @@ use mathlib.Core.List.{List}
 use Prim.Native.Nat.{ℕ, _-_, _≤_}
 use lib.ListN.{replicate}
 use Rattle.stream.specs.Bytes.{storeAt}
-use Rattle.directory.specs.Directory.{clustersIn}
+use Rattle.stream.specs.Stream.{clustersIn}
 use Rattle.write_length.specs.SetLength.{zeroEnd}
 use Rattle.write_length.proofs.SetLengthLaws.{end-le}
 use borrow.Author.Needs.{needs}

@@ -4,7 +4,8 @@ use Rattle.metadata.specs.Fat.{fatEntry}
 use Rattle.stream.specs.Along.{along}
 use mathlib.Core.Path.{_≡_, sym, _∙_, ap}
 use native.Mathlib.Omega.{arith}
-use Rattle.write_shrink.specs.Shrink.{systemCause, freeAll}
+use Rattle.stream.specs.Stream.{systemCause}
+use Rattle.write_shrink.specs.Shrink.{freeAll}
 use Rattle.write_shrink.proofs.Cutting.{freedOf, part-next, part-last, kept-heap, freed-heap, left-same, left-heap, left-distinct, shrink-system, shrink-done}
 use borrow.Author.Needs.{needs}
 use Rattle.write_shrink.proofs.shrink.shrink_read.Statement.{statement}

@@ -1,0 +1,192 @@
+// Which clusters are taken: the lowest run that fits, else usable clusters one by one.
+ghost use mathlib.Core.Path.{_≡_};
+ghost use mathlib.Core.Bool.{not};
+ghost use Prim.Native.Nat.{_+_, _-_, _*_, _≤_, _<_};
+ghost use lib.Dec.{leb};
+ghost use lib.ListN.{length};
+ghost use Rattle.tables.specs.Count.{count};
+ghost use Rattle.boot.specs.Layout.{Laid};
+ghost use Rattle.search.specs.declared.found.Found.the-variants.{Nothing};
+ghost use Rattle.metadata.specs.Marks.{marked};
+ghost use Rattle.metadata.specs.Usable.{isUsable};
+ghost use Rattle.search.specs.Search.{allFrom, pastFailing, runFrom};
+ghost use Rattle.choice.specs.Choice.{choose, firstUsable};
+use boot::layout::Layout;
+use search::found::Found;
+
+// A run from a cluster on, usable clusters one by one, or too few.
+pub enum Choice {
+    Run(u32),
+    Scattered,
+    TooFew,
+}
+
+// Whether the n clusters from first lie in the heap and are all usable (Rust: `run_is_free`).
+pub fn run_is_free(vol: &[u8], map: &[u8], y: Layout, first: u32, n: u32) -> bool
+    requires { ⌜ Laid y × ((length (now vol) ≡ y .len) × ((y .count ≤ 8 * length (now map)) × ((2 ≤ first) × (first + n ≤ y .count + 2)))) ⌝ }
+    ensures { λ r. ⌜ r ≡ allFrom (isUsable y (now (vol .entry)) (now (map .entry))) first n ⌝ }
+{
+    let mut k = first;
+    let mut left = n;
+    while 0 < left {
+        if metadata::usable::usable(vol, map, y, k) {
+            k += 1;
+            left -= 1;
+        } else {
+            return false;
+        }
+    }
+    true
+}
+
+// One past the last of the n clusters from low that is not usable; low where all are.
+fn usable_tail(vol: &[u8], map: &[u8], y: Layout, low: u32, n: u32) -> u32
+    requires { ⌜ Laid y × ((length (now vol) ≡ y .len) × ((y .count ≤ 8 * length (now map)) × ((2 ≤ low) × (low + n ≤ y .count + 2)))) ⌝ }
+    ensures { λ r. ⌜ (r ≡ pastFailing (isUsable y (now (vol .entry)) (now (map .entry))) low n) × ((low ≤ r) × (r ≤ low + n)) ⌝ }
+{
+    let mut k = low + n;
+    while low < k {
+        let last = k - 1;
+        if metadata::usable::usable(vol, map, y, last) {
+            k = last;
+        } else {
+            return k;
+        }
+    }
+    low
+}
+
+// One past the last of the n clusters from low that is marked; low where none is.
+fn unmarked_tail(vol: &[u8], y: Layout, low: u32, n: u32) -> u32
+    requires { ⌜ Laid y × ((length (now vol) ≡ y .len) × ((2 ≤ low) × (low + n ≤ y .count + 2))) ⌝ }
+    ensures { λ r. ⌜ (r ≡ pastFailing (λ k. not (marked y (now (vol .entry)) k)) low n) × ((low ≤ r) × (r ≤ low + n)) ⌝ }
+{
+    let mut k = low + n;
+    while low < k {
+        let last = k - 1;
+        if metadata::bitmap::allocated(vol, y, last) {
+            return k;
+        }
+        k = last;
+    }
+    low
+}
+
+// The lowest run of n usable clusters from start to end (Rust: the closure `scan` of `free_run`). A window of n clusters is tested
+// from its end, by its marks first; no run starts before base.
+fn scan(vol: &[u8], map: &[u8], y: Layout, start: u32, end: u32, n: u32) -> Found
+    requires { ⌜ Laid y × ((length (now vol) ≡ y .len) × ((y .count ≤ 8 * length (now map)) × ((2 ≤ start) × ((end ≤ y .count + 2) × (1 ≤ n))))) ⌝ }
+    ensures { λ r. ⌜ r ≡ runFrom (isUsable y (now (vol .entry)) (now (map .entry))) end n start ⌝ }
+{
+    if end < start {
+        return Found::Nothing;
+    }
+    let mut base = start;
+    while n <= end - base {
+        let next = unmarked_tail(vol, y, base, n);
+        if next == base {
+            let last = usable_tail(vol, map, y, base, n);
+            if last == base {
+                return Found::At(base);
+            }
+            base = last;
+        } else {
+            if next == base + n {
+                base = metadata::bitmap::past_full(vol, y, next, end - next);
+            } else {
+                base = next;
+            }
+        }
+    }
+    Found::Nothing
+}
+
+// Whether n clusters or more are usable.
+pub fn enough(vol: &[u8], map: &[u8], y: Layout, n: u64) -> bool
+    requires { ⌜ Laid y × ((length (now vol) ≡ y .len) × (y .count ≤ 8 * length (now map))) ⌝ }
+    ensures { λ r. ⌜ r ≡ leb n (count (isUsable y (now (vol .entry)) (now (map .entry))) 2 (y .count)) ⌝ }
+{
+    let end = y.count + 2;
+    let mut k: u32 = 2;
+    let mut left = n;
+    while k < end {
+        if left == 0 {
+            return true;
+        }
+        let next = k + 1;
+        if metadata::usable::usable(vol, map, y, k) {
+            k = next;
+            left -= 1;
+        } else {
+            k = metadata::bitmap::past_full(vol, y, next, end - next);
+        }
+    }
+    left == 0
+}
+
+// Where the search of the whole heap may end: a run that starts at or after start was looked for.
+fn wrap_end(start: u32, end: u32, n: u32) -> u32
+    requires { ⌜ (1 ≤ n) × (end ≤ 65536) ⌝ }
+    ensures { λ r. ⌜ r ≡ end - (end - (start + n - 1)) ⌝ }
+{
+    if end <= start {
+        return end;
+    }
+    if end - start < n {
+        return end;
+    }
+    start + (n - 1)
+}
+
+// The lowest run of n usable clusters where none starts at or after start: those that start there are not tested again.
+fn scan_before(vol: &[u8], map: &[u8], y: Layout, start: u32, n: u32) -> Found
+    requires { ⌜ Laid y × ((length (now vol) ≡ y .len) × ((y .count ≤ 8 * length (now map)) × ((2 ≤ start) × ((1 ≤ n) × (runFrom (isUsable y (now vol) (now map)) (y .count + 2) n start ≡ Nothing))))) ⌝ }
+    ensures { λ r. ⌜ r ≡ runFrom (isUsable y (now (vol .entry)) (now (map .entry))) (y .count + 2) n 2 ⌝ }
+{
+    let end = wrap_end(start, y.count + 2, n);
+    scan(vol, map, y, 2, end, n)
+}
+
+// The choice of n clusters for a search that starts at start (Rust: `free_run`, `free_list`).
+pub fn choose_clusters(vol: &[u8], map: &[u8], y: Layout, start: u32, n: u32) -> Choice
+    requires { ⌜ Laid y × ((length (now vol) ≡ y .len) × ((y .count ≤ 8 * length (now map)) × ((2 ≤ start) × (1 ≤ n)))) ⌝ }
+    ensures { λ r. ⌜ r ≡ choose (isUsable y (now (vol .entry)) (now (map .entry))) (y .count) n start ⌝ }
+{
+    let after = scan(vol, map, y, start, y.count + 2, n);
+    match after {
+        Found::At(k) => {
+            return Choice::Run(k);
+        }
+        Found::Nothing => {}
+    }
+    let lowest = scan_before(vol, map, y, start, n);
+    match lowest {
+        Found::At(k) => {
+            return Choice::Run(k);
+        }
+        Found::Nothing => {}
+    }
+    if enough(vol, map, y, n as u64) {
+        return Choice::Scattered;
+    }
+    Choice::TooFew
+}
+
+// The first usable cluster from start on, then from 2; 0 where there is none.
+pub fn first_usable(vol: &[u8], map: &[u8], y: Layout, start: u32) -> u32
+    requires { ⌜ Laid y × ((length (now vol) ≡ y .len) × ((y .count ≤ 8 * length (now map)) × ((2 ≤ start) × (start < y .count + 2)))) ⌝ }
+    ensures { λ r. ⌜ r ≡ firstUsable (isUsable y (now (vol .entry)) (now (map .entry))) (y .count) start ⌝ }
+{
+    let choice = choose_clusters(vol, map, y, start, 1);
+    match choice {
+        Choice::Run(k) => {
+            return k;
+        }
+        Choice::Scattered => {
+            return 0;
+        }
+        Choice::TooFew => {
+            return 0;
+        }
+    }
+}

@@ -1,0 +1,2 @@
+// Which clusters are taken (from write_alloc.rs).
+pub mod choice;

@@ -1,0 +1,5 @@
+pub mod AddsLaws
+pub mod KeptLaws
+pub mod OrderLaws
+pub mod PickedLaws
+pub mod ExtendsLaws

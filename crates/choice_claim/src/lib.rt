@@ -1,0 +1,1 @@
+// Which clusters allocate and extend take, as one statement; definitions and laws, no code.

@@ -1,0 +1,3 @@
+pub mod Outer
+pub mod Copies
+pub mod Kept

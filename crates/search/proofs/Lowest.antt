@@ -1,0 +1,110 @@
+-- The lowest row that passes a test, and that only the numbers looked at matter. Assumes nothing.
+use mathlib.Core.Path.{_≡_, refl, sym, _∙_, subst}
+use mathlib.Core.Logic.{_≢_}
+use mathlib.Core.Bool.{Bool, true, false, false≢true}
+use Prim.Native.Nat.{ℕ, zero, suc, _+_, _-_, _≤_, _<_}
+use native.Mathlib.Decide.{decLt}
+use native.Mathlib.Omega.{arith}
+use Rattle.tables.proofs.Cases.{clash, cond-case, and-left, and-right, and-both}
+use Rattle.search.specs.declared.found.Found.the-variants.{At, Nothing}
+use Rattle.search.specs.Search.{allFrom, firstRun, runFrom}
+use Rattle.search.proofs.Runs.{run-none}
+
+-- the n numbers from s all pass
+abbrev pub Whole : (ℕ → Bool) → ℕ → ℕ → Type 0
+Whole u s n = (k : ℕ) → s ≤ k → k < s + n → u k ≡ true
+
+-- a is the lowest start, at or after s, of n numbers below end that pass
+pub record Lowest (u : ℕ → Bool) (end n s a : ℕ) : Type 0 where
+  pub after : s ≤ a
+  pub inside : a + n ≤ end
+  pub whole : Whole u a n
+  pub least : (b : ℕ) → s ≤ b → b < a → Whole u b n → ⊥
+
+module _ (u : ℕ → Bool) where
+  -- ---- the test of a run
+
+  pub all-whole : (s n : ℕ) → allFrom u s n ≡ true → Whole u s n
+  unfolding allFrom
+  all-whole s zero e k l h = absurd (omega arith)
+  all-whole s (suc n) e k l h =
+      elim (decLt k (s + n)) [
+        | yes w ↦ all-whole s n (and-left (allFrom u s n) (u (s + n)) e) k l w
+        | no w ↦ (let q : k ≡ s + n = omega arith in rw q (and-right (allFrom u s n) (u (s + n)) e))
+      ]
+
+  pub whole-all : (s n : ℕ) → Whole u s n → allFrom u s n ≡ true
+  unfolding allFrom
+  whole-all s zero h = refl
+  whole-all s (suc n) h =
+      and-both (allFrom u s n) (u (s + n)) (whole-all s n (λ k l b. h k l (omega arith))) (h (s + n) (omega arith) (omega arith))
+
+  not-whole : (s n : ℕ) → allFrom u s n ≡ false → Whole u s n → ⊥
+  not-whole s n e h = false≢true (sym e ∙ whole-all s n h)
+
+  -- ---- the lowest run
+
+  lowest-later : (end n s a : ℕ) → allFrom u s n ≡ false → Lowest u end n (s + 1) a → Lowest u end n s a
+  lowest-later end n s a e w = record {
+    after = omega (arith, w .after);
+    inside = w .inside;
+    whole = w .whole;
+    least = λ b l h g. elim (decLt s b) [
+      | yes q ↦ w .least b (omega arith) h g
+      | no q ↦ (let r : b ≡ s = omega arith in not-whole s n e (subst (λ x. Whole u x n) r g))
+    ];
+  }
+
+  first-at : (end n tries s a : ℕ) → s + n + tries ≡ end + 1 → firstRun u n tries s ≡ At a → Lowest u end n s a
+  unfolding firstRun
+  first-at end n zero s a h e = clash (cc)
+  first-at end n (suc tries) s a h e =
+      cond-case (λ f. f ≡ At a → Lowest u end n s a) (allFrom u s n) (At s) (firstRun u n tries (s + 1))
+      (λ t q. let r : s ≡ a = cc in subst (Lowest u end n s) r
+      (record { after = omega arith; inside = omega arith; whole = all-whole s n t; least = λ b l m g. omega arith }))
+      (λ t q. lowest-later end n s a t (first-at end n tries (s + 1) a (omega arith) q)) e
+
+  -- a start that was found
+  pub run-at : (end n s a : ℕ) → runFrom u end n s ≡ At a → Lowest u end n s a
+  run-at end n s a e =
+      elim (decLt end (s + n)) [
+        | yes w ↦ (let q = run-none u end n s w in clash (cc))
+        | no w ↦ first-at end n (end + 1 - (n + s)) s a (omega arith) (unfold runFrom in e)
+      ]
+
+  first-nothing : (n tries s : ℕ) → firstRun u n tries s ≡ Nothing → (b : ℕ) → s ≤ b → b < s + tries → Whole u b n → ⊥
+  unfolding firstRun
+  first-nothing n zero s e b l h g = omega arith
+  first-nothing n (suc tries) s e b l h g =
+      cond-case (λ f. f ≡ Nothing → ⊥) (allFrom u s n) (At s) (firstRun u n tries (s + 1))
+      (λ t q. clash (cc))
+      (λ t q. elim (decLt s b) [
+        | yes w ↦ first-nothing n tries (s + 1) q b (omega arith) (omega arith) g
+        | no w ↦ (let r : b ≡ s = omega arith in not-whole s n t (subst (λ x. Whole u x n) r g))
+      ]) e
+
+  -- none was found: no start at or after s has n numbers below end that pass
+  pub run-nothing : (end n s : ℕ) → runFrom u end n s ≡ Nothing → (b : ℕ) → s ≤ b → b + n ≤ end → Whole u b n → ⊥
+  unfolding runFrom
+  run-nothing end n s e b l h g = first-nothing n (end + 1 - (n + s)) s e b l (omega arith) g
+
+-- ---- only the numbers looked at matter
+
+module _ (u u′ : ℕ → Bool) where
+  pub all-cong : (s n : ℕ) → ((k : ℕ) → s ≤ k → k < s + n → u′ k ≡ u k) → allFrom u′ s n ≡ allFrom u s n
+  unfolding allFrom
+  all-cong s zero h = refl
+  all-cong s (suc n) h = cc (h (s + n) (omega arith) (omega arith), all-cong s n (λ k a b. h k a (omega arith)))
+
+  first-cong : (n tries s : ℕ) → ((k : ℕ) → s ≤ k → k + 1 < s + n + tries → u′ k ≡ u k) → firstRun u′ n tries s ≡ firstRun u n tries s
+  unfolding firstRun
+  first-cong n zero s h = refl
+  first-cong n (suc tries) s h =
+      cc (all-cong s n (λ k a b. h k a (omega arith)), first-cong n tries (s + 1) (λ k a b. h k (omega arith) (omega arith)))
+
+  pub run-cong : (end n s : ℕ) → ((k : ℕ) → s ≤ k → k < end → u′ k ≡ u k) → runFrom u′ end n s ≡ runFrom u end n s
+  run-cong end n s h =
+      elim (decLt end (s + n)) [
+        | yes w ↦ run-none u′ end n s w ∙ sym (run-none u end n s w)
+        | no w ↦ unfold runFrom in (first-cong n (end + 1 - (n + s)) s (λ k a b. h k a (omega arith)))
+      ]
