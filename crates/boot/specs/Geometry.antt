@@ -1,6 +1,25 @@
--- A geometry's numbers by plain names, and the sizes that follow from them.
+-- A geometry from its words, its numbers by plain names, and the sizes that follow from them.
+use mathlib.Core.List.{List}
 use Prim.Native.Nat.{ℕ, _+_, _-_, _/_, _^_}
+use lib.ListN.{getD}
 use Rattle.boot.specs.declared.geometry.Geometry.{Geometry}
+
+-- the words of a geometry, in the order of the struct
+unfoldable pub geometryOf : List ℕ → Geometry
+geometryOf ws =
+    record {
+      «sector_shift» = getD ws 0 0;
+      «cluster_shift» = getD ws 1 0;
+      «fat_offset» = getD ws 2 0;
+      «fat_length» = getD ws 3 0;
+      «number_of_fats» = getD ws 4 0;
+      «active_fat» = getD ws 5 0;
+      «cluster_heap_offset» = getD ws 6 0;
+      «cluster_count» = getD ws 7 0;
+      «root_cluster» = getD ws 8 0;
+      «bitmap_0» = getD ws 9 0;
+      «bitmap_1» = getD ws 10 0;
+    }
 
 -- BytesPerSectorShift (exFAT specification, 3.1.14; 01: sector shift s)
 abbrev pub sectorShift : Geometry → ℕ

@@ -3,7 +3,7 @@ ghost use mathlib.Core.Path.{_≡_};
 ghost use mathlib.Core.Bool.{Bool, true, false};
 ghost use Prim.Native.Nat.{_+_, _-_, _*_, _/_, _^_, _≤_, _<_};
 ghost use lib.ListN.{length};
-ghost use Rattle.boot.specs.Geometry.{sectorSize, clusterSize, bitmapBytes, bitmapClusters};
+ghost use Rattle.boot.specs.Geometry.{geometryOf, sectorSize, clusterSize, bitmapBytes, bitmapClusters};
 ghost use Rattle.boot.specs.Limits.{all, shapeTests, roomTests, mapTests, inMap, allInMap, runInMap, apart, secondBitmap, limits};
 ghost use Rattle.boot.specs.Facts.{Shape};
 
@@ -20,6 +20,28 @@ pub struct Geometry {
     pub root_cluster: u32,
     pub bitmap_0: u32,
     pub bitmap_1: u32,
+}
+
+// The words of a geometry: one for each field.
+pub const GEOMETRY_WORDS: usize = 11;
+
+// The geometry, its fields in the struct's order.
+pub fn geometry_of(w: &[u32; GEOMETRY_WORDS]) -> Geometry
+    ensures { λ r. ⌜ r ≡ geometryOf (now (w .entry)) ⌝ }
+{
+    Geometry {
+        sector_shift: w[0],
+        cluster_shift: w[1],
+        fat_offset: w[2],
+        fat_length: w[3],
+        number_of_fats: w[4],
+        active_fat: w[5],
+        cluster_heap_offset: w[6],
+        cluster_count: w[7],
+        root_cluster: w[8],
+        bitmap_0: w[9],
+        bitmap_1: w[10],
+    }
 }
 
 // Bytes of a sector.
