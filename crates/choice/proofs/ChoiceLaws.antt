@@ -3,12 +3,12 @@ use mathlib.Core.Path.{_≡_, refl, sym, _∙_, ap, subst}
 use mathlib.Core.Logic.{_≢_, _⊎_, inl, inr, ⊎-elim}
 use mathlib.Core.Bool.{Bool, true, cond}
 use Prim.Native.Nat.{ℕ, _+_, _-_, _≤_, _<_}
-use native.Mathlib.Decide.{decLt}
+use native.Mathlib.Decide.{decLt, ℕ-discrete}
 use native.Mathlib.Omega.{arith}
-use lib.Dec.{ltb}
+use lib.Dec.{eqb, leb, ltb}
 use lib.ListN.{length, take, length-append}
 use lib.Seq.{length-take-le}
-use borrow.Author.Tests.{ltb-true, ltb-false}
+use borrow.Author.Tests.{ltb-true, ltb-false, lt-ltb, le-ltb, le-leb, lt-leb, eq-eqb, ne-eqb}
 use Rattle.tables.specs.Lists.{Mem, Distinct, consec}
 use Rattle.tables.specs.Count.{count, keep}
 use Rattle.tables.proofs.Cases.{clash, cond-case}
@@ -21,6 +21,7 @@ use Rattle.search.specs.declared.found.Found.the-variants.{At, Nothing}
 use Rattle.choice.specs.declared.choice.Choice.{Choice}
 use Rattle.choice.specs.declared.choice.Choice.the-variants.{Run, Scattered, TooFew}
 use Rattle.search.specs.Search.{runFrom}
+use Rattle.search.proofs.Lowest.{Whole, Lowest, run-at, run-cong}
 use Rattle.choice.specs.Choice.{orElse, choose, around, beginOf, chosen}
 
 -- what is left of n where `found` are found

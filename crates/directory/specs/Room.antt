@@ -6,7 +6,7 @@ use Prim.Native.Nat.{ℕ, _+_, _*_, _≤_, _<_}
 use lib.ListN.{replicate}
 use Rattle.search.specs.declared.found.Found.{Found}
 use Rattle.search.specs.declared.found.Found.the-variants.{At, Nothing}
-use Rattle.search.specs.Search.{runFrom}
+use Rattle.search.specs.Search.{runFrom, fewest}
 use Rattle.directory.specs.declared.entries.Room.{Room}
 use Rattle.directory.specs.Entries.{entryCount, inUse}
 

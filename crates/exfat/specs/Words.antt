@@ -7,7 +7,7 @@ use lib.ListN.{getD}
 use Rattle.boot.specs.declared.geometry.Geometry.{Geometry}
 use Rattle.stream.specs.declared.allocation.Allocation.{Allocation}
 use Rattle.write_alloc.specs.declared.answer.Answer.{Answer}
-use Rattle.write_dir.specs.declared.answer.FileAnswer.{FileAnswer}
+use Rattle.file.specs.declared.answer.FileAnswer.{FileAnswer}
 
 -- a flag in a word: 0 is clear, any other value set
 unfoldable pub flagOf : ℕ → Bool

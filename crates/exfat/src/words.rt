@@ -5,10 +5,10 @@ ghost use Rattle.exfat.specs.Words.{flagOf, flagWord, geometryOf, alloca
 use boot::geometry::Geometry;
 use entry_set::stamp::Stamp;
 use entry_set::stamp::Stamps;
+use file::answer::FileAnswer;
 use metadata::free::FreeCount;
 use stream::allocation::Allocation;
 use write_alloc::answer::Answer;
-use write_dir::answer::FileAnswer;
 
 // A flag in a word: 0 is clear, any other value set.
 pub fn flag_of(w: u32) -> bool

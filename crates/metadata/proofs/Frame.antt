@@ -21,7 +21,7 @@ use Rattle.boot.specs.declared.layout.Layout.{Layout}
 use Rattle.boot.specs.Geometry.{bitmapBytes}
 use Rattle.boot.specs.Layout.{Laid, clusterAt, inHeap, isBitmapCluster, Apart}
 use Rattle.boot.proofs.Apart.{in-heap, cluster-start, cluster-end, cluster-cluster, bitmap0-cluster, bitmap1-cluster, bitmap-bitmap, fat-bitmap}
-use Rattle.metadata.specs.Fat.{fatEntry, setFat}
+use Rattle.metadata.specs.Fat.{END, fatEntry, setFat}
 use Rattle.metadata.specs.Marks.{markByte, marked, putByte, setMark}
 use Rattle.metadata.specs.Cluster.{clusterByte, putBytes}
 use Rattle.metadata.proofs.Stores.{fat-two, fat-one, byte-two, byte-one}

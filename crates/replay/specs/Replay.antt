@@ -9,7 +9,7 @@ use Rattle.primitives.specs.Splice.{splice}
 use Rattle.primitives.specs.Words.{getLe}
 use Rattle.boot.specs.declared.geometry.Geometry.{Geometry}
 use Rattle.entry_set.specs.Stamps.{stampAt, stampsAt}
-use Rattle.write_dir.specs.declared.answer.FileAnswer.{FileAnswer}
+use Rattle.file.specs.declared.answer.FileAnswer.{FileAnswer}
 use Rattle.write.specs.Calls.{Call, New, Write, SetLength, Remove, run, answers}
 use Rattle.replay.specs.declared.parse.Counted.{Counted}
 use Rattle.replay.specs.declared.replay.Replayed.{Replayed}

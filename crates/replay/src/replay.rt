@@ -16,10 +16,10 @@ ghost use Rattle.replay.specs.Replay.{kindAt, callOk, callAt, hintAt, ca
 use boot::geometry::Geometry;
 use entry_set::stamp::stamp_at;
 use entry_set::stamp::stamps_at;
+use file::answer::FileAnswer;
 use primitives::words::u16_at;
 use primitives::words::u32_at;
 use primitives::words::u64_at;
-use write_dir::answer::FileAnswer;
 
 // What replay answers: 0, or 101 for a malformed list, 102 for too few words for the answers; and how many calls ran.
 pub struct Replayed {

@@ -13,7 +13,7 @@ use Rattle.metadata.specs.Free.{freeClusters}
 use Rattle.stream.specs.Listing.{listingNumber, listingList}
 use Rattle.entry_set.specs.declared.stamp.Stamps.{Stamps}
 use Rattle.write_alloc.specs.declared.answer.Answer.{Answer}
-use Rattle.write_dir.specs.declared.answer.FileAnswer.{FileAnswer}
+use Rattle.file.specs.declared.answer.FileAnswer.{FileAnswer}
 use Rattle.entry_set.specs.Stamps.{stampAt, stampsAt}
 use Rattle.sample.specs.Row.{putWords, geometryOf, recordAt, wanted, wantedFile}
 use Rattle.sample.specs.Same.{alike, sameAnswer, sameFile}

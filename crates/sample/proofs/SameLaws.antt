@@ -10,7 +10,7 @@ use lib.Dec.{eqb}
 use lib.ListN.{length, getD}
 use Rattle.stream.specs.declared.allocation.Allocation.{Allocation}
 use Rattle.write_alloc.specs.declared.answer.Answer.{Answer}
-use Rattle.write_dir.specs.declared.answer.FileAnswer.{FileAnswer}
+use Rattle.file.specs.declared.answer.FileAnswer.{FileAnswer}
 use Rattle.sample.specs.Same.{alikeFrom, alike, sameRecord, sameAnswer, sameFile}
 
 module _ (a b : List ℕ) where

@@ -7,8 +7,8 @@ use lib.ListN.{getD}
 use Rattle.metadata.specs.declared.free.FreeCount.{FreeCount}
 use Rattle.write_alloc.specs.declared.answer.Answer.{Answer}
 use Rattle.write_alloc.specs.Outcome.{Outcome}
-use Rattle.write_dir.specs.declared.answer.FileAnswer.{FileAnswer}
-use Rattle.write_dir.specs.Outcome.{Outcome as FileOutcome}
+use Rattle.file.specs.declared.answer.FileAnswer.{FileAnswer}
+use Rattle.file.specs.Outcome.{Outcome as FileOutcome}
 use Rattle.sample.specs.declared.verdict.Verdict.{Verdict}
 use Rattle.sample.specs.Row.{wanted, wantedFile}
 use Rattle.sample.specs.Same.{alike, sameAnswer, sameFile}

@@ -12,7 +12,7 @@ use Rattle.write_alloc.specs.Outcome.{Outcome}
 use Rattle.write_alloc.specs.Allocate.{allocateClusters}
 use Rattle.write_extend.specs.Extend.{extendClusters}
 use Rattle.write_shrink.specs.Shrink.{shrinkClusters}
-use Rattle.write_dir.specs.Outcome.{Outcome as FileOutcome}
+use Rattle.file.specs.Outcome.{Outcome as FileOutcome}
 use Rattle.write_file.specs.NewFile.{newFile}
 use Rattle.write_file.specs.Write.{writeInto}
 use Rattle.write_length.specs.SetLength.{setLength}

@@ -8,7 +8,7 @@ use Rattle.primitives.specs.Words.{getLe}
 use Rattle.boot.specs.declared.geometry.Geometry.{Geometry}
 use Rattle.stream.specs.declared.allocation.Allocation.{Allocation}
 use Rattle.write_alloc.specs.declared.answer.Answer.{Answer}
-use Rattle.write_dir.specs.declared.answer.FileAnswer.{FileAnswer}
+use Rattle.file.specs.declared.answer.FileAnswer.{FileAnswer}
 
 -- d with the n words of w bytes that stand in s from `at` on put from place k on
 unfoldable pub putWords : ℕ → List ℕ → ℕ → ℕ → ℕ → List ℕ → List ℕ

@@ -6,7 +6,7 @@ use lib.Dec.{eqb}
 use lib.ListN.{length, getD}
 use Rattle.stream.specs.declared.allocation.Allocation.{Allocation}
 use Rattle.write_alloc.specs.declared.answer.Answer.{Answer}
-use Rattle.write_dir.specs.declared.answer.FileAnswer.{FileAnswer}
+use Rattle.file.specs.declared.answer.FileAnswer.{FileAnswer}
 
 -- whether the n numbers from place i on are the same in both
 unfoldable pub alikeFrom : List ℕ → List ℕ → ℕ → ℕ → Bool

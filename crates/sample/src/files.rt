@@ -9,7 +9,7 @@ use crate::same;
 use crate::verdict::Verdict;
 use entry_set::stamp::Stamp;
 use entry_set::stamp::Stamps;
-use write_dir::answer::FileAnswer;
+use file::answer::FileAnswer;
 
 // Whether an answer and the volume after it are the Rust's.
 fn held(row: &[u32; 33], a: FileAnswer, vol: &[u8], after: &[u8]) -> Verdict

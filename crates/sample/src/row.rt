@@ -4,9 +4,9 @@ ghost use Prim.Native.Nat.{_+_, _*_, _<_, _≤_};
 ghost use lib.ListN.{length};
 ghost use Rattle.sample.specs.Row.{putWords, geometryOf, flagAt, recordAt, wanted, wantedFile, shortAt, longAt};
 use boot::geometry::Geometry;
+use file::answer::FileAnswer;
 use stream::allocation::Allocation;
 use write_alloc::answer::Answer;
-use write_dir::answer::FileAnswer;
 
 // A word as a place or a length.
 pub fn size(x: u32) -> usize

@@ -3,9 +3,9 @@ ghost use mathlib.Core.Path.{_≡_};
 ghost use Prim.Native.Nat.{_≤_};
 ghost use lib.ListN.{length};
 ghost use Rattle.sample.specs.Same.{alike, sameRecord, sameAnswer, sameFile};
+use file::answer::FileAnswer;
 use stream::allocation::Allocation;
 use write_alloc::answer::Answer;
-use write_dir::answer::FileAnswer;
 
 // Whether two lists of bytes have one length and the same bytes.
 pub fn bytes(a: &[u8], b: &[u8]) -> bool

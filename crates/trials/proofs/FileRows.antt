@@ -27,8 +27,8 @@ use Rattle.write_alloc.specs.Take.{markRun}
 use Rattle.directory.specs.Directory.{chainRecord, rootRecord, bitmapCause, directoryCause}
 use Rattle.directory.specs.Entries.{entryCount, typeAt, beforeEnd, isFile, entriesAt, setAt, isSound}
 use Rattle.write_dir.specs.Open.{fileRecord, entryCause, attributeCause, streamCause, setIn, fileCause}
-use Rattle.write_dir.specs.Outcome.{carried}
-use Rattle.write_file.specs.Refresh.{entriesOf, recorded, stored, missing, lengthCause, openCause}
+use Rattle.file.specs.Outcome.{carried}
+use Rattle.file.specs.Refresh.{entriesOf, recorded, stored, missing, lengthCause, openCause}
 use Rattle.write_length.specs.SetLength.{smaller, setLengthCause, zeroEnd, longerFile, resized, setLengthIn, setLength}
 use Rattle.trials.specs.File.{earlier, given, entries}
 use Rattle.trials.specs.Table.{file700, after11, after12, T11, T12}

@@ -8,7 +8,7 @@ use borrow.Author.Tests.{eqb-true}
 use Rattle.tables.proofs.Cases.{and-left, and-right}
 use Rattle.stream.specs.declared.allocation.Allocation.{Allocation}
 use Rattle.write_alloc.specs.declared.answer.Answer.{Answer}
-use Rattle.write_dir.specs.declared.answer.FileAnswer.{FileAnswer}
+use Rattle.file.specs.declared.answer.FileAnswer.{FileAnswer}
 use Rattle.trials.specs.Trial.{Result, answered, listed, carried, Trial, sameFlag, sameList, sameRecord, sameAnswer, sameFileAnswer, sameResult, said, wanted, agrees, allAgree}
 
 -- both of two tests are passed

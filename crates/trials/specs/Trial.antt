@@ -12,8 +12,8 @@ use Rattle.write_alloc.specs.Allocate.{allocateClusters}
 use Rattle.write_extend.specs.Extend.{extendClusters}
 use Rattle.write_shrink.specs.Shrink.{shrinkClusters}
 use Rattle.entry_set.specs.declared.stamp.Stamp.{Stamp}
-use Rattle.write_dir.specs.declared.answer.FileAnswer.{FileAnswer}
-use Rattle.write_dir.specs.Outcome as file
+use Rattle.file.specs.declared.answer.FileAnswer.{FileAnswer}
+use Rattle.file.specs.Outcome as file
 use Rattle.write_length.specs.SetLength.{setLength}
 use Rattle.trials.specs.Volume.{Volume, geometry, system, bytesOf}
 

@@ -1,8 +1,8 @@
 // Lines on standard output. No contract can say what is written: the lines are compared with the file stdout.
+use file::answer::FileAnswer;
 use libc::STDOUT_FILENO;
 use stream::allocation::Allocation;
 use write_alloc::answer::Answer;
-use write_dir::answer::FileAnswer;
 
 // Writes a text.
 pub fn text(s: &[u8]) {

@@ -23,12 +23,12 @@ use Rattle.entry_set.specs.New.{newEntries, newSet}
 use Rattle.write_shrink.specs.Shrink.{shrinkIn}
 use Rattle.directory.specs.Directory.{directoryCause}
 use Rattle.stream.specs.Stream.{clustersIn}
-use Rattle.write_dir.specs.Outcome.{Outcome, refuse, carried}
+use Rattle.file.specs.Outcome.{Outcome, refuse, carried}
 use Rattle.write_dir.specs.Open.{fileRecord, setIn}
 use Rattle.write_dir.specs.Place.{growBy}
 use Rattle.write_file.specs.NewFile.{newGrowth, newCause, placed, newFileIn, newFile}
-use Rattle.write_file.specs.Refresh.{missing, lengthCause, openCause}
-use Rattle.write_file.specs.Write.{larger, endCause, dataCause, writeCause, written, refreshedOnly, writeIn, writeInto}
+use Rattle.file.specs.Refresh.{missing, lengthCause, openCause, refreshedOnly}
+use Rattle.write_file.specs.Write.{larger, endCause, dataCause, writeCause, written, writeIn, writeInto}
 use Rattle.write_length.specs.SetLength.{setLengthCause, shorter, longerFile, resized, setLengthIn, setLength}
 use Rattle.write_remove.specs.Remove.{unlinked, removeIn, remove}
 use Rattle.write.specs.Calls.{Call, New, Write, SetLength, Remove, step}

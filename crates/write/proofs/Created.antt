@@ -34,11 +34,11 @@ use Rattle.directory.specs.Entries.{entryCount, sets}
 use Rattle.directory.specs.Room.{freeRun, slotOf, withZeros, growth}
 use Rattle.directory.proofs.FitLaws.{Fit}
 use Rattle.directory.proofs.DirectoryLaws.{clusters-length}
-use Rattle.write_dir.specs.Outcome.{carried}
+use Rattle.file.specs.Outcome.{carried}
 use Rattle.write_dir.specs.Open.{fileRecord}
 use Rattle.write_dir.specs.Place.{Grown, growBy}
 use Rattle.write_dir.proofs.InsertLaws.{insert-room, insert-free, insert-ordered, insert-sets}
-use Rattle.write_file.specs.Refresh.{entriesOf}
+use Rattle.file.specs.Refresh.{entriesOf}
 use Rattle.write_file.specs.NewFile.{newGrowth, newCause, placed}
 use Rattle.write_file.proofs.NewFileLaws.{space-enough}
 use Rattle.write.specs.Calls.{New, step}

@@ -26,7 +26,7 @@ use Rattle.directory.proofs.FitLaws.{Fit, fit-high}
 use Rattle.directory.proofs.OrderedLaws.{Ordered, file-room}
 use Rattle.directory.proofs.StoreLaws.{sets-some}
 use Rattle.write_dir.specs.Open.{fileRecord}
-use Rattle.write_file.specs.Refresh.{entriesOf, openCause}
+use Rattle.file.specs.Refresh.{entriesOf, openCause}
 use Rattle.write.specs.Consistent.{Consistent, lay, root, rootClusters, rootBytes, setOf}
 use Rattle.write.specs.Demand.{entriesPut}
 use Rattle.write.proofs.Family.{Moved, Stored, same-clusters, moved-clusters, kept-member, store-member}

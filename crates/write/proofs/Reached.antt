@@ -20,13 +20,14 @@ use Rattle.metadata.proofs.Keeps.{Keeps, Went}
 use Rattle.entry_set.specs.Fields.{dataLength}
 use Rattle.entry_set.specs.New.{newEntries, newSet}
 use Rattle.directory.specs.Directory.{directoryCause}
-use Rattle.write_dir.specs.Outcome.{Outcome}
+use Rattle.file.specs.Outcome.{Outcome}
 use Rattle.write_dir.specs.Open.{fileRecord, setIn, fileCause, streamCause}
 use Rattle.write_file.specs.NewFile.{newGrowth, newCause}
-use Rattle.write_file.specs.Refresh.{missing, lengthCause, openCause}
-use Rattle.write_file.specs.Write.{larger, dataCause, writeCause, written, refreshedOnly}
+use Rattle.file.specs.Refresh.{missing, lengthCause, openCause, refreshedOnly}
+use Rattle.write_file.specs.Write.{larger, dataCause, writeCause, written}
 use Rattle.write_file.proofs.NewFileLaws.{space-enough}
-use Rattle.write_file.proofs.KeepLaws.{DirectoryOwn, StreamOwn, placed-on, refreshed-on, written-on}
+use Rattle.file.proofs.KeepLaws.{DirectoryOwn, StreamOwn, refreshed-on}
+use Rattle.write_file.proofs.KeepLaws.{placed-on, written-on}
 use Rattle.write_length.specs.SetLength.{setLengthCause}
 use Rattle.write_length.proofs.KeepLaws.{resized-on}
 use Rattle.write_remove.proofs.KeepLaws.{removed-on}

@@ -31,7 +31,7 @@ use Rattle.entry_set.specs.Fields.{noFatChain, firstCluster, dataLength, cluste
 use Rattle.directory.specs.Directory.{chainRecord, rootRecord}
 use Rattle.stream.specs.Bytes.{bytesIn}
 use Rattle.write_dir.specs.Open.{fileRecord}
-use Rattle.write_file.proofs.RefreshLaws.{stream-is}
+use Rattle.file.proofs.RefreshLaws.{stream-is}
 
 -- ---- a record that is not refused
 

@@ -20,7 +20,7 @@ use Rattle.entry_set.proofs.LengthLaws.{clusters-hold, clusters-none, clusters-
 use Rattle.directory.proofs.FitLaws.{Fit, fit-low}
 use Rattle.directory.proofs.CursorLaws.{count-few}
 use Rattle.write_dir.specs.Open.{fileRecord}
-use Rattle.write_file.specs.Refresh.{entriesOf, recorded}
+use Rattle.file.specs.Refresh.{entriesOf, recorded}
 use Rattle.write.proofs.Reading.{number-of, first-heap, run-ends, file-back}
 
 -- whatever the stream, as many bytes

@@ -22,9 +22,9 @@ use Rattle.stream.specs.Stream.{clustersIn}
 use Rattle.directory.specs.Entries.{entriesAt, sets}
 use Rattle.directory.proofs.FitLaws.{Fit, fit-high}
 use Rattle.directory.proofs.StoreLaws.{sets-some, removed-ordered, removed-sets}
-use Rattle.write_dir.specs.Outcome.{carried}
+use Rattle.file.specs.Outcome.{carried}
 use Rattle.write_dir.specs.Open.{fileRecord, setIn}
-use Rattle.write_file.specs.Refresh.{entriesOf, openCause}
+use Rattle.file.specs.Refresh.{entriesOf, openCause}
 use Rattle.write_remove.specs.Remove.{unlinked}
 use Rattle.write.specs.Calls.{Remove, step}
 use Rattle.write.specs.Consistent.{Consistent, lay, root, rootBytes, setOf}

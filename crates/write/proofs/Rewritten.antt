@@ -33,9 +33,9 @@ use Rattle.directory.proofs.DirectoryLaws.{clusters-length}
 use Rattle.directory.proofs.FitLaws.{Fit}
 use Rattle.directory.proofs.OrderedLaws.{file-room}
 use Rattle.directory.proofs.StoreLaws.{sets-some, replaced-ordered, replaced-sets}
-use Rattle.write_dir.specs.Outcome.{carried}
+use Rattle.file.specs.Outcome.{carried}
 use Rattle.write_dir.specs.Open.{fileRecord}
-use Rattle.write_file.specs.Refresh.{entriesOf, recorded, stored, missing}
+use Rattle.file.specs.Refresh.{entriesOf, recorded, stored, missing}
 use Rattle.write.specs.Calls.{Call, step}
 use Rattle.write.specs.Consistent.{Consistent, lay, root, rootClusters, rootBytes, setOf, fileClusters}
 use Rattle.write.specs.Contents.{shown, contents}

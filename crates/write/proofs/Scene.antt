@@ -41,7 +41,7 @@ use Rattle.directory.proofs.FitLaws.{Fit}
 use Rattle.directory.proofs.OrderedLaws.{Ordered, file-fit}
 use Rattle.directory.proofs.StoreLaws.{sets-some}
 use Rattle.write_dir.specs.Open.{fileRecord, streamCause}
-use Rattle.write_file.proofs.CallLaws as call
+use Rattle.file.proofs.CallLaws as call
 use Rattle.write.specs.Consistent.{Consistent, lay, root, rootClusters, rootBytes, fileAt, setOf, streamAt, fileClusters}
 use Rattle.write.specs.Demand.{Lost}
 use Rattle.write.proofs.Reading.{reads-as, root-back, record-count}

@@ -27,9 +27,9 @@ use Rattle.directory.specs.Entries.{entriesAt, sets}
 use Rattle.directory.proofs.FitLaws.{Fit}
 use Rattle.directory.proofs.StoreLaws.{sets-some, replaced-ordered, replaced-sets}
 use Rattle.directory.proofs.DirectoryLaws.{clusters-length}
-use Rattle.write_dir.specs.Outcome.{carried}
+use Rattle.file.specs.Outcome.{carried}
 use Rattle.write_dir.specs.Open.{fileRecord, setIn}
-use Rattle.write_file.specs.Refresh.{entriesOf, recorded, stored, openCause}
+use Rattle.file.specs.Refresh.{entriesOf, recorded, stored, openCause}
 use Rattle.write_length.specs.SetLength.{smaller, setLengthCause, shorter, resized}
 use Rattle.write.specs.Calls.{SetLength, step}
 use Rattle.write.specs.Consistent.{Consistent, lay, root, rootBytes, setOf, streamAt, fileClusters}

@@ -19,7 +19,7 @@ use Rattle.kept.specs.Kept.{Intact}
 use Rattle.kept.proofs.IntactKeeps.{intact-same, intact-again}
 use Rattle.stream.proofs.BytesLaws.{cluster-cong}
 use Rattle.directory.specs.Entries.{sets}
-use Rattle.write_dir.specs.Outcome.{Outcome, carried}
+use Rattle.file.specs.Outcome.{Outcome, carried}
 use Rattle.write.specs.Calls.{Call, New, Write, SetLength, Remove, step, run, answers}
 use Rattle.write.specs.Consistent.{Consistent, lay, rootBytes, fileAt, setOf, fileClusters, fileBytes}
 use Rattle.write.specs.Contents.{contents}

@@ -31,10 +31,10 @@ use Rattle.write_extend.specs.Extend.{extendIn}
 use Rattle.write_extend.proofs.ExtendLaws.{extend-none}
 use Rattle.stream.specs.Stream.{clustersIn}
 use Rattle.directory.specs.Entries.{sets}
-use Rattle.write_dir.specs.Outcome.{carried}
+use Rattle.file.specs.Outcome.{carried}
 use Rattle.write_dir.specs.Open.{fileRecord, setIn}
-use Rattle.write_file.specs.Refresh.{recorded, stored, missing, lengthCause, openCause}
-use Rattle.write_file.specs.Write.{larger, dataCause, writeCause, withData, written, refreshedOnly}
+use Rattle.file.specs.Refresh.{recorded, stored, missing, lengthCause, openCause, refreshedOnly}
+use Rattle.write_file.specs.Write.{larger, dataCause, writeCause, withData, written}
 use Rattle.write_length.specs.SetLength.{setLengthCause, zeroEnd, longerFile, resized}
 use Rattle.write_file.proofs.NewFileLaws.{space-enough}
 use Rattle.write_file.proofs.WriteLaws.{larger-above}

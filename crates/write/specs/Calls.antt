@@ -4,8 +4,8 @@ use Prim.Native.Nat.{ℕ}
 use Rattle.boot.specs.declared.geometry.Geometry.{Geometry}
 use Rattle.entry_set.specs.declared.stamp.Stamp.{Stamp}
 use Rattle.entry_set.specs.declared.stamp.Stamps.{Stamps}
-use Rattle.write_dir.specs.declared.answer.FileAnswer.{FileAnswer}
-use Rattle.write_dir.specs.Outcome.{Outcome}
+use Rattle.file.specs.declared.answer.FileAnswer.{FileAnswer}
+use Rattle.file.specs.Outcome.{Outcome}
 use Rattle.write_file.specs.NewFile.{newFile}
 use Rattle.write_file.specs.Write.{writeInto}
 use Rattle.write_length.specs.SetLength.{setLength}

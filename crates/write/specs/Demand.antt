@@ -25,8 +25,8 @@ use Rattle.entry_set.specs.Put.{cleared}
 use Rattle.write_extend.specs.Extend.{extendIn}
 use Rattle.write_shrink.specs.Shrink.{keptRecord}
 use Rattle.directory.specs.Room as room
-use Rattle.write_dir.specs.Outcome.{Outcome, refuse}
-use Rattle.write_file.specs.Refresh.{entriesOf, recorded, missing}
+use Rattle.file.specs.Outcome.{Outcome, refuse}
+use Rattle.file.specs.Refresh.{entriesOf, recorded, missing}
 use Rattle.write_file.specs.Write.{larger}
 use Rattle.write_length.specs.SetLength.{smaller}
 use Rattle.write.specs.Calls.{Call, New, Write, SetLength, Remove, step, run, answers}

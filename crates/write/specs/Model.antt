@@ -6,7 +6,7 @@ use Prim.Native.Nat.{ℕ, _+_, _-_}
 use lib.Dec.{eqb}
 use lib.ListN.{length, take, drop, replicate}
 use Rattle.tables.specs.Table.{upd}
-use Rattle.write_dir.specs.declared.answer.FileAnswer.{FileAnswer}
+use Rattle.file.specs.declared.answer.FileAnswer.{FileAnswer}
 use Rattle.write.specs.Calls.{Call, New, Write, SetLength, Remove}
 
 -- zeros up to the offset if the list is shorter, then the data from there on, past the end if need be

@@ -13,7 +13,7 @@ use Rattle.entry_set.specs.Name.{nameCause, attributeCause}
 use Rattle.directory.specs.Directory.{directoryCause}
 use Rattle.directory.specs.Entries.{entryCount}
 use Rattle.write_file.specs.NewFile.{newGrowth}
-use Rattle.write_file.specs.Refresh.{openCause}
+use Rattle.file.specs.Refresh.{openCause}
 use Rattle.write_file.specs.Write.{larger, endCause}
 use Rattle.write.specs.Calls.{Call, New, Write, SetLength, Remove}
 use Rattle.write.specs.Consistent.{lay, root, rootClusters, rootBytes, fileAt, setOf}

@@ -15,10 +15,10 @@ ghost use Rattle.boot.specs.Causes.{wrap};
 ghost use Rattle.stream.specs.Stream.{empty};
 ghost use Rattle.write_alloc.specs.Allocate.{nearCause, newRun, newChain, newStream, allocateIn, allocateClusters};
 use crate::answer::Answer;
-use choice::choice::Choice;
 use crate::take::Taken;
 use boot::geometry::Geometry;
 use boot::layout::Layout;
+use choice::choice::Choice;
 use stream::allocation::Allocation;
 
 // k, or 2 past the end of the heap.

@@ -1,5 +1,4 @@
 // A file opened by its slot, a set stored, and a directory that grows (from write_dir.rs).
-pub mod answer;
 pub mod chain;
 pub mod open_file;
 pub mod place;

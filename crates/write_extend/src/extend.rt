@@ -13,9 +13,9 @@ ghost use Rattle.write_extend.specs.Extend.{moreCause, inPlace, longerRu
 ghost use Rattle.write_alloc.specs.Allocate.{allocateIn};
 use boot::geometry::Geometry;
 use boot::layout::Layout;
+use choice::choice::Choice;
 use stream::allocation::Allocation;
 use write_alloc::answer::Answer;
-use choice::choice::Choice;
 
 // What refuses n more clusters for a record that has some.
 fn more_cause(vol: &[u8], map: &[u8], y: Layout, a: Allocation, n: u32) -> u32

@@ -45,16 +45,16 @@ use Rattle.directory.proofs.GrowthLaws.{place-at, grown-at}
 use Rattle.directory.proofs.DirectoryLaws.{clusters-length}
 use Rattle.write_dir.specs.declared.place.Spot.{Spot}
 use Rattle.write_dir.specs.declared.place.Added.{Added}
-use Rattle.write_dir.specs.Outcome.{refuse, carried}
+use Rattle.file.specs.Outcome.{refuse, carried}
 use Rattle.write_dir.specs.Place.{Grown, Growable, standing, addedOf, growBy, spotOf, spotClusters}
 use Rattle.write_dir.proofs.AddedLaws.{Zeroed, grow-many}
 use Rattle.write_dir.proofs.GrownLaws.{zeroed-in}
 use Rattle.write_dir.proofs.PlaceLaws.{spot-store}
-use Rattle.write_file.specs.Opens.{Stands}
+use Rattle.file.specs.Opens.{Stands}
 use Rattle.write_file.specs.NewFile.{Ready, newGrowth, newCause, placed, newFileIn, newFile}
-use Rattle.write_file.proofs.RefreshLaws.{stream-is}
-use Rattle.write_file.proofs.OpenLaws.{root-number, root-record}
-use Rattle.write_file.proofs.CallLaws.{mapped, directory-reads, directory-plain}
+use Rattle.file.proofs.RefreshLaws.{stream-is}
+use Rattle.file.proofs.OpenLaws.{root-number, root-record}
+use Rattle.file.proofs.CallLaws.{mapped, directory-reads, directory-plain}
 
 -- ---- a directory that is ready
 

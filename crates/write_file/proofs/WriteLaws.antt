@@ -1,5 +1,5 @@
 -- What write answers and leaves. Assumes nothing.
-use mathlib.Core.Path.{_≡_, refl, sym, _∙_, ap, ap₂}
+use mathlib.Core.Path.{_≡_, refl, sym, _∙_, ap}
 use mathlib.Core.Bool.{true, false, cond}
 use mathlib.Core.List.{List, [], _∷_}
 use Prim.Native.Nat.{ℕ, _+_, _-_, _≤_, _<_}
@@ -24,11 +24,10 @@ use Rattle.write_alloc.specs.Outcome as Alloc
 use Rattle.write_extend.specs.Extend.{extendIn}
 use Rattle.directory.specs.Directory.{rootRecord}
 use Rattle.stream.specs.Stream.{clustersIn}
-use Rattle.write_dir.specs.Outcome.{Outcome, carried, refuse}
+use Rattle.file.specs.Outcome.{Outcome, carried, refuse}
 use Rattle.write_dir.specs.Open.{fileRecord, setIn}
-use Rattle.write_file.specs.Refresh.{stored, missing, lengthCause, openCause}
-use Rattle.write_file.specs.Write.{larger, endCause, dataCause, withData, written, refreshedOnly, writeCause, writeIn, writeInto}
-use Rattle.write_file.proofs.OpenLaws.{carried-shown}
+use Rattle.file.specs.Refresh.{stored, missing, lengthCause, openCause, refreshedOnly}
+use Rattle.write_file.specs.Write.{larger, endCause, dataCause, withData, written, writeCause, writeIn, writeInto}
 
 pub larger-right : (a b : ℕ) → a ≤ b → larger a b ≡ b
 unfolding larger
@@ -71,16 +70,6 @@ pub data-is : (y : Layout) (d d′ d″ js : List ℕ) (valid offset : ℕ) (bs 
     → d″ ≡ storeAt y d′ js offset bs → d″ ≡ withData y d js valid offset bs
 unfolding withData
 data-is y d d′ d″ js valid offset bs p q = q ∙ ap (λ (l : List ℕ). storeAt y l js offset bs) p
-
--- the entry refreshed
-pub refreshed-is : (y : Layout) (d : List ℕ) (a : Allocation) (slot : ℕ) (s : List ℕ) (t : Stamp) (hint : ℕ) (b : Allocation) (valid len : ℕ)
-    → b ≡ fileRecord y d s → valid ≡ validLength s → len ≡ dataLength s → (e : List ℕ) → e ≡ stored y d (clustersIn y d a) slot s b valid len t
-    → (record { number = 0; slot = 0; hint = hint } ≡ refreshedOnly y d a slot s t hint .answer) × (e ≡ refreshedOnly y d a slot s t hint .volume)
-unfolding refreshedOnly
-refreshed-is y d a slot s t hint b valid len eb ev el e p =
-    carried-shown 0 hint (stored y d (clustersIn y d a) slot s (fileRecord y d s) (validLength s) (dataLength s) t) e
-    (p ∙ ap (λ (x : Allocation). stored y d (clustersIn y d a) slot s x valid len t) eb
-    ∙ ap₂ (λ (v k : ℕ). stored y d (clustersIn y d a) slot s (fileRecord y d s) v k t) ev el)
 
 -- data written: b is the file's stream, o what growing it gave, r its answer, v and k the old lengths, valid and len the new ones
 module _ (y : Layout) (d m : List ℕ) (a : Allocation) (slot : ℕ) (s : List ℕ) (offset : ℕ) (bs : List ℕ) (t : Stamp) (hint : ℕ) where

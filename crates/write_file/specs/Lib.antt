@@ -1,4 +1,2 @@
 pub mod NewFile
-pub mod Refresh
-pub mod Opens
 pub mod Write

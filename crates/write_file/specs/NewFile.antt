@@ -21,7 +21,7 @@ use Rattle.entry_set.specs.New.{newEntries, newSet}
 use Rattle.directory.specs.Directory.{rootRecord, directoryCause}
 use Rattle.stream.specs.Stream.{clustersIn}
 use Rattle.directory.specs.Room.{freeRun, slotOf, growth}
-use Rattle.write_dir.specs.Outcome.{Outcome, refuse, carried}
+use Rattle.file.specs.Outcome.{Outcome, refuse, carried}
 use Rattle.write_dir.specs.Place.{Grown, growBy}
 
 -- the zeroed clusters that directory a must add for the set of a name of n units

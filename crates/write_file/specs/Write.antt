@@ -17,9 +17,9 @@ use Rattle.entry_set.specs.Fields.{validLength, dataLength}
 use Rattle.write_extend.specs.Extend.{extendIn}
 use Rattle.directory.specs.Directory.{rootRecord}
 use Rattle.stream.specs.Stream.{clustersIn}
-use Rattle.write_dir.specs.Outcome.{Outcome, refuse, carried}
+use Rattle.file.specs.Outcome.{Outcome, refuse, carried}
 use Rattle.write_dir.specs.Open.{fileRecord, setIn}
-use Rattle.write_file.specs.Refresh.{stored, missing, lengthCause, openCause}
+use Rattle.file.specs.Refresh.{stored, missing, lengthCause, openCause}
 
 -- the larger of two numbers
 unfoldable pub larger : ℕ → ℕ → ℕ
@@ -52,11 +52,6 @@ written y d m a slot s offset bs t hint =
     carried 0 (o .answer .hint)
     (stored y (withData y (o .volume) (clustersIn y (o .volume) b) (validLength s) offset bs) (clustersIn y d a) slot s b
     (larger (validLength s) (offset + length bs)) len t)
-
--- the entry of the file of set s refreshed, and nothing else
-unfoldable pub refreshedOnly : Layout → List ℕ → Allocation → ℕ → List ℕ → Stamp → ℕ → Outcome
-refreshedOnly y d a slot s t hint =
-    carried 0 hint (stored y d (clustersIn y d a) slot s (fileRecord y d s) (validLength s) (dataLength s) t)
 
 -- data written to the file at a slot of directory a; empty data only refreshes the entry
 unfoldable pub writeIn : Layout → List ℕ → List ℕ → Allocation → ℕ → ℕ → List ℕ → Stamp → ℕ → Outcome

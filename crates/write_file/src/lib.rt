@@ -1,5 +1,3 @@
 // New file and write (from write_file.rs).
 pub mod new_file;
-pub mod refresh;
-pub mod target;
 pub mod write;

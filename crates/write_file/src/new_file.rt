@@ -14,8 +14,8 @@ use boot::geometry::Geometry;
 use boot::layout::Layout;
 use directory::entries::Room;
 use entry_set::stamp::Stamps;
+use file::answer::FileAnswer;
 use stream::allocation::Allocation;
-use write_dir::answer::FileAnswer;
 
 // What refuses n more clusters: 7. The usable ones are searched only where some are wanted.
 fn space_cause(vol: &[u8], map: &[u8], y: Layout, n: u32) -> u32
@@ -78,11 +78,11 @@ fn new_file_in(
                 let set = entry_set::set::new_set(name, attributes, hash, t);
                 return insert(vol, map, y, dir, room, &set, n, hint);
             }
-            return crate::target::refused(7, hint);
+            return file::target::refused(7, hint);
         }
-        return crate::target::refused(13, hint);
+        return file::target::refused(13, hint);
     }
-    crate::target::refused(12, hint)
+    file::target::refused(12, hint)
 }
 
 // Makes an empty file in the root (Rust: `make_in`, no directory).
@@ -115,9 +115,9 @@ pub fn make_in(
                     hint,
                 );
             }
-            return crate::target::refused(root.number, hint);
+            return file::target::refused(root.number, hint);
         }
-        return crate::target::refused(2, hint);
+        return file::target::refused(2, hint);
     }
-    crate::target::refused(1, hint)
+    file::target::refused(1, hint)
 }

@@ -10,16 +10,16 @@ ghost use Rattle.entry_set.specs.Fields.{dataLength};
 ghost use Rattle.write_extend.specs.Extend.{extendIn};
 ghost use Rattle.directory.specs.Directory.{rootRecord};
 ghost use Rattle.write_dir.specs.Open.{fileRecord, setIn};
-ghost use Rattle.write_file.specs.Refresh.{missing, lengthCause};
-ghost use Rattle.write_file.specs.Opens.{Opens};
+ghost use Rattle.file.specs.Refresh.{missing, lengthCause};
+ghost use Rattle.file.specs.Opens.{Opens};
 ghost use Rattle.write_file.specs.Write.{larger, dataCause, withData, written, writeIn, writeInto};
 use boot::geometry::Geometry;
 use boot::layout::Layout;
 use entry_set::stamp::Stamp;
+use file::answer::FileAnswer;
 use stream::allocation::Allocation;
 use stream::bytes::Place;
 use write_alloc::answer::Answer;
-use write_dir::answer::FileAnswer;
 
 // The larger of two numbers.
 fn larger(a: u64, b: u64) -> u64
@@ -48,7 +48,7 @@ fn data_cause(
         return 8;
     }
     let len = larger(entry_set::entry::data_length(set), offset + n as u64);
-    crate::refresh::length_cause(vol, map, y, b, len)
+    file::refresh::length_cause(vol, map, y, b, len)
 }
 
 // Puts data into a stream: zeros from valid up to the offset where it passes valid, then the data.
@@ -64,7 +64,7 @@ fn put_data(
     requires { ⌜ Laid y × ((length (now vol) ≡ y .len) × (Apart y × ((numberOf (streamOf y (now vol) b) ≡ 0) × ((offset + length (now src) ≤ b .count * y .size) × Known y (now vol) b known)))) ⌝ }
     ensures { λ _. ⌜ now (vol .exit) ≡ withData y (now (vol .entry)) (clustersIn y (now (vol .entry)) b) valid offset (now (src .entry)) ⌝ }
 {
-    crate::refresh::zero_range(vol, y, b, known, valid, offset);
+    file::refresh::zero_range(vol, y, b, known, valid, offset);
     stream::bytes::store(vol, y, b, known, offset as usize, src);
 }
 
@@ -83,8 +83,8 @@ fn put_grown(
     requires { ⌜ Laid y × ((length (now vol) ≡ y .len) × ((y .count ≤ 8 * length (now map)) × (Apart y × ((inHeap (y .count) hint ≡ true) × ((numberOf (streamOf y (now vol) b) ≡ 0) × ((lengthCause y (now vol) (now map) b len ≡ 0) × (offset + length (now src) ≤ len))))))) ⌝ }
     ensures { λ r. ⌜ (r ≡ extendIn y (now (vol .entry)) (now (map .entry)) b (missing y b len) hint .answer) × (now (vol .exit) ≡ withData y (extendIn y (now (vol .entry)) (now (map .entry)) b (missing y b len) hint .volume) (clustersIn y (extendIn y (now (vol .entry)) (now (map .entry)) b (missing y b len) hint .volume) (r .allocation)) valid offset (now (src .entry))) ⌝ }
 {
-    let r = crate::refresh::grow_to(vol, map, y, b, len, hint);
-    let known = crate::refresh::known_place(b, r.allocation);
+    let r = file::refresh::grow_to(vol, map, y, b, len, hint);
+    let known = file::refresh::known_place(b, r.allocation);
     put_data(vol, y, r.allocation, known, valid, offset, src);
     r
 }
@@ -111,7 +111,7 @@ fn write_data(
     let len = larger(entry_set::entry::data_length(&set), end);
     let valid = entry_set::entry::valid_length(&set);
     let r = put_grown(vol, map, y, b, len, valid, offset, src, hint);
-    crate::refresh::record_set(vol, y, spot, set, r.allocation, larger(valid, end), len, t);
+    file::refresh::record_set(vol, y, spot, set, r.allocation, larger(valid, end), len, t);
     FileAnswer {
         number: 0,
         slot: 0,
@@ -137,11 +137,11 @@ fn write_open(
 {
     let set = write_dir::open_file::copy_set(vol, y, dir, slot);
     if src.len() == 0 {
-        return crate::refresh::refresh_only(vol, y, dir, slot, set, b, t, hint);
+        return file::refresh::refresh_only(vol, y, dir, slot, set, b, t, hint);
     }
     let number = data_cause(vol, map, y, b, &set, offset, src.len());
     if number != 0 {
-        return crate::target::refused(number, hint);
+        return file::target::refused(number, hint);
     }
     write_data(vol, map, y, dir, slot, set, b, offset, src, t, hint)
 }
@@ -161,9 +161,9 @@ fn write_in(
     requires { ⌜ Laid y × ((length (now vol) ≡ y .len) × ((y .count ≤ 8 * length (now map)) × Apart y)) ⌝ }
     ensures { λ r. ⌜ (r ≡ writeIn y (now (vol .entry)) (now (map .entry)) (rootRecord y (now (vol .entry)) root) slot offset (now (src .entry)) t hint .answer) × (now (vol .exit) ≡ writeIn y (now (vol .entry)) (now (map .entry)) (rootRecord y (now (vol .entry)) root) slot offset (now (src .entry)) t hint .volume) ⌝ }
 {
-    let f = crate::target::open_target(vol, map, y, root, slot, hint);
+    let f = file::target::open_target(vol, map, y, root, slot, hint);
     if f.number != 0 {
-        return crate::target::refused(f.number, hint);
+        return file::target::refused(f.number, hint);
     }
     let dir = f.directory;
     let b = f.stream;
@@ -187,5 +187,5 @@ pub fn write_into(
         let y = boot::layout::layout_of(g, vol.len());
         return write_in(vol, map, y, g.root_cluster, slot, offset, src, t, hint);
     }
-    crate::target::refused(1, hint)
+    file::target::refused(1, hint)
 }

@@ -33,12 +33,11 @@ use Rattle.write_shrink.specs.Kept.{keptPart, partRecord}
 use Rattle.write_shrink.proofs.Cutting.{part-record}
 use Rattle.directory.specs.Directory.{rootRecord}
 use Rattle.directory.proofs.DirectoryLaws.{clusters-along}
-use Rattle.write_dir.specs.Outcome.{Outcome, carried, refuse}
+use Rattle.file.specs.Outcome.{Outcome, carried, refuse}
 use Rattle.write_dir.specs.Open.{fileRecord, setIn}
-use Rattle.write_file.specs.Refresh.{stored, missing, lengthCause, openCause}
-use Rattle.write_file.specs.Write.{refreshedOnly}
+use Rattle.file.specs.Refresh.{stored, missing, lengthCause, openCause, refreshedOnly}
 use Rattle.write_length.specs.SetLength.{smaller, zeroEnd, shorter, longerFile, resized, setLengthCause, setLengthIn, setLength}
-use Rattle.write_file.proofs.OpenLaws.{carried-shown}
+use Rattle.file.proofs.OpenLaws.{carried-shown}
 
 pub smaller-left : (a b : ℕ) → a ≤ b → smaller a b ≡ a
 unfolding smaller

@@ -18,10 +18,9 @@ use Rattle.write_extend.specs.Extend.{extendIn}
 use Rattle.write_shrink.specs.Shrink.{keptRecord, shrinkIn}
 use Rattle.directory.specs.Directory.{rootRecord}
 use Rattle.stream.specs.Stream.{clustersIn}
-use Rattle.write_dir.specs.Outcome.{Outcome, refuse, carried}
+use Rattle.file.specs.Outcome.{Outcome, refuse, carried}
 use Rattle.write_dir.specs.Open.{fileRecord, setIn}
-use Rattle.write_file.specs.Refresh.{stored, missing, lengthCause, openCause}
-use Rattle.write_file.specs.Write.{refreshedOnly}
+use Rattle.file.specs.Refresh.{stored, missing, lengthCause, openCause, refreshedOnly}
 
 -- the smaller of two numbers
 unfoldable pub smaller : ℕ → ℕ → ℕ

@@ -11,15 +11,15 @@ ghost use Rattle.write_extend.specs.Extend.{extendIn};
 ghost use Rattle.write_shrink.specs.Shrink.{keptRecord};
 ghost use Rattle.directory.specs.Directory.{rootRecord};
 ghost use Rattle.write_dir.specs.Open.{setIn};
-ghost use Rattle.write_file.specs.Refresh.{missing, lengthCause};
-ghost use Rattle.write_file.specs.Opens.{Opens};
+ghost use Rattle.file.specs.Refresh.{missing, lengthCause};
+ghost use Rattle.file.specs.Opens.{Opens};
 ghost use Rattle.write_length.specs.SetLength.{smaller, zeroEnd, shorter, longerFile, resized, setLengthIn, setLength};
 use boot::geometry::Geometry;
 use boot::layout::Layout;
 use entry_set::stamp::Stamp;
+use file::answer::FileAnswer;
 use stream::allocation::Allocation;
 use write_alloc::answer::Answer;
-use write_dir::answer::FileAnswer;
 
 // The smaller of two numbers.
 fn smaller(a: u64, b: u64) -> u64
@@ -73,7 +73,7 @@ fn make_shorter(
     let keep = entry_set::entry::clusters_for(y.size, len) as u32;
     let kept = kept_stream(vol, y, b, keep);
     let valid = smaller(entry_set::entry::valid_length(&set), len);
-    write_file::refresh::record_set(vol, y, spot, set, kept, valid, len, t);
+    file::refresh::record_set(vol, y, spot, set, kept, valid, len, t);
     write_shrink::shrink::shrink_in(vol, map, y, b, keep, hint);
     FileAnswer {
         number: 0,
@@ -96,9 +96,9 @@ fn grow_zeroed(
     ensures { λ r. ⌜ (r ≡ extendIn y (now (vol .entry)) (now (map .entry)) b (missing y b len) hint .answer) × (now (vol .exit) ≡ storeAt y (extendIn y (now (vol .entry)) (now (map .entry)) b (missing y b len) hint .volume) (clustersIn y (extendIn y (now (vol .entry)) (now (map .entry)) b (missing y b len) hint .volume) (r .allocation)) valid (replicate (zeroEnd (y .size) valid len - valid) 0)) ⌝ }
 {
     let to = zero_end(y, valid, len);
-    let r = write_file::refresh::grow_to(vol, map, y, b, len, hint);
-    let known = write_file::refresh::known_place(b, r.allocation);
-    write_file::refresh::zero_range(vol, y, r.allocation, known, valid, to);
+    let r = file::refresh::grow_to(vol, map, y, b, len, hint);
+    let known = file::refresh::known_place(b, r.allocation);
+    file::refresh::zero_range(vol, y, r.allocation, known, valid, to);
     r
 }
 
@@ -121,7 +121,7 @@ fn make_longer(
     let spot = write_dir::place::locate(vol, y, dir, slot);
     let valid = entry_set::entry::valid_length(&set);
     let r = grow_zeroed(vol, map, y, b, len, valid, hint);
-    write_file::refresh::record_set(vol, y, spot, set, r.allocation, valid, len, t);
+    file::refresh::record_set(vol, y, spot, set, r.allocation, valid, len, t);
     FileAnswer {
         number: 0,
         slot: 0,
@@ -150,7 +150,7 @@ fn resize(
         return make_shorter(vol, map, y, dir, slot, set, b, len, t, hint);
     }
     if len == old {
-        return write_file::refresh::refresh_only(vol, y, dir, slot, set, b, t, hint);
+        return file::refresh::refresh_only(vol, y, dir, slot, set, b, t, hint);
     }
     make_longer(vol, map, y, dir, slot, set, b, len, t, hint)
 }
@@ -171,9 +171,9 @@ fn set_open(
     ensures { λ r. ⌜ (r ≡ setLengthIn y (now (vol .entry)) (now (map .entry)) dir slot len t hint .answer) × (now (vol .exit) ≡ setLengthIn y (now (vol .entry)) (now (map .entry)) dir slot len t hint .volume) ⌝ }
 {
     let set = write_dir::open_file::copy_set(vol, y, dir, slot);
-    let number = write_file::refresh::length_cause(vol, map, y, b, len);
+    let number = file::refresh::length_cause(vol, map, y, b, len);
     if number != 0 {
-        return write_file::target::refused(number, hint);
+        return file::target::refused(number, hint);
     }
     resize(vol, map, y, dir, slot, set, b, len, t, hint)
 }
@@ -192,9 +192,9 @@ fn set_length_in(
     requires { ⌜ Laid y × ((length (now vol) ≡ y .len) × ((y .count ≤ 8 * length (now map)) × Apart y)) ⌝ }
     ensures { λ r. ⌜ (r ≡ setLengthIn y (now (vol .entry)) (now (map .entry)) (rootRecord y (now (vol .entry)) root) slot len t hint .answer) × (now (vol .exit) ≡ setLengthIn y (now (vol .entry)) (now (map .entry)) (rootRecord y (now (vol .entry)) root) slot len t hint .volume) ⌝ }
 {
-    let f = write_file::target::open_target(vol, map, y, root, slot, hint);
+    let f = file::target::open_target(vol, map, y, root, slot, hint);
     if f.number != 0 {
-        return write_file::target::refused(f.number, hint);
+        return file::target::refused(f.number, hint);
     }
     let dir = f.directory;
     let b = f.stream;
@@ -217,5 +217,5 @@ pub fn set_length(
         let y = boot::layout::layout_of(g, vol.len());
         return set_length_in(vol, map, y, g.root_cluster, slot, len, t, hint);
     }
-    write_file::target::refused(1, hint)
+    file::target::refused(1, hint)
 }

@@ -7,9 +7,9 @@ use Rattle.stream.specs.declared.allocation.Allocation.{Allocation}
 use Rattle.write_shrink.proofs.KeepLaws.{shrink-on}
 use Rattle.stream.specs.Stream.{clustersIn}
 use Rattle.write_shrink.specs.Shrink.{shrinkIn}
-use Rattle.write_dir.specs.Outcome.{carried}
+use Rattle.file.specs.Outcome.{carried}
 use Rattle.write_dir.specs.Open.{fileRecord}
-use Rattle.write_file.proofs.KeepLaws.{DirectoryOwn, StreamOwn, own-start, entries-on, own-after}
+use Rattle.file.proofs.KeepLaws.{DirectoryOwn, StreamOwn, own-start, entries-on, own-after}
 use Rattle.write_remove.specs.Remove.{unlinked}
 
 pub removed-on : (y : Layout) (P : ℕ → Type 0) (K : List ℕ → List ℕ → Type 0) → Keeps y P K → (d m : List ℕ) (a : Allocation) → DirectoryOwn y P d m a

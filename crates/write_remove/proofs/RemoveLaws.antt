@@ -19,14 +19,14 @@ use Rattle.write_shrink.specs.Shrink.{shrinkIn}
 use Rattle.directory.specs.Directory.{rootRecord}
 use Rattle.stream.specs.Stream.{clustersIn}
 use Rattle.directory.proofs.DirectoryLaws.{clusters-length}
-use Rattle.write_dir.specs.Outcome.{refuse, carried}
+use Rattle.file.specs.Outcome.{refuse, carried}
 use Rattle.write_dir.specs.Open.{fileRecord, setIn}
 use Rattle.write_dir.specs.declared.place.Spot.{Spot}
 use Rattle.write_dir.specs.Place.{spotOf, spotClusters}
 use Rattle.write_dir.proofs.PlaceLaws.{spot-store}
-use Rattle.write_file.specs.Refresh.{entriesOf, openCause}
-use Rattle.write_file.specs.Opens.{Stands}
-use Rattle.write_file.proofs.OpenLaws.{shown-as, carried-shown}
+use Rattle.file.specs.Refresh.{entriesOf, openCause}
+use Rattle.file.specs.Opens.{Stands}
+use Rattle.file.proofs.OpenLaws.{shown-as, carried-shown}
 use Rattle.write_remove.specs.Remove.{unlinked, removeIn, remove}
 
 -- a set that stands in a directory, stored at its spot with its entries cleared

@@ -15,9 +15,9 @@ use Rattle.entry_set.specs.Put.{cleared}
 use Rattle.write_shrink.specs.Shrink.{shrinkIn}
 use Rattle.directory.specs.Directory.{rootRecord}
 use Rattle.stream.specs.Stream.{clustersIn}
-use Rattle.write_dir.specs.Outcome.{Outcome, refuse, carried}
+use Rattle.file.specs.Outcome.{Outcome, refuse, carried}
 use Rattle.write_dir.specs.Open.{fileRecord, setIn}
-use Rattle.write_file.specs.Refresh.{entriesOf, openCause}
+use Rattle.file.specs.Refresh.{entriesOf, openCause}
 
 -- bit 0x80 of each entry of set s cleared at a slot of the directory whose clusters are ks
 unfoldable pub unlinked : Layout → List ℕ → List ℕ → ℕ → List ℕ → List ℕ

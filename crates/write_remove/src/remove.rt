@@ -6,13 +6,13 @@ ghost use Rattle.boot.specs.Layout.{Laid, Apart};
 ghost use Rattle.directory.specs.Directory.{rootRecord};
 ghost use Rattle.stream.specs.Stream.{clustersIn};
 ghost use Rattle.write_dir.specs.Open.{setIn};
-ghost use Rattle.write_file.specs.Refresh.{entriesOf};
-ghost use Rattle.write_file.specs.Opens.{Stands, Opens};
+ghost use Rattle.file.specs.Refresh.{entriesOf};
+ghost use Rattle.file.specs.Opens.{Stands, Opens};
 ghost use Rattle.write_remove.specs.Remove.{unlinked, removeIn, remove};
 use boot::geometry::Geometry;
 use boot::layout::Layout;
+use file::answer::FileAnswer;
 use stream::allocation::Allocation;
-use write_dir::answer::FileAnswer;
 
 // Clears the InUse bit of each entry of the set at a slot.
 fn unset(vol: &mut [u8], y: Layout, dir: Allocation, slot: u32, set: [u8; 608])
@@ -20,7 +20,7 @@ fn unset(vol: &mut [u8], y: Layout, dir: Allocation, slot: u32, set: [u8; 608])
     ensures { λ _. ⌜ now (vol .exit) ≡ unlinked y (now (vol .entry)) (clustersIn y (now (vol .entry)) dir) slot set ⌝ }
 {
     let spot = write_dir::place::locate(vol, y, dir, slot);
-    let n = write_file::refresh::entries_of(&set);
+    let n = file::refresh::entries_of(&set);
     let out = entry_set::set::unset(set, n);
     write_dir::place::write_set(vol, y, spot, &out, n);
 }
@@ -53,9 +53,9 @@ fn remove_in(vol: &mut [u8], map: &[u8], y: Layout, root: u32, slot: u32, hint: 
     requires { ⌜ Laid y × ((length (now vol) ≡ y .len) × ((y .count ≤ 8 * length (now map)) × Apart y)) ⌝ }
     ensures { λ r. ⌜ (r ≡ removeIn y (now (vol .entry)) (now (map .entry)) (rootRecord y (now (vol .entry)) root) slot hint .answer) × (now (vol .exit) ≡ removeIn y (now (vol .entry)) (now (map .entry)) (rootRecord y (now (vol .entry)) root) slot hint .volume) ⌝ }
 {
-    let f = write_file::target::open_target(vol, map, y, root, slot, hint);
+    let f = file::target::open_target(vol, map, y, root, slot, hint);
     if f.number != 0 {
-        return write_file::target::refused(f.number, hint);
+        return file::target::refused(f.number, hint);
     }
     let dir = f.directory;
     let b = f.stream;
@@ -70,5 +70,5 @@ pub fn remove(vol: &mut [u8], map: &[u8], g: Geometry, slot: u32, hint: u32) -> 
         let y = boot::layout::layout_of(g, vol.len());
         return remove_in(vol, map, y, g.root_cluster, slot, hint);
     }
-    write_file::target::refused(1, hint)
+    file::target::refused(1, hint)
 }

@@ -4,9 +4,10 @@ use Prim.Native.Nat.{ℕ}
 use lib.Dec.{eqb}
 use Rattle.tables.specs.Lists.{lastOr, rising}
 use Rattle.stream.specs.declared.allocation.Allocation.{Allocation}
-use Rattle.stream.specs.Along.{after, along}
-use Rattle.write_shrink.specs.declared.shrink.Kept.{Kept}
+use Rattle.stream.specs.Along.{along}
 use Rattle.stream.specs.Stream.{empty}
+use Rattle.stream.specs.Bytes.{reached}
+use Rattle.write_shrink.specs.declared.shrink.Kept.{Kept}
 
 -- n clusters from k on: the last one (0: none), whether their numbers rise by one, and the cluster after them
 unfoldable pub keptPart : (ℕ → ℕ) → Bool → ℕ → ℕ → Kept

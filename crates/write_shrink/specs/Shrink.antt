@@ -4,7 +4,7 @@ use mathlib.Core.List.{List, [], _∷_}
 use Prim.Native.Nat.{ℕ}
 use lib.Dec.{eqb, leb}
 use lib.ListN.{length, take, drop}
-use Rattle.tables.specs.Lists.{lastOr}
+use Rattle.tables.specs.Lists.{lastOr, rising}
 use Rattle.boot.specs.declared.geometry.Geometry.{Geometry}
 use Rattle.boot.specs.declared.layout.Layout.{Layout}
 use Rattle.boot.specs.Limits.{limits}
@@ -13,7 +13,7 @@ use Rattle.boot.specs.Causes.{firstCause, heapCause}
 use Rattle.metadata.specs.Fat.{END, setFat}
 use Rattle.metadata.specs.Marks.{setMark}
 use Rattle.stream.specs.declared.allocation.Allocation.{Allocation}
-use Rattle.stream.specs.Stream.{numberOf, streamOf, clustersOf, empty}
+use Rattle.stream.specs.Stream.{numberOf, streamOf, clustersOf, empty, systemCause}
 use Rattle.write_alloc.specs.Outcome.{Outcome, unchanged, done}
 
 -- the clusters of a list freed: each gets FAT entry 0 and is unmarked

@@ -119,7 +119,14 @@ fn shrink_read(vol: &mut [u8], map: &[u8], y: Layout, a: Allocation, keep: u32, 
     ensures { λ r. ⌜ (r ≡ shrinkIn y (now (vol .entry)) (now (map .entry)) a keep hint .answer) × (now (vol .exit) ≡ shrinkIn y (now (vol .entry)) (now (map .entry)) a keep hint .volume) ⌝ }
 {
     let part = kept_part(vol, y, a.no_fat_chain, a.first, keep);
-    let number = stream::system::system_cause(vol, map, y, a.no_fat_chain, part.next, a.count - keep);
+    let number = stream::system::system_cause(
+        vol,
+        map,
+        y,
+        a.no_fat_chain,
+        part.next,
+        a.count - keep,
+    );
     if number != 0 {
         return Answer {
             number: number,

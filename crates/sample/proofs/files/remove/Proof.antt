@@ -1,7 +1,7 @@
 use mathlib.Core.Path.{sym, _∙_, ap₂}
 use mathlib.Core.List.{List}
 use Prim.Native.Nat.{ℕ}
-use Rattle.write_dir.specs.declared.answer.FileAnswer.{FileAnswer}
+use Rattle.file.specs.declared.answer.FileAnswer.{FileAnswer}
 use Rattle.sample.specs.Held.{heldFile}
 use Rattle.sample.specs.Replay.{removeRow}
 use borrow.Author.Needs.{needs}

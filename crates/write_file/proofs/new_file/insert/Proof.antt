@@ -1,5 +1,5 @@
 use mathlib.Core.Path.{_∙_}
-use Rattle.write_file.proofs.OpenLaws.{stands-inside, stands-reaches}
+use Rattle.file.proofs.OpenLaws.{stands-inside, stands-reaches}
 use Rattle.write_file.proofs.NewFileLaws.{ready-grows, insert-stands, insert-shown}
 use borrow.Author.Needs.{needs}
 use Rattle.write_file.proofs.new_file.insert.Statement.{statement}

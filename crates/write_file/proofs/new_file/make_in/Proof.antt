@@ -3,8 +3,8 @@ use native.Mathlib.Omega.{arith}
 use Rattle.boot.specs.Layout.{layoutOf}
 use Rattle.boot.proofs.Accepted.{accepted-of}
 use Rattle.boot.proofs.Places.{laid-of}
-use Rattle.write_file.proofs.OpenLaws.{shown-as}
-use Rattle.write_file.proofs.CallLaws.{refused-shown}
+use Rattle.file.proofs.OpenLaws.{shown-as}
+use Rattle.file.proofs.CallLaws.{refused-shown}
 use Rattle.write_file.proofs.NewFileLaws.{call-limits, call-hint, call-root, call-opens, call-ready}
 use borrow.Author.Needs.{needs}
 use Rattle.write_file.proofs.new_file.make_in.Statement.{statement}

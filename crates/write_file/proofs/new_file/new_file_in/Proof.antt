@@ -1,7 +1,7 @@
 use mathlib.Core.Path.{_≡_, refl, sym, _∙_}
 use native.Mathlib.Omega.{arith}
-use Rattle.write_file.proofs.OpenLaws.{shown-as}
-use Rattle.write_file.proofs.CallLaws.{refused-shown}
+use Rattle.file.proofs.OpenLaws.{shown-as}
+use Rattle.file.proofs.CallLaws.{refused-shown}
 use Rattle.write_file.proofs.NewFileLaws.{ready-reads, name-few, entries-are, space-enough, new-name, new-attributes, new-space, new-done}
 use borrow.Author.Needs.{needs}
 use Rattle.write_file.proofs.new_file.new_file_in.Statement.{statement}

@@ -1,5 +1,5 @@
 use Rattle.write_file.proofs.WriteLaws.{data-is}
-use Rattle.write_file.proofs.RefreshLaws.{stored-along, stored-heap, stored-known}
+use Rattle.file.proofs.RefreshLaws.{stored-along, stored-heap, stored-known}
 use lib.ListN.{replicate}
 use Prim.Native.Nat.{_-_}
 use Rattle.metadata.proofs.Frame.{Fits}

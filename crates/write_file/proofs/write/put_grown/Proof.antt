@@ -1,6 +1,6 @@
 use mathlib.Core.Path.{_≡_, sym, _∙_, refl, ap}
 use native.Mathlib.Omega.{arith}
-use Rattle.write_file.proofs.RefreshLaws.{entries-some}
+use Rattle.file.proofs.RefreshLaws.{entries-some}
 use mathlib.Core.List.{List}
 use Prim.Native.Nat.{ℕ}
 use Rattle.stream.specs.Stream.{clustersIn}

@@ -5,10 +5,10 @@ use mathlib.Core.Path.{subst}
 use lib.ListN.{length}
 use Rattle.entry_set.specs.Fields.{validLength, dataLength}
 use Rattle.write_dir.specs.Open.{fileRecord}
-use Rattle.write_file.specs.Refresh.{entriesOf, lengthCause}
+use Rattle.file.specs.Refresh.{entriesOf, lengthCause}
 use Rattle.write_file.specs.Write.{larger}
-use Rattle.write_file.proofs.RefreshLaws.{entries-some}
-use Rattle.write_file.proofs.OpenLaws.{open-directory, open-stream, open-stands, stands-inside, stands-reaches, stored-spot}
+use Rattle.file.proofs.RefreshLaws.{entries-some}
+use Rattle.file.proofs.OpenLaws.{open-directory, open-stream, open-stands, stands-inside, stands-reaches, stored-spot}
 use Rattle.write_file.proofs.WriteLaws.{larger-above, data-end, data-enough, written-is}
 use borrow.Author.Needs.{needs}
 use Rattle.write_file.proofs.write.write_data.Statement.{statement}

@@ -3,9 +3,10 @@ use native.Mathlib.Omega.{arith}
 use mathlib.Core.List.{List}
 use Prim.Native.Nat.{ℕ}
 use lib.ListN.{length}
-use Rattle.write_dir.specs.Outcome.{Outcome}
-use Rattle.write_file.specs.Write.{dataCause, refreshedOnly, written}
-use Rattle.write_file.proofs.OpenLaws.{open-directory, open-sound, open-stands, opens-set, opens-none, shown-as, refuse-shown}
+use Rattle.file.specs.Outcome.{Outcome}
+use Rattle.write_file.specs.Write.{dataCause, written}
+use Rattle.file.specs.Refresh.{refreshedOnly}
+use Rattle.file.proofs.OpenLaws.{open-directory, open-sound, open-stands, opens-set, opens-none, shown-as, refuse-shown}
 use Rattle.write_file.proofs.WriteLaws.{write-nothing, write-not, write-done}
 use borrow.Author.Needs.{needs}
 use Rattle.write_file.proofs.write.write_open.Statement.{statement}

@@ -2,9 +2,9 @@ use mathlib.Core.Path.{_≡_, sym, _∙_, refl, ap}
 use native.Mathlib.Omega.{arith}
 use Prim.Native.Nat.{ℕ, _+_}
 use Rattle.write_dir.specs.Open.{fileRecord}
-use Rattle.write_file.specs.Refresh.{entriesOf}
-use Rattle.write_file.proofs.RefreshLaws.{entries-some}
-use Rattle.write_file.proofs.OpenLaws.{open-stream, open-valid, open-small, open-stands, stands-inside, stands-reaches, stored-spot}
+use Rattle.file.specs.Refresh.{entriesOf}
+use Rattle.file.proofs.RefreshLaws.{entries-some}
+use Rattle.file.proofs.OpenLaws.{open-stream, open-valid, open-small, open-stands, stands-inside, stands-reaches, stored-spot}
 use Rattle.write_length.proofs.SetLengthLaws.{longer-is}
 use borrow.Author.Needs.{needs}
 use Rattle.write_length.proofs.set_length.make_longer.Statement.{statement}

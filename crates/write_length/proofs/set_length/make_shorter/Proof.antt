@@ -4,9 +4,9 @@ use Prim.Native.Nat.{ℕ, _+_, _≤_}
 use Rattle.entry_set.specs.Fields.{dataLength, clustersFor}
 use Rattle.entry_set.proofs.LengthLaws.{clusters-mono}
 use Rattle.write_dir.specs.Open.{fileRecord}
-use Rattle.write_file.specs.Refresh.{entriesOf}
-use Rattle.write_file.proofs.RefreshLaws.{entries-some}
-use Rattle.write_file.proofs.OpenLaws.{open-stream, open-count, open-few, open-stands, stands-inside, stands-reaches, stored-spot}
+use Rattle.file.specs.Refresh.{entriesOf}
+use Rattle.file.proofs.RefreshLaws.{entries-some}
+use Rattle.file.proofs.OpenLaws.{open-stream, open-count, open-few, open-stands, stands-inside, stands-reaches, stored-spot}
 use Rattle.write_length.proofs.SetLengthLaws.{shorter-is}
 use borrow.Author.Needs.{needs}
 use Rattle.write_length.proofs.set_length.make_shorter.Statement.{statement}

@@ -1,7 +1,7 @@
 use mathlib.Core.Path.{_≡_, sym, _∙_, refl, ap}
 use native.Mathlib.Omega.{arith}
 use Prim.Native.Nat.{ℕ, _+_}
-use Rattle.write_file.proofs.OpenLaws.{open-stands, shown-as}
+use Rattle.file.proofs.OpenLaws.{open-stands, shown-as}
 use Rattle.write_length.proofs.SetLengthLaws.{resized-shorter, resized-same, resized-longer}
 use borrow.Author.Needs.{needs}
 use Rattle.write_length.proofs.set_length.resize.Statement.{statement}

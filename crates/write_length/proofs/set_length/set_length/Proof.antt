@@ -4,7 +4,7 @@ use Rattle.boot.specs.Layout.{layoutOf}
 use Rattle.boot.proofs.Accepted.{accepted-of, map-length}
 use Rattle.boot.proofs.Places.{laid-of}
 use Rattle.boot.proofs.Apart.{apart-of}
-use Rattle.write_file.proofs.OpenLaws.{shown-as, refuse-shown}
+use Rattle.file.proofs.OpenLaws.{shown-as, refuse-shown}
 use Rattle.write_length.proofs.SetLengthLaws.{set-is, set-limits}
 use borrow.Author.Needs.{needs}
 use Rattle.write_length.proofs.set_length.set_length.Statement.{statement}

@@ -3,10 +3,10 @@ use native.Mathlib.Omega.{arith}
 use Prim.Native.Nat.{ℕ}
 use Rattle.metadata.proofs.Frame.{Fits}
 use Rattle.stream.specs.declared.allocation.Allocation.{Allocation}
-use Rattle.write_file.specs.declared.target.Target.{Target}
+use Rattle.file.specs.declared.target.Target.{Target}
 use Rattle.directory.specs.Directory.{rootRecord}
 use Rattle.write_length.specs.SetLength.{setLengthIn}
-use Rattle.write_file.proofs.OpenLaws.{target-number, found-opens, found-directory, shown-as, refuse-shown}
+use Rattle.file.proofs.OpenLaws.{target-number, found-opens, found-directory, shown-as, refuse-shown}
 use Rattle.write_length.proofs.SetLengthLaws.{set-refused}
 use borrow.Author.Needs.{needs}
 use Rattle.write_length.proofs.set_length.set_length_in.Statement.{statement}

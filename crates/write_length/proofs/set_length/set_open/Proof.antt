@@ -3,7 +3,7 @@ use native.Mathlib.Omega.{arith}
 use mathlib.Core.List.{List}
 use Prim.Native.Nat.{ℕ}
 use Rattle.write_length.specs.SetLength.{resized}
-use Rattle.write_file.proofs.OpenLaws.{open-directory, open-sound, opens-set, opens-none, shown-as, refuse-shown}
+use Rattle.file.proofs.OpenLaws.{open-directory, open-sound, opens-set, opens-none, shown-as, refuse-shown}
 use Rattle.write_length.proofs.SetLengthLaws.{set-not, set-done}
 use borrow.Author.Needs.{needs}
 use Rattle.write_length.proofs.set_length.set_open.Statement.{statement}

@@ -2,10 +2,10 @@ use mathlib.Core.Path.{_≡_, sym, _∙_, ap}
 use native.Mathlib.Omega.{arith}
 use Rattle.metadata.proofs.Frame.{Fits}
 use Rattle.stream.specs.declared.allocation.Allocation.{Allocation}
-use Rattle.write_file.specs.declared.target.Target.{Target}
+use Rattle.file.specs.declared.target.Target.{Target}
 use Rattle.directory.specs.Directory.{rootRecord}
 use Rattle.write_remove.specs.Remove.{removeIn}
-use Rattle.write_file.proofs.OpenLaws.{target-number, found-opens, found-directory, shown-as, refuse-shown}
+use Rattle.file.proofs.OpenLaws.{target-number, found-opens, found-directory, shown-as, refuse-shown}
 use Rattle.write_remove.proofs.RemoveLaws.{remove-refused}
 use borrow.Author.Needs.{needs}
 use Rattle.write_remove.proofs.remove.remove_in.Statement.{statement}

@@ -2,9 +2,9 @@ use mathlib.Core.List.{List}
 use mathlib.Core.Path.{sym, subst}
 use Prim.Native.Nat.{ℕ}
 use native.Mathlib.Omega.{arith}
-use Rattle.write_file.specs.Refresh.{entriesOf}
-use Rattle.write_file.specs.Opens.{Stands}
-use Rattle.write_file.proofs.OpenLaws.{open-directory, open-sound, open-stands, opens-none}
+use Rattle.file.specs.Refresh.{entriesOf}
+use Rattle.file.specs.Opens.{Stands}
+use Rattle.file.proofs.OpenLaws.{open-directory, open-sound, open-stands, opens-none}
 use Rattle.write_remove.proofs.RemoveLaws.{remove-done}
 use borrow.Author.Needs.{needs}
 use Rattle.write_remove.proofs.remove.remove_open.Statement.{statement}

@@ -1,0 +1,4 @@
+pub mod OpenLaws
+pub mod RefreshLaws
+pub mod CallLaws
+pub mod KeepLaws

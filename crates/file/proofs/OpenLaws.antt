@@ -1,0 +1,308 @@
+-- What is known of a file that opens, and what refuses one. Assumes nothing.
+use mathlib.Core.Path.{_≡_, refl, sym, _∙_, ap, subst}
+use mathlib.Core.Bool.{Bool, true, false, cond}
+use mathlib.Core.List.{List, [], _∷_}
+use Prim.Native.Nat.{ℕ, _+_, _-_, _*_, _/_, _≤_, _<_}
+use native.Mathlib.Nat.{mul-le-mul-right}
+use native.Mathlib.Omega.{arith}
+use lib.Dec.{eqb}
+use lib.ListN.{length, take}
+use borrow.Author.Tests.{ne-eqb, eqb-true}
+use Rattle.boot.specs.declared.layout.Layout.{Layout}
+use Rattle.boot.specs.Layout.{Laid, inHeap}
+use Rattle.boot.specs.Causes.{firstCause, heapCause}
+use Rattle.boot.proofs.CauseLaws.{cause-skip, cause-met, cause-last, heap-met, heap-kept, cause-none}
+use Rattle.metadata.proofs.Frame.{Fits}
+use Rattle.stream.specs.Bytes.{storeAt, bytesIn}
+use Rattle.stream.specs.declared.allocation.Allocation.{Allocation}
+use Rattle.stream.specs.Stream.{numberOf, streamOf, clustersOf, systemCause, empty, clustersIn}
+use Rattle.stream.proofs.BytesLaws.{take-short}
+use Rattle.entry_set.specs.declared.stamp.Stamp.{Stamp}
+use Rattle.entry_set.specs.Fields.{validLength, dataLength, clustersFor}
+use Rattle.entry_set.proofs.LengthLaws.{clusters-hold}
+use Rattle.entry_set.proofs.SetLaws.{formed-lengths}
+use Rattle.file.specs.declared.answer.FileAnswer.{FileAnswer}
+use Rattle.file.specs.Outcome.{Outcome, refuse, carried}
+use Rattle.directory.specs.declared.directory.Directory.{Directory}
+use Rattle.directory.specs.Directory.{rootRecord, openRoot, bitmapCause, directoryCause}
+use Rattle.directory.proofs.DirectoryLaws.{clusters-length}
+use Rattle.directory.specs.Entries.{entryCount, entriesAt, setAt, isSound}
+use Rattle.directory.proofs.EntryLaws.{sound-few, sound-room, sound-formed, set-count}
+use Rattle.directory.proofs.CursorLaws.{length-in, count-few}
+use Rattle.write_dir.specs.declared.«open_file».Opened.{Opened}
+use Rattle.write_dir.specs.declared.place.Spot.{Spot}
+use Rattle.write_dir.specs.Place.{spotOf, spotClusters, Reaches}
+use Rattle.write_dir.proofs.PlaceLaws.{spot-reaches, spot-store}
+use Rattle.write_dir.specs.Open.{fileRecord, entryCause, attributeCause, streamCause, setIn, fileCause, opened, openFile}
+use Rattle.file.specs.Refresh.{entriesOf, recorded, stored, openCause}
+use Rattle.file.specs.declared.target.Target.{Target}
+use Rattle.file.specs.Opens.{Opens, Stands, target}
+
+-- ---- a file that opens
+
+module _ (y : Layout) (d m : List ℕ) (a : Allocation) (slot : ℕ) (s : List ℕ) (b : Allocation) (hint : ℕ) (o : Opens y d m a slot s b hint) where
+  pub open-fits : Fits y d
+  open-fits = record { laid = o .laid; apart = o .apart; long = o .long }
+
+  -- the directory reads
+  pub open-directory : numberOf (streamOf y d a) ≡ 0
+  open-directory =
+      cause-none (numberOf (streamOf y d a)) (bitmapCause y (clustersOf (streamOf y d a)) ∷ []) (unfold directoryCause in (o .directory)) .0
+
+  causes : firstCause (entryCause y (bytesIn y d a) slot ∷ attributeCause (setIn y d a slot) ∷ streamCause y d m (fileRecord y d (setIn y d a slot)) ∷ []) ≡ 0
+  causes = unfold fileCause in (o .file)
+
+  pub open-sound : isSound (y .count) (y .size) (bytesIn y d a) slot ≡ true
+  open-sound = by (isSound (y .count) (y .size) (bytesIn y d a) slot) refl
+    where
+      by : (t : Bool) → isSound (y .count) (y .size) (bytesIn y d a) slot ≡ t → t ≡ true
+      by true e = refl
+      by false e =
+          let q : entryCause y (bytesIn y d a) slot ≡ 10 = unfold entryCause in (rw e refl) in
+          absurd (let z = cause-none _ _ causes .0 in omega arith)
+
+  -- the stream reads
+  pub open-stream : numberOf (streamOf y d b) ≡ 0
+  open-stream =
+      let r = fileRecord y d (setIn y d a slot) in
+      let k = cause-none _ _ (cause-none _ _ (cause-none _ _ causes .1) .1) .0 in
+      let q : numberOf (streamOf y d r) ≡ 0 = cause-none (numberOf (streamOf y d r)) (systemCause m (clustersIn y d r) ∷ []) (unfold streamCause in k) .0 in
+      subst (λ (x : Allocation). numberOf (streamOf y d x) ≡ 0) (sym (o .stream ∙ ap (fileRecord y d) (o .set))) q
+
+  entries-are : entriesOf s ≡ entriesAt (bytesIn y d a) slot
+  entries-are =
+      ap entriesOf (o .set)
+      ∙ (unfold entriesOf in (unfold setIn in
+      (set-count (bytesIn y d a) slot (sound-few (y .count) (y .size) (bytesIn y d a) slot open-sound) (sound-room (y .count) (y .size) (bytesIn y d a) slot open-sound))))
+
+  pub open-entries : entriesOf s ≤ 19
+  open-entries = omega (arith, entries-are, sound-few (y .count) (y .size) (bytesIn y d a) slot open-sound)
+
+  -- the set lies in the directory
+  pub open-room : 32 * (slot + entriesOf s) ≤ a .count * y .size
+  open-room =
+      let r = sound-room (y .count) (y .size) (bytesIn y d a) slot open-sound in
+      let l = length-in y d open-fits a open-directory in
+      let q : entryCount (bytesIn y d a) ≡ length (bytesIn y d a) / 32 = unfold entryCount in refl in
+      omega (arith, entries-are, r, l, q)
+
+  pub open-valid : validLength s ≤ dataLength s
+  open-valid =
+      let q : s ≡ setAt (bytesIn y d a) slot = unfold setIn in (o .set) in
+      subst (λ (x : List ℕ). validLength x ≤ dataLength x) (sym q)
+      (formed-lengths (y .count) (y .size) (setAt (bytesIn y d a) slot) (sound-formed (y .count) (y .size) (bytesIn y d a) slot open-sound) .valid)
+
+  pub open-count : b .count ≡ clustersFor (y .size) (dataLength s)
+  open-count = ap (λ (x : Allocation). x .count) (o .stream) ∙ by (eqb n 0) refl
+    where
+      n : ℕ
+      n = clustersFor (y .size) (dataLength s)
+
+      by : (t : Bool) → eqb n 0 ≡ t → fileRecord y d s .count ≡ n
+      by true e = unfold fileRecord in (rw e (sym (eqb-true n 0 e)))
+      by false e = unfold fileRecord in (rw e refl)
+
+  pub open-few : b .count ≤ y .count
+  open-few = count-few y d open-fits b open-stream
+
+  pub open-stands : Stands y d a slot (entriesOf s)
+  open-stands = record { reads = open-directory; few = open-entries; room = open-room }
+
+  -- its bytes are no more than the heap's
+  pub open-small : validLength s ≤ 16777216
+  open-small =
+      let l = o .laid in
+      omega (
+        arith,
+        open-valid,
+        ap (λ (x : ℕ). x * y .size) open-count,
+        clusters-hold (y .size) (omega (arith, l .size-low)) (dataLength s),
+        mul-le-mul-right {m = b .count} {n = y .count} (y .size) open-few,
+        l .heap-in,
+        l .len-high,
+      )
+
+-- ---- a set that stands in a directory, stored at its spot
+
+module _ (y : Layout) (d : List ℕ) (a : Allocation) (slot : ℕ) (l : Laid y) where
+  pub stands-inside : (n : ℕ) → Stands y d a slot n → 1 ≤ n → 32 * slot < a .count * y .size
+  stands-inside n h f = omega (arith, h .room)
+
+  pub stands-reaches : (n : ℕ) (p : Spot) → Stands y d a slot n → p ≡ spotOf y d a slot → Reaches y p n
+  stands-reaches n p h e = subst (λ (x : Spot). Reaches y x n) (sym e) (spot-reaches y d a slot n l (h .reads) (h .room) (h .few))
+
+  pub stored-spot : (s e e′ : List ℕ) (b : Allocation) (valid len : ℕ) (t : Stamp) (p : Spot) → Stands y d a slot (entriesOf s) → p ≡ spotOf y d a slot
+      → e′ ≡ storeAt y e (spotClusters p) (p .at) (take (32 * entriesOf s) (recorded s b valid len t))
+      → e′ ≡ stored y e (clustersIn y d a) slot s b valid len t
+  unfolding stored
+  stored-spot s e e′ b valid len t p h q r =
+      let bs = take (32 * entriesOf s) (recorded s b valid len t) in
+      let n = clusters-length y d a (h .reads) in
+      let k : length bs ≤ 32 * entriesOf s = take-short (32 * entriesOf s) (recorded s b valid len t) in
+      r ∙ ap (λ (x : Spot). storeAt y e (spotClusters x) (x .at) bs) q
+      ∙ spot-store y d a slot l e bs (omega (arith, h .few)) (omega (arith, h .room, ap (λ (x : ℕ). x * y .size) n))
+
+-- ---- what refuses one
+
+module _ (y : Layout) (d m : List ℕ) (a : Allocation) (slot hint : ℕ) where
+  pub open-hint : inHeap (y .count) hint ≡ false → openCause y d m a slot hint ≡ 2
+  unfolding openCause
+  open-hint e =
+      let h = heap-met (y .count) hint e in
+      cause-met (heapCause (y .count) hint) (directoryCause y d a ∷ fileCause y d m a slot ∷ []) (λ z. omega arith) ∙ h
+
+  module _ (h : inHeap (y .count) hint ≡ true) where
+    past-hint : openCause y d m a slot hint ≡ firstCause (directoryCause y d a ∷ fileCause y d m a slot ∷ [])
+    unfolding openCause
+    past-hint = cause-skip (heapCause (y .count) hint) (directoryCause y d a ∷ fileCause y d m a slot ∷ []) (heap-kept (y .count) hint h)
+
+    pub open-not-read : (directoryCause y d a ≡ 0 → ⊥) → openCause y d m a slot hint ≡ directoryCause y d a
+    open-not-read n = past-hint ∙ cause-met (directoryCause y d a) (fileCause y d m a slot ∷ []) n
+
+    pub open-is : directoryCause y d a ≡ 0 → openCause y d m a slot hint ≡ fileCause y d m a slot
+    open-is e = past-hint ∙ cause-skip (directoryCause y d a) (fileCause y d m a slot ∷ []) e ∙ cause-last (fileCause y d m a slot)
+
+-- ---- outcomes
+
+-- shown of one outcome, shown of an equal one
+pub shown-as : {o o′ : Outcome} {r : FileAnswer} {d : List ℕ} → o ≡ o′ → (r ≡ o′ .answer) × (d ≡ o′ .volume) → (r ≡ o .answer) × (d ≡ o .volume)
+shown-as e s = (s .0 ∙ ap (λ (o : Outcome). o .answer) (sym e), s .1 ∙ ap (λ (o : Outcome). o .volume) (sym e))
+
+pub carried-shown : (slot hint : ℕ) (d d′ : List ℕ) → d′ ≡ d
+    → (record { number = 0; slot = slot; hint = hint } ≡ carried slot hint d .answer) × (d′ ≡ carried slot hint d .volume)
+unfolding carried
+carried-shown slot hint d d′ e = (refl, e)
+
+pub refuse-shown : (n hint : ℕ) (d : List ℕ) (r : FileAnswer) → r ≡ record { number = n; slot = 0; hint = hint }
+    → (r ≡ refuse n hint d .answer) × (d ≡ refuse n hint d .volume)
+unfolding refuse
+refuse-shown n hint d r e = (e, refl)
+
+-- ---- the target of a call
+
+module _ (y : Layout) (d m : List ℕ) (a : Allocation) (slot hint : ℕ) where
+  abbrev none : ℕ → Target
+  none n = record { number = n; directory = empty; stream = empty }
+
+  target-refused : (n : ℕ) → n ≡ openCause y d m a slot hint → (n ≡ 0 → ⊥) → none n ≡ target y d m a slot hint
+  unfolding target
+  target-refused n e z = rw (← e, ne-eqb n 0 z) refl
+
+  pub target-hint : inHeap (y .count) hint ≡ false → none 2 ≡ target y d m a slot hint
+  target-hint h = target-refused 2 (sym (open-hint y d m a slot hint h)) (λ z. omega arith)
+
+  module _ (h : inHeap (y .count) hint ≡ true) where
+    pub target-directory : (n : ℕ) → n ≡ directoryCause y d a → (n ≡ 0 → ⊥) → none n ≡ target y d m a slot hint
+    target-directory n e z = target-refused n (e ∙ sym (open-not-read y d m a slot hint h (λ q. z (e ∙ q)))) z
+
+    pub target-file : (n : ℕ) → directoryCause y d a ≡ 0 → n ≡ fileCause y d m a slot → (n ≡ 0 → ⊥) → none n ≡ target y d m a slot hint
+    target-file n q e z = target-refused n (e ∙ sym (open-is y d m a slot hint h q)) z
+
+    pub target-done : (b : Allocation) → directoryCause y d a ≡ 0 → fileCause y d m a slot ≡ 0 → b ≡ fileRecord y d (setIn y d a slot)
+        → record { number = 0; directory = a; stream = b } ≡ target y d m a slot hint
+    unfolding target
+    target-done b q e f = rw (open-is y d m a slot hint h q ∙ e) (ap (λ (x : Allocation). record { number = 0; directory = a; stream = x }) f)
+
+  -- its number, and the file where that is 0
+  pub target-number : target y d m a slot hint .number ≡ openCause y d m a slot hint
+  unfolding target
+  target-number = by (eqb (openCause y d m a slot hint) 0) refl
+    where
+      by : (t : Bool) → eqb (openCause y d m a slot hint) 0 ≡ t
+          → cond t (record { number = 0; directory = a; stream = fileRecord y d (setIn y d a slot) }) (none (openCause y d m a slot hint)) .number
+          ≡ openCause y d m a slot hint
+      by true e = sym (eqb-true (openCause y d m a slot hint) 0 e)
+      by false e = refl
+
+  pub target-is : openCause y d m a slot hint ≡ 0 → target y d m a slot hint ≡ record { number = 0; directory = a; stream = fileRecord y d (setIn y d a slot) }
+  unfolding target
+  target-is e = rw e refl
+
+  hint-of : heapCause (y .count) hint ≡ 0 → inHeap (y .count) hint ≡ true
+  hint-of e = by (inHeap (y .count) hint) refl
+    where
+      by : (t : Bool) → inHeap (y .count) hint ≡ t → inHeap (y .count) hint ≡ true
+      by true q = q
+      by false q = absurd (let z = heap-met (y .count) hint q in omega arith)
+
+  module _ (w : Fits y d) (k : y .count ≤ 8 * length m) (f : Target) (e : f ≡ target y d m a slot hint) (z : f .number ≡ 0) where
+    open-none : openCause y d m a slot hint ≡ 0
+    open-none = sym target-number ∙ ap (λ (x : Target). x .number) (sym e) ∙ z
+
+    pub found-directory : f .directory ≡ a
+    found-directory = ap (λ (x : Target). x .directory) (e ∙ target-is open-none)
+
+    opens-at : (x : Allocation) → x ≡ a → Opens y d m x slot (setIn y d x slot) (f .stream) hint
+    opens-at x q =
+        let c = cause-none (heapCause (y .count) hint) (directoryCause y d a ∷ fileCause y d m a slot ∷ []) (unfold openCause in open-none) in
+        let u = cause-none (directoryCause y d a) (fileCause y d m a slot ∷ []) (c .1) in
+        let v = cause-none (fileCause y d m a slot) [] (u .1) in
+        record {
+          laid = w .laid;
+          apart = w .apart;
+          long = w .long;
+          map = k;
+          directory = ap (directoryCause y d) q ∙ u .0;
+          file = ap (λ (r : Allocation). fileCause y d m r slot) q ∙ v .0;
+          set = refl;
+          stream = ap (λ (r : Target). r .stream) (e ∙ target-is open-none) ∙ ap (λ (r : Allocation). fileRecord y d (setIn y d r slot)) (sym q);
+          hint-in = hint-of (c .0);
+        }
+
+    pub found-opens : Opens y d m (f .directory) slot (setIn y d (f .directory) slot) (f .stream) hint
+    found-opens = opens-at (f .directory) found-directory
+
+-- the set copied is the set there
+pub opens-set : (y : Layout) (d m : List ℕ) (a : Allocation) (slot : ℕ) (s : List ℕ) (b : Allocation) (hint : ℕ)
+    → Opens y d m a slot (setIn y d a slot) b hint → s ≡ setIn y d a slot → Opens y d m a slot s b hint
+opens-set y d m a slot s b hint o e = subst (λ (x : List ℕ). Opens y d m a slot x b hint) (sym e) o
+
+-- of a file that opens nothing is refused
+pub opens-none : (y : Layout) (d m : List ℕ) (a : Allocation) (slot : ℕ) (s : List ℕ) (b : Allocation) (hint : ℕ) → Opens y d m a slot s b hint
+    → openCause y d m a slot hint ≡ 0
+opens-none y d m a slot s b hint o = open-is y d m a slot hint (o .hint-in) (o .directory) ∙ o .file
+
+-- ---- root and file as code opens them
+
+module _ (y : Layout) (d : List ℕ) (root : ℕ) (r : Directory) (e : r ≡ openRoot y d root) where
+  abbrev cause : ℕ
+  cause = directoryCause y d (rootRecord y d root)
+
+  pub root-number : r .number ≡ cause
+  root-number = ap (λ (x : Directory). x .number) e ∙ by (eqb cause 0) refl
+    where
+      by : (t : Bool) → eqb cause 0 ≡ t → openRoot y d root .number ≡ cause
+      by true q = unfold openRoot in (rw q (sym (eqb-true cause 0 q)))
+      by false q = unfold openRoot in (rw q refl)
+
+  allocation-is : cause ≡ 0 → openRoot y d root .allocation ≡ rootRecord y d root
+  unfolding openRoot
+  allocation-is q = rw q refl
+
+  pub root-record : r .number ≡ 0 → r .allocation ≡ rootRecord y d root
+  root-record z =
+      let q : cause ≡ 0 = sym root-number ∙ z in
+      ap (λ (x : Directory). x .allocation) e ∙ allocation-is q
+
+  pub root-reads : r .number ≡ 0 → numberOf (streamOf y d (r .allocation)) ≡ 0
+  root-reads z =
+      let x = rootRecord y d root in
+      ap (λ (u : Allocation). numberOf (streamOf y d u)) (root-record z)
+      ∙ cause-none (numberOf (streamOf y d x)) (bitmapCause y (clustersOf (streamOf y d x)) ∷ []) (unfold directoryCause in (sym root-number ∙ z)) .0
+
+module _ (y : Layout) (d m : List ℕ) (a : Allocation) (slot : ℕ) (r : Opened) (e : r ≡ openFile y d m a slot) where
+  pub file-number : r .number ≡ fileCause y d m a slot
+  file-number = ap (λ (x : Opened). x .number) e ∙ by (eqb (fileCause y d m a slot) 0) refl
+    where
+      by : (t : Bool) → eqb (fileCause y d m a slot) 0 ≡ t → openFile y d m a slot .number ≡ fileCause y d m a slot
+      by true q = unfold openFile in (unfold opened in (rw q (sym (eqb-true (fileCause y d m a slot) 0 q))))
+      by false q = unfold openFile in (unfold opened in (rw q refl))
+
+  stream-is : fileCause y d m a slot ≡ 0 → openFile y d m a slot .allocation ≡ fileRecord y d (setIn y d a slot)
+  unfolding openFile opened
+  stream-is q = rw q refl
+
+  pub file-record : r .number ≡ 0 → r .allocation ≡ fileRecord y d (setIn y d a slot)
+  file-record z =
+      let q : fileCause y d m a slot ≡ 0 = sym file-number ∙ z in
+      ap (λ (x : Opened). x .allocation) e ∙ stream-is q

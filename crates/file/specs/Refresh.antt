@@ -1,0 +1,55 @@
+-- The entry set of a file stored anew (Rust: `record`), and the clusters that a new length needs.
+use mathlib.Core.Bool.{Bool, cond}
+use mathlib.Core.List.{List, [], _∷_}
+use Prim.Native.Nat.{ℕ, _+_, _-_, _*_}
+use lib.Dec.{eqb}
+use lib.ListN.{take}
+use Rattle.tables.specs.Count.{count}
+use Rattle.boot.specs.declared.layout.Layout.{Layout}
+use Rattle.boot.specs.Causes.{firstCause, heapCause, spaceCause}
+use Rattle.metadata.specs.Usable.{isUsable}
+use Rattle.stream.specs.declared.allocation.Allocation.{Allocation}
+use Rattle.stream.specs.declared.bytes.Place.{Place}
+use Rattle.stream.specs.Stream.{clustersIn}
+use Rattle.stream.specs.Bytes.{storeAt}
+use Rattle.entry_set.specs.declared.stamp.Stamp.{Stamp}
+use Rattle.entry_set.specs.Fields.{secondaryCount, validLength, dataLength, clustersFor}
+use Rattle.entry_set.specs.Put.{refreshed}
+use Rattle.directory.specs.Directory.{directoryCause}
+use Rattle.write_dir.specs.Open.{fileRecord, fileCause}
+use Rattle.file.specs.Outcome.{Outcome, carried}
+
+-- the entries of set s
+unfoldable pub entriesOf : List ℕ → ℕ
+entriesOf s = 1 + secondaryCount s
+
+-- set s with stream b, both lengths, the stamp, attribute 0x20 and the checksum
+unfoldable pub recorded : List ℕ → Allocation → ℕ → ℕ → Stamp → List ℕ
+recorded s b valid len t = refreshed s (entriesOf s) (b .first) (b .«no_fat_chain») valid len t
+
+-- and stored at a slot of the directory whose clusters are ks
+unfoldable pub stored : Layout → List ℕ → List ℕ → ℕ → List ℕ → Allocation → ℕ → ℕ → Stamp → List ℕ
+stored y d ks slot s b valid len t =
+    storeAt y d ks (32 * slot) (take (32 * entriesOf s) (recorded s b valid len t))
+
+-- the entry of the file of set s refreshed, and nothing else
+unfoldable pub refreshedOnly : Layout → List ℕ → Allocation → ℕ → List ℕ → Stamp → ℕ → Outcome
+refreshedOnly y d a slot s t hint =
+    carried 0 hint (stored y d (clustersIn y d a) slot s (fileRecord y d s) (validLength s) (dataLength s) t)
+
+-- the clusters that stream b must add for a length
+unfoldable pub missing : Layout → Allocation → ℕ → ℕ
+missing y b len = clustersFor (y .size) len - b .count
+
+-- 7: they are more than the usable ones
+unfoldable pub lengthCause : Layout → List ℕ → List ℕ → Allocation → ℕ → ℕ
+lengthCause y d m b len = spaceCause (missing y b len) (count (isUsable y d m) 2 (y .count))
+
+-- the place that is known in stream a, grown from stream b: b's last cluster, or a's first one where b is empty
+unfoldable pub knownPlace : Allocation → Allocation → Place
+knownPlace b a =
+    cond (eqb (b .count) 0) (record { cluster = a .first; steps = 0 }) (record { cluster = b .last; steps = b .count - 1 })
+
+-- what refuses any call on the file at a slot of directory a, in this order: the hint, the directory's, 10, 11, the stream's
+unfoldable pub openCause : Layout → List ℕ → List ℕ → Allocation → ℕ → ℕ → ℕ
+openCause y d m a slot hint = firstCause (heapCause (y .count) hint ∷ directoryCause y d a ∷ fileCause y d m a slot ∷ [])

@@ -1,0 +1,135 @@
+// The entry set of a file stored anew, and the clusters that a new length needs.
+ghost use mathlib.Core.Path.{_≡_};
+ghost use mathlib.Core.Bool.{true};
+ghost use Prim.Native.Nat.{_+_, _-_, _*_, _≤_, _<_};
+ghost use lib.ListN.{length, take, replicate};
+ghost use Rattle.boot.specs.Layout.{Laid, Apart, inHeap};
+ghost use Rattle.stream.specs.Stream.{numberOf, streamOf, clustersIn};
+ghost use Rattle.stream.specs.Bytes.{storeAt, Known};
+ghost use Rattle.write_extend.specs.Extend.{extendIn};
+ghost use Rattle.write_dir.specs.Place.{spotClusters, Reaches};
+ghost use Rattle.write_dir.specs.Open.{fileRecord};
+ghost use Rattle.file.specs.Refresh.{entriesOf, recorded, missing, lengthCause, knownPlace, refreshedOnly};
+ghost use Rattle.file.specs.Opens.{Stands};
+use crate::answer::FileAnswer;
+use boot::layout::Layout;
+use entry_set::stamp::Stamp;
+use stream::allocation::Allocation;
+use stream::bytes::Place;
+use write_alloc::answer::Answer;
+use write_dir::place::Spot;
+
+// The entries of a set.
+pub fn entries_of(set: &[u8; 608]) -> usize
+    ensures { λ r. ⌜ (r ≡ entriesOf (now (set .entry))) × (r ≤ 256) ⌝ }
+{
+    1 + entry_set::entry::secondary_count(set)
+}
+
+// What refuses a length: more clusters are missing than are usable. They are searched only where some are missing.
+pub fn length_cause(vol: &[u8], map: &[u8], y: Layout, b: Allocation, len: u64) -> u32
+    requires { ⌜ Laid y × ((length (now vol) ≡ y .len) × (y .count ≤ 8 * length (now map))) ⌝ }
+    ensures { λ r. ⌜ r ≡ lengthCause y (now (vol .entry)) (now (map .entry)) b len ⌝ }
+{
+    let needed = entry_set::entry::clusters_for(y.size, len);
+    let there = b.count as u64;
+    if needed <= there {
+        return 0;
+    }
+    if choice::choice::enough(vol, map, y, needed - there) {
+        return 0;
+    }
+    7
+}
+
+// The clusters that a stream must add for a length.
+pub fn missing(y: Layout, b: Allocation, len: u64) -> u32
+    requires { ⌜ Laid y × (missing y b len ≤ 32768) ⌝ }
+    ensures { λ r. ⌜ r ≡ missing y b len ⌝ }
+{
+    let needed = entry_set::entry::clusters_for(y.size, len);
+    let there = b.count as u64;
+    if needed <= there {
+        return 0;
+    }
+    (needed - there) as u32
+}
+
+// Fills a stream with zeros from one byte up to another; nothing where that is not above it (Rust: `zero_range`).
+pub fn zero_range(vol: &mut [u8], y: Layout, b: Allocation, known: Place, from: u64, to: u64)
+    requires { ⌜ Laid y × ((length (now vol) ≡ y .len) × (Apart y × ((numberOf (streamOf y (now vol) b) ≡ 0) × ((to ≤ b .count * y .size) × Known y (now vol) b known)))) ⌝ }
+    ensures { λ _. ⌜ now (vol .exit) ≡ storeAt y (now (vol .entry)) (clustersIn y (now (vol .entry)) b) from (replicate (to - from) 0) ⌝ }
+{
+    if from < to {
+        stream::bytes::fill(vol, y, b, known, from as usize, (to - from) as usize);
+    }
+}
+
+// The place that is known in stream a, grown from stream b: b's last cluster, or a's first one where b is empty.
+pub fn known_place(b: Allocation, a: Allocation) -> Place
+    ensures { λ r. ⌜ r ≡ knownPlace b a ⌝ }
+{
+    if b.count == 0 {
+        return Place {
+            cluster: a.first,
+            steps: 0,
+        };
+    }
+    Place {
+        cluster: b.last,
+        steps: b.count - 1,
+    }
+}
+
+// Adds the clusters that a stream misses for a length; then it reads, holds the length, and has the known place.
+pub fn grow_to(vol: &mut [u8], map: &[u8], y: Layout, b: Allocation, len: u64, hint: u32) -> Answer
+    requires { ⌜ Laid y × ((length (now vol) ≡ y .len) × ((y .count ≤ 8 * length (now map)) × (Apart y × ((inHeap (y .count) hint ≡ true) × ((numberOf (streamOf y (now vol) b) ≡ 0) × (lengthCause y (now vol) (now map) b len ≡ 0)))))) ⌝ }
+    ensures { λ r. ⌜ (r ≡ extendIn y (now (vol .entry)) (now (map .entry)) b (missing y b len) hint .answer) × ((now (vol .exit) ≡ extendIn y (now (vol .entry)) (now (map .entry)) b (missing y b len) hint .volume) × ((numberOf (streamOf y (now (vol .exit)) (r .allocation)) ≡ 0) × ((len ≤ r .allocation .count * y .size) × Known y (now (vol .exit)) (r .allocation) (knownPlace b (r .allocation))))) ⌝ }
+{
+    let n = missing(y, b, len);
+    write_extend::extend::grow_in(vol, map, y, b, n, hint)
+}
+
+// Stores a set anew: its stream, both lengths, the stamp, the Archive attribute and the checksum (Rust: `record`).
+pub fn record_set(
+    vol: &mut [u8],
+    y: Layout,
+    spot: Spot,
+    set: [u8; 608],
+    b: Allocation,
+    valid: u64,
+    len: u64,
+    t: Stamp,
+)
+    requires { ⌜ Laid y × ((length (now vol) ≡ y .len) × Reaches y spot (entriesOf set)) ⌝ }
+    ensures { λ _. ⌜ now (vol .exit) ≡ storeAt y (now (vol .entry)) (spotClusters spot) (spot .at) (take (32 * entriesOf set) (recorded set b valid len t)) ⌝ }
+{
+    let n = entries_of(&set);
+    let out = entry_set::set::refreshed(set, n, b.first, b.no_fat_chain, valid, len, t);
+    write_dir::place::write_set(vol, y, spot, &out, n);
+}
+
+// Refreshes the entry of a file, and nothing else.
+pub fn refresh_only(
+    vol: &mut [u8],
+    y: Layout,
+    dir: Allocation,
+    slot: u32,
+    set: [u8; 608],
+    b: Allocation,
+    t: Stamp,
+    hint: u32,
+) -> FileAnswer
+    requires { ⌜ Laid y × ((length (now vol) ≡ y .len) × (Stands y (now vol) dir slot (entriesOf set) × (b ≡ fileRecord y (now vol) set))) ⌝ }
+    ensures { λ r. ⌜ (r ≡ refreshedOnly y (now (vol .entry)) dir slot set t hint .answer) × (now (vol .exit) ≡ refreshedOnly y (now (vol .entry)) dir slot set t hint .volume) ⌝ }
+{
+    let spot = write_dir::place::locate(vol, y, dir, slot);
+    let valid = entry_set::entry::valid_length(&set);
+    let len = entry_set::entry::data_length(&set);
+    record_set(vol, y, spot, set, b, valid, len, t);
+    FileAnswer {
+        number: 0,
+        slot: 0,
+        hint: hint,
+    }
+}
