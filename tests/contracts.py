@@ -16,7 +16,6 @@ sys.dont_write_bytecode = True
 import verdict  # noqa: E402, beside this file
 
 # Each public call, and the definition that its promise cites for the result and for each `&mut`; where they differ, for each by name.
-# `claim` is what the promise says besides: a definition, and the definitions of the hypotheses that it may stand under.
 PUBLIC_CALLS = {
     "boot::geometry::validate": "boot.specs.Limits.limits",
     "metadata::free::free_clusters": "metadata.specs.Free.freeClusters",
@@ -28,12 +27,7 @@ PUBLIC_CALLS = {
     "write_file::write::write_into": "write_file.specs.Write.writeInto",
     "write_length::set_length::set_length": "write_length.specs.SetLength.setLength",
     "write_remove::remove::remove": "write_remove.specs.Remove.remove",
-    "replay::replay::replay": {
-        "result": "replay.specs.Replay.replay",
-        "vol": "replay.specs.Replay.replay",
-        "words": "replay.specs.Replay.replay",
-        "claim": ("write.specs.Demand.Demand", ["write.specs.Consistent.Consistent", "replay.specs.Replay.callsOf"]),
-    },
+    "carry_out::carry_out::carry_out": "write.specs.Calls.step",
 }
 
 # Each function that is exported to C, and the public call that it makes: it cites the same definitions.
@@ -152,13 +146,13 @@ def parted(term, sign):
 
 
 def claims_of(term):
-    """What a promise claims: its parts, each an equation (left, right), a claim under hypotheses, or something else."""
+    """What a promise claims: its parts, each an equation (left, right), or something else, as what stands under hypotheses."""
     while isinstance(term, list) and len(term) == 1:
         term = term[0]
     if isinstance(term, str):
         return [("fact", term)]
     if len(parted(term, "→")) > 1:
-        return [("under", parted(term, "→"))]
+        return [("fact", term)]
     if len(parted(term, "×")) > 1:
         return [c for part in parted(term, "×") for c in claims_of(part)]
     sides = parted(term, "≡")
@@ -291,17 +285,6 @@ def cite_faults(head, claims, result, lent, names, uses, cited):
                     if path and path[0] == thing:
                         sides.append(other)
         cites(thing, sides)
-    if not isinstance(cited, str) and "claim" in cited:
-        full, allowed = cited["claim"]
-        for claim in claims:
-            if claim[0] == "under":
-                heads = [words_of(part)[0] for part in claim[1]]
-                binders = [len(part) == 1 and isinstance(part[0], list) and ":" in part[0] for part in claim[1]]
-                under = [uses.get(h) for h, b in zip(heads[:-1], binders) if not b]
-                if uses.get(heads[-1]) == full and all(u in allowed for u in under):
-                    break
-        else:
-            faults.append("does not promise `%s` under no more than %s" % (full, ", ".join(allowed)))
     return faults
 
 
@@ -369,8 +352,8 @@ def text_faults(path, text, structs, calls):
 
 # ---- contracts that are wrong on purpose: what each must be reported for
 
-USES = "ghost use Rattle.c.specs.D.{right, Claim, Given};\nghost use Rattle.c.specs.E.{other};\npub struct Pair {\n    pub a: u32,\n    pub b: u32,\n}\n"
-CALLS = {"c::f": "c.specs.D.right", "c::g": {"result": "c.specs.D.right", "claim": ("c.specs.D.Claim", ["c.specs.D.Given"])}}
+USES = "ghost use Rattle.c.specs.D.{right};\nghost use Rattle.c.specs.E.{other};\npub struct Pair {\n    pub a: u32,\n    pub b: u32,\n}\n"
+CALLS = {"c::f": "c.specs.D.right"}
 BAD = [
     ("fn h(x: u32) -> u32 ensures { λ r. ⌜ r ≡ r ⌝ } {", "same text on both sides"),
     ("fn h(x: u32) -> u32 ensures { λ r. ⌜ (r ≡ right x) × ((right (x)) ≡ (right x)) ⌝ } {", "same text on both sides"),
@@ -389,14 +372,11 @@ BAD = [
     ("pub fn f(v: &mut [u8]) -> u32 ensures { λ r. ⌜ (r ≡ right (now (v .entry))) × (now (v .exit) ≡ now (v .entry)) ⌝ } {", "for `v`"),
     ("pub fn f(x: u32) -> u32 requires { ⌜ x ≤ 1 ⌝ } ensures { λ r. ⌜ r ≡ right x ⌝ } {", "has a `requires`"),
     ("fn f(x: u32) -> u32 ensures { λ r. ⌜ r ≡ right x ⌝ } {", "is not `pub`"),
-    ("pub fn g(x: u32) -> u32 ensures { λ r. ⌜ r ≡ right x ⌝ } {", "does not promise `c.specs.D.Claim`"),
-    ("pub fn g(x: u32) -> u32 ensures { λ r. ⌜ (r ≡ right x) × (other x → Claim x) ⌝ } {", "does not promise `c.specs.D.Claim`"),
     ('pub extern "C" fn e(x: u32) -> u32 ensures { λ r. ⌜ r ≡ right x ⌝ } {', "no public call for it"),
 ]
 GOOD = [
     "fn h(x: u32) -> Pair ensures { λ r. ⌜ (other x (r .a) ≡ r .b) × (r .a ≡ right x) ⌝ } {",
     "pub fn f(v: &mut [u8]) -> u32 ensures { λ r. ⌜ (let o = right (now (v .entry)) in (r ≡ o .a) × (now (v .exit) ≡ o .b)) ⌝ } {",
-    "pub fn g(x: u32) -> u32 ensures { λ r. ⌜ (r ≡ right x) × (Given x → (y : T) → Claim x) ⌝ } {",
 ]
 
 

@@ -55,7 +55,7 @@ def sample():
 
 
 def public():
-    """The calls of 01 that are public, replay not among them, and nor is `validate`, which none of 01's calls is."""
+    """The calls of 01 that are public, without `carry_out`, which makes four of them, and `validate`, which none of 01's calls is."""
     return (len(contracts.EXPORTED),)
 
 
@@ -69,7 +69,7 @@ HERE = [
     ("docs/DIFFERENCES.md", r"([\d,]+) calls of all (nine) kinds", compared),
     ("docs/CERTIFICATE.md", r"(\d+) more are kept", lambda: sample()[:1]),
     ("docs/DIFFERENCES.md", r"kept in tests/sample: (\d+) calls on (\d+) volumes", sample),
-    ("docs/ARCHITECTURE.md", r"There are (\w+), and `[\w:]*replay`", public),
+    ("docs/ARCHITECTURE.md", r"There are (\w+), and `[\w:]*carry_out`", public),
 ]
 
 # document, pattern, what the test prints, and what a test that is left out says of itself

@@ -1,3 +1,0 @@
-pub mod ParseLaws
-pub mod ReplayLaws
-pub mod ReplayExample
