@@ -4,7 +4,7 @@ ghost use Rattle.write.specs.Calls.{step};
 ghost use Rattle.carry_out.specs.CallOf.{callOf};
 use boot::geometry::Geometry;
 use entry_set::stamp::Stamps;
-use write_dir::answer::FileAnswer;
+use file::answer::FileAnswer;
 
 // The four calls that change files.
 pub enum Kind {

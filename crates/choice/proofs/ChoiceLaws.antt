@@ -100,8 +100,8 @@ module _ (u : ℕ → Bool) where
         → Lowest u (C + 2) n start k ⊎ ((runFrom u (C + 2) n start ≡ Nothing) × Lowest u (C + 2) n 2 k)
     choose-run k =
         choose-case (λ c. c ≡ Run k → Lowest u (C + 2) n start k ⊎ ((runFrom u (C + 2) n start ≡ Nothing) × Lowest u (C + 2) n 2 k))
-        (λ j e q. let r : j ≡ k = cc in inl (subst (Lowest u (C + 2) n start) r (run-at (C + 2) n start j e)))
-        (λ j e g q. let r : j ≡ k = cc in inr (e, subst (Lowest u (C + 2) n 2) r (run-at (C + 2) n 2 j g)))
+        (λ j e q. let r : j ≡ k = cc in inl (subst (Lowest u (C + 2) n start) r (run-at u (C + 2) n start j e)))
+        (λ j e g q. let r : j ≡ k = cc in inr (e, subst (Lowest u (C + 2) n 2) r (run-at u (C + 2) n 2 j g)))
         (λ e g h q. clash (cc)) (λ e g h q. clash (cc))
 
     -- n usable clusters in a row are n usable clusters
@@ -130,8 +130,8 @@ module _ (u : ℕ → Bool) where
       pub count-few : count u 2 C < n → choose u C n start ≡ TooFew
       count-few h =
           choose-case (λ c. c ≡ TooFew)
-          (λ k e. let w = run-at (C + 2) n start k e in absurd (omega (arith, run-count k (omega (arith, w .after)) (w .inside) (w .whole))))
-          (λ k e g. let w = run-at (C + 2) n 2 k g in absurd (omega (arith, run-count k (w .after) (w .inside) (w .whole))))
+          (λ k e. let w = run-at u (C + 2) n start k e in absurd (omega (arith, run-count k (omega (arith, w .after)) (w .inside) (w .whole))))
+          (λ k e g. let w = run-at u (C + 2) n 2 k g in absurd (omega (arith, run-count k (w .after) (w .inside) (w .whole))))
           (λ e g b. refl)
           (λ e g b. absurd (omega arith))
 
@@ -205,8 +205,8 @@ module _ (u u′ : ℕ → Bool) where
     unfolding choose
     choose-cong =
         rw (
-          run-cong (C + 2) n start (λ k a b. same k (heap-in C k (omega arith) b)),
-          run-cong (C + 2) n 2 (λ k a b. same k (heap-in C k a b)),
+          run-cong u u′ (C + 2) n start (λ k a b. same k (heap-in C k (omega arith) b)),
+          run-cong u u′ (C + 2) n 2 (λ k a b. same k (heap-in C k a b)),
           count-cong u u′ 2 C (λ k a b. same k (heap-in C k a (omega arith))),
         ) refl
 

@@ -7,6 +7,7 @@ use lib.ListN.{take, getD}
 use Rattle.tables.specs.Count.{count, keep}
 use Rattle.search.specs.declared.found.Found.{Found}
 use Rattle.search.specs.declared.found.Found.the-variants.{At, Nothing}
+use Rattle.search.specs.Search.{runFrom}
 use Rattle.choice.specs.declared.choice.Choice.{Choice}
 use Rattle.choice.specs.declared.choice.Choice.the-variants.{Run, Scattered, TooFew}
 

@@ -6,4 +6,4 @@ pub mod BytesSteps
 pub mod BytesLaws
 pub mod RowLaws
 pub mod KeepLaws
-pub mod RunSystem
+pub mod SystemLaws

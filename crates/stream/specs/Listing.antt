@@ -11,7 +11,7 @@ use Rattle.boot.specs.Layout.{layoutOf}
 use Rattle.boot.specs.Causes.{firstCause, limitsCause}
 use Rattle.stream.specs.declared.allocation.Allocation.{Allocation}
 use Rattle.stream.specs.Chain.{refused}
-use Rattle.stream.specs.Stream.{numberOf, streamOf}
+use Rattle.stream.specs.Stream.{numberOf, clustersOf, streamOf}
 
 -- 14: the list is shorter than the stream's count
 unfoldable pub roomCause : Allocation → ℕ → ℕ

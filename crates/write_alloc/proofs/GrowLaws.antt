@@ -19,7 +19,7 @@ use Rattle.metadata.specs.Fat.{END, fatEntry, setFat}
 use Rattle.metadata.specs.Marks.{marked, freeCount}
 use Rattle.metadata.specs.Usable.{isUsable}
 use Rattle.metadata.specs.Cluster.{clusterByte}
-use Rattle.metadata.proofs.Frame.{Fits, fits-kept, length-fat, fat-fat-same, fat-fat-other, mark-fat, cluster-fat}
+use Rattle.metadata.proofs.Frame.{small, Fits, fits-kept, length-fat, fat-fat-same, fat-fat-other, mark-fat, cluster-fat}
 use Rattle.metadata.proofs.View.{plain}
 use Rattle.metadata.proofs.Counting.{markedCount, free-is-unmarked, fat-counts, usable-facts, usable-free, usableCount}
 use Rattle.stream.specs.declared.allocation.Allocation.{Allocation}

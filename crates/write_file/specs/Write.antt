@@ -19,7 +19,7 @@ use Rattle.directory.specs.Directory.{rootRecord}
 use Rattle.stream.specs.Stream.{clustersIn}
 use Rattle.file.specs.Outcome.{Outcome, refuse, carried}
 use Rattle.write_dir.specs.Open.{fileRecord, setIn}
-use Rattle.file.specs.Refresh.{stored, missing, lengthCause, openCause}
+use Rattle.file.specs.Refresh.{stored, refreshedOnly, missing, lengthCause, openCause}
 
 -- the larger of two numbers
 unfoldable pub larger : ℕ → ℕ → ℕ

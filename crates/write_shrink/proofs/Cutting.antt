@@ -15,7 +15,7 @@ use Rattle.tables.proofs.Cases.{cond-case}
 use Rattle.tables.proofs.ListLaws.{mem-left, mem-right, every-mem, mem-every, last-in}
 use Rattle.boot.specs.declared.geometry.Geometry.{Geometry}
 use Rattle.boot.specs.declared.layout.Layout.{Layout}
-use Rattle.boot.specs.Limits.{inMap, limits}
+use Rattle.boot.specs.Limits.{limits}
 use Rattle.boot.specs.Layout.{Laid, Apart, inHeap, layoutOf}
 use Rattle.boot.specs.Causes.{firstCause, heapCause}
 use Rattle.boot.proofs.CauseLaws.{cause-skip, cause-met, cause-last, heap-met, heap-kept}
@@ -105,24 +105,6 @@ module _ (fat : ℕ → ℕ) (run : Bool) where
   pub part-last : (k n : ℕ) (p : Kept) → p ≡ keptPart fat run k n → p .last ≡ lastOr 0 (along fat run k n)
   unfolding keptPart
   part-last k n p e = ap (λ (x : Kept). x .last) e
-
-  -- ---- system clusters
-
-  pub system-none : (m : List ℕ) (k n : ℕ) → n ≤ 0 → systemCause m (along fat run k n) ≡ 0
-  unfolding systemCause along every
-  system-none m k zero h = refl
-  system-none m k (suc n) h = absurd (omega arith)
-
-  pub system-hit : (m : List ℕ) (k n : ℕ) → 0 < n → inMap m k ≡ true → systemCause m (along fat run k n) ≡ 9
-  unfolding systemCause along every
-  system-hit m k zero h e = absurd (omega arith)
-  system-hit m k (suc n) h e = rw e refl
-
-  pub system-step : (m : List ℕ) (k n : ℕ) → 0 < n → inMap m k ≡ false
-      → systemCause m (along fat run k n) ≡ systemCause m (along fat run (after fat run k) (n - 1))
-  unfolding systemCause along every
-  system-step m k zero h e = absurd (omega arith)
-  system-step m k (suc n) h e = rw (e, sub-one) refl
 
 -- ---- the end of the kept part
 

@@ -5,7 +5,7 @@ use borrow.Author.Needs.{needs}
 use Rattle.primitives.proofs.ByteLaws.{past-bounds}
 use Rattle.tables.specs.Lists.{consec}
 use Rattle.stream.specs.Stream.{systemCause}
-use Rattle.stream.proofs.RunSystem.{run-none, run-hit, run-past}
+use Rattle.stream.proofs.SystemLaws.{run-none, run-hit, run-past}
 use Rattle.stream.proofs.system.run_system_cause.Statement.{statement}
 use Rattle.stream.proofs.system.run_system_cause.Tie as tie
 

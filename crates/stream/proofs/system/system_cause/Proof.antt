@@ -10,7 +10,7 @@ use Rattle.stream.specs.Along.{along}
 use Rattle.stream.proofs.StreamLaws.{along-head, along-rest, consec-along}
 use Rattle.stream.proofs.BytesSteps.{run-end}
 use Rattle.stream.specs.Stream.{systemCause}
-use Rattle.write_shrink.proofs.Cutting.{system-none, system-hit, system-step}
+use Rattle.stream.proofs.SystemLaws.{system-none, system-hit, system-step}
 use Rattle.stream.proofs.system.system_cause.Statement.{statement}
 use Rattle.stream.proofs.system.system_cause.Tie as tie
 

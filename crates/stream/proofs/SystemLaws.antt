@@ -1,6 +1,6 @@
--- System clusters of a run, looked for by the byte of the map. Assumes nothing.
+-- System clusters of a stream, and of a run, where they are looked for by the byte of the map. Assumes nothing.
 use mathlib.Core.Path.{_≡_, refl, sym, _∙_, ap₂}
-use mathlib.Core.Bool.{true, false}
+use mathlib.Core.Bool.{Bool, true, false}
 use mathlib.Core.List.{List}
 use Prim.Native.Nat.{ℕ, zero, suc, _+_, _-_, _/_, _%_, _≤_, _<_}
 use native.Mathlib.Numerals.{sub-one}
@@ -13,6 +13,7 @@ use Rattle.primitives.proofs.ByteLaws.{past-bounds, past-each}
 use Rattle.tables.specs.Lists.{every, consec}
 use Rattle.boot.specs.Limits.{inMap}
 use Rattle.stream.specs.Stream.{systemCause}
+use Rattle.stream.specs.Along.{after, along}
 
 zero-byte : (j : ℕ) → j < 8 → bitOf 0 j ≡ 0
 unfolding bitOf
@@ -56,3 +57,22 @@ module _ (m : List ℕ) where
       ∙ run-jump (next - (k + 1)) (k + 1) (left - 1) (omega arith)
       (λ j s t. clear-out j (past-each m 0 (k - 1) (left - 1) (j - 2) (omega arith) (omega arith)))
       ∙ ap₂ (λ (a c : ℕ). systemCause m (consec a c)) (omega arith) (omega arith))
+
+-- ---- along a stream
+
+module _ (fat : ℕ → ℕ) (run : Bool) where
+  pub system-none : (m : List ℕ) (k n : ℕ) → n ≤ 0 → systemCause m (along fat run k n) ≡ 0
+  unfolding systemCause along every
+  system-none m k zero h = refl
+  system-none m k (suc n) h = absurd (omega arith)
+
+  pub system-hit : (m : List ℕ) (k n : ℕ) → 0 < n → inMap m k ≡ true → systemCause m (along fat run k n) ≡ 9
+  unfolding systemCause along every
+  system-hit m k zero h e = absurd (omega arith)
+  system-hit m k (suc n) h e = rw e refl
+
+  pub system-step : (m : List ℕ) (k n : ℕ) → 0 < n → inMap m k ≡ false
+      → systemCause m (along fat run k n) ≡ systemCause m (along fat run (after fat run k) (n - 1))
+  unfolding systemCause along every
+  system-step m k zero h e = absurd (omega arith)
+  system-step m k (suc n) h e = rw (e, sub-one) refl
