@@ -1,13 +1,14 @@
 // The free count of small volumes: sectors and clusters of 512 bytes, the heap at sector 32, bitmaps in clusters 2 and 3.
 use crate::out;
-use boot::geometry::Geometry;
+use boot::geometry::GEOMETRY_WORDS;
 
 // One line: what is tried, the geometry, the volume's length, the number and the count.
-fn line(name: &[u8], vol: &[u8], map: &[u8], g: Geometry) {
+fn line(name: &[u8], vol: &[u8], map: &[u8], w: &[u32; GEOMETRY_WORDS]) {
     out::text(b"free ");
     out::text(name);
-    crate::limits::numbers(g);
+    out::numbers(w);
     out::number(vol.len() as u64);
+    let g = boot::geometry::geometry_of(w);
     let r = metadata::free::free_clusters(vol, map, g);
     out::number(r.number as u64);
     out::number(r.count as u64);
@@ -16,20 +17,8 @@ fn line(name: &[u8], vol: &[u8], map: &[u8], g: Geometry) {
 
 // A volume of FATs fats, of which the one numbered active is active, and count clusters.
 fn small(name: &[u8], vol: &[u8], map: &[u8], fats: u32, active: u32, count: u32) {
-    let g = Geometry {
-        sector_shift: 9,
-        cluster_shift: 0,
-        fat_offset: 24,
-        fat_length: 1,
-        number_of_fats: fats,
-        active_fat: active,
-        cluster_heap_offset: 32,
-        cluster_count: count,
-        root_cluster: 3,
-        bitmap_0: 2,
-        bitmap_1: 3,
-    };
-    line(name, vol, map, g);
+    let w = [9, 0, 24, 1, fats, active, 32, count, 3, 2, 3];
+    line(name, vol, map, &w);
 }
 
 // The first two bytes of the first bitmap are a and b, of the second one c and d.

@@ -1,85 +1,35 @@
 // Geometries at each limit and one past it: sectors and clusters of 512 bytes where nothing else is said.
 use crate::out;
-use boot::geometry::Geometry;
-
-// Writes the geometry's numbers, in the order of the record.
-pub fn numbers(g: Geometry) {
-    out::number(g.sector_shift as u64);
-    out::number(g.cluster_shift as u64);
-    out::number(g.fat_offset as u64);
-    out::number(g.fat_length as u64);
-    out::number(g.number_of_fats as u64);
-    out::number(g.active_fat as u64);
-    out::number(g.cluster_heap_offset as u64);
-    out::number(g.cluster_count as u64);
-    out::number(g.root_cluster as u64);
-    out::number(g.bitmap_0 as u64);
-    out::number(g.bitmap_1 as u64);
-}
+use boot::geometry::GEOMETRY_WORDS;
 
 // One line: what is tried, the geometry, the lengths of volume and map, and whether the limits hold.
-fn line(name: &[u8], g: Geometry, len: usize, map: &[u8]) {
+fn line(name: &[u8], w: &[u32; GEOMETRY_WORDS], len: usize, map: &[u8]) {
     out::text(b"limits ");
     out::text(name);
-    numbers(g);
+    out::numbers(w);
     out::number(len as u64);
     out::number(map.len() as u64);
+    let g = boot::geometry::geometry_of(w);
     out::flag(boot::geometry::validate(g, len, map));
     out::end();
 }
 
 // The shifts.
 fn shift(name: &[u8], s: u32, c: u32, fat: u32, heap: u32, len: usize) {
-    let g = Geometry {
-        sector_shift: s,
-        cluster_shift: c,
-        fat_offset: 24,
-        fat_length: fat,
-        number_of_fats: 1,
-        active_fat: 0,
-        cluster_heap_offset: heap,
-        cluster_count: 16,
-        root_cluster: 3,
-        bitmap_0: 2,
-        bitmap_1: 0,
-    };
-    line(name, g, len, b"\x03\x00");
+    let w = [s, c, 24, fat, 1, 0, heap, 16, 3, 2, 0];
+    line(name, &w, len, b"\x03\x00");
 }
 
 // The FATs and the start of the heap.
 fn fat(name: &[u8], at: u32, length: u32, fats: u32, active: u32, heap: u32) {
-    let g = Geometry {
-        sector_shift: 9,
-        cluster_shift: 0,
-        fat_offset: at,
-        fat_length: length,
-        number_of_fats: fats,
-        active_fat: active,
-        cluster_heap_offset: heap,
-        cluster_count: 16,
-        root_cluster: 3,
-        bitmap_0: 2,
-        bitmap_1: 3,
-    };
-    line(name, g, 26624, b"\x03\x00");
+    let w = [9, 0, at, length, fats, active, heap, 16, 3, 2, 3];
+    line(name, &w, 26624, b"\x03\x00");
 }
 
 // The cluster count and the volume's length, with a map.
 fn sized(name: &[u8], count: u32, fat: u32, heap: u32, len: usize, map: &[u8]) {
-    let g = Geometry {
-        sector_shift: 9,
-        cluster_shift: 0,
-        fat_offset: 24,
-        fat_length: fat,
-        number_of_fats: 1,
-        active_fat: 0,
-        cluster_heap_offset: heap,
-        cluster_count: count,
-        root_cluster: 3,
-        bitmap_0: 2,
-        bitmap_1: 0,
-    };
-    line(name, g, len, map);
+    let w = [9, 0, 24, fat, 1, 0, heap, count, 3, 2, 0];
+    line(name, &w, len, map);
 }
 
 // The same, with a map of ceil(count / 8) bytes, or all of map where that is less.
@@ -102,38 +52,14 @@ fn count(name: &[u8], clusters: u32, fat: u32, heap: u32, len: usize) {
 
 // The system map and the bitmaps.
 fn bitmap(name: &[u8], count: u32, fats: u32, a: u32, b: u32, map: &[u8]) {
-    let g = Geometry {
-        sector_shift: 9,
-        cluster_shift: 0,
-        fat_offset: 24,
-        fat_length: 1,
-        number_of_fats: fats,
-        active_fat: 0,
-        cluster_heap_offset: 32,
-        cluster_count: count,
-        root_cluster: 3,
-        bitmap_0: a,
-        bitmap_1: b,
-    };
-    line(name, g, 25088, map);
+    let w = [9, 0, 24, 1, fats, 0, 32, count, 3, a, b];
+    line(name, &w, 25088, map);
 }
 
 // Bitmaps of two clusters, with a map.
 fn wide(name: &[u8], fats: u32, a: u32, b: u32, map: &[u8]) {
-    let g = Geometry {
-        sector_shift: 9,
-        cluster_shift: 0,
-        fat_offset: 24,
-        fat_length: 33,
-        number_of_fats: fats,
-        active_fat: 0,
-        cluster_heap_offset: 90,
-        cluster_count: 4097,
-        root_cluster: 3,
-        bitmap_0: a,
-        bitmap_1: b,
-    };
-    line(name, g, 2143744, map);
+    let w = [9, 0, 24, 33, fats, 0, 90, 4097, 3, a, b];
+    line(name, &w, 2143744, map);
 }
 
 // The same, one bitmap from a, with three bytes of the map given and the others 0.
@@ -153,20 +79,8 @@ fn every(name: &[u8], fats: u32, a: u32, b: u32) {
 
 // The root cluster is no part of the limits.
 fn root(name: &[u8], cluster: u32) {
-    let g = Geometry {
-        sector_shift: 9,
-        cluster_shift: 0,
-        fat_offset: 24,
-        fat_length: 1,
-        number_of_fats: 1,
-        active_fat: 0,
-        cluster_heap_offset: 32,
-        cluster_count: 16,
-        root_cluster: cluster,
-        bitmap_0: 2,
-        bitmap_1: 0,
-    };
-    line(name, g, 24576, b"\x03\x00");
+    let w = [9, 0, 24, 1, 1, 0, 32, 16, cluster, 2, 0];
+    line(name, &w, 24576, b"\x03\x00");
 }
 
 fn shifts() {

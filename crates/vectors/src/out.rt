@@ -12,6 +12,20 @@ pub fn number(n: u64) {
     io::print_decimal(STDOUT_FILENO, n);
 }
 
+// Writes a space and a number of 32 bits.
+fn short(n: u32) {
+    number(n as u64);
+}
+
+// Writes a space and a number, for each of s.
+pub fn numbers(s: &[u32]) {
+    let mut i = 0;
+    while i < s.len() {
+        short(s[i]);
+        i += 1;
+    }
+}
+
 // Writes a space and a word of 2, 4 or 8 bytes in that many pairs of digits.
 pub fn word(n: u64, digits: usize) {
     text(b" ");
