@@ -4,7 +4,6 @@ use mathlib.Core.List.{List, [], _∷_}
 use Prim.Native.Nat.{ℕ}
 use lib.Dec.{eqb}
 use lib.ListN.{getD}
-use Rattle.boot.specs.declared.geometry.Geometry.{Geometry}
 use Rattle.stream.specs.declared.allocation.Allocation.{Allocation}
 use Rattle.write_alloc.specs.declared.answer.Answer.{Answer}
 use Rattle.file.specs.declared.answer.FileAnswer.{FileAnswer}
@@ -16,23 +15,6 @@ flagOf w = not (eqb w 0)
 -- and back: 0 or 1
 unfoldable pub flagWord : Bool → ℕ
 flagWord b = cond b 1 0
-
--- the 11 words of a geometry, in the order of the struct
-unfoldable pub geometryOf : List ℕ → Geometry
-geometryOf ws =
-    record {
-      «sector_shift» = getD ws 0 0;
-      «cluster_shift» = getD ws 1 0;
-      «fat_offset» = getD ws 2 0;
-      «fat_length» = getD ws 3 0;
-      «number_of_fats» = getD ws 4 0;
-      «active_fat» = getD ws 5 0;
-      «cluster_heap_offset» = getD ws 6 0;
-      «cluster_count» = getD ws 7 0;
-      «root_cluster» = getD ws 8 0;
-      «bitmap_0» = getD ws 9 0;
-      «bitmap_1» = getD ws 10 0;
-    }
 
 -- the 4 words of a record: first, last, count, no_fat_chain
 unfoldable pub allocationOf : List ℕ → Allocation

@@ -4,6 +4,7 @@ mod words;
 
 ghost use mathlib.Core.Path.{_≡_};
 ghost use lib.ListN.{length};
+ghost use Rattle.boot.specs.Geometry.{geometryOf};
 ghost use Rattle.metadata.specs.Free.{freeClusters};
 ghost use Rattle.stream.specs.Listing.{listingNumber, listingList};
 ghost use Rattle.entry_set.specs.Stamps.{stampAt, stampsAt};
@@ -14,19 +15,20 @@ ghost use Rattle.write_file.specs.NewFile.{newFile};
 ghost use Rattle.write_file.specs.Write.{writeInto};
 ghost use Rattle.write_length.specs.SetLength.{setLength};
 ghost use Rattle.write_remove.specs.Remove.{remove};
-ghost use Rattle.exfat.specs.Words.{flagOf, geometryOf, allocationOf, countWords, answerWords, slotWords, hintWords};
+ghost use Rattle.exfat.specs.Words.{flagOf, allocationOf, countWords, answerWords, slotWords, hintWords};
+use boot::geometry::GEOMETRY_WORDS;
 
 // How many clusters are free.
 #[no_mangle]
 pub extern "C" fn exfat_free_count(
     vol: &[u8],
     map: &[u8],
-    geometry: &[u32; 11],
+    geometry: &[u32; GEOMETRY_WORDS],
     out: &mut [u32; 8],
 ) -> u32
     ensures { λ r. ⌜ (let f = freeClusters (geometryOf (now (geometry .entry))) (now (vol .entry)) (now (map .entry)) in (r ≡ f .number) × (now (out .exit) ≡ countWords (f .count))) ⌝ }
 {
-    let g = words::geometry_of(geometry);
+    let g = boot::geometry::geometry_of(geometry);
     let r = metadata::free::free_clusters(vol, map, g);
     words::put_count(out, r)
 }
@@ -36,13 +38,13 @@ pub extern "C" fn exfat_free_count(
 pub extern "C" fn exfat_clusters(
     vol: &[u8],
     map: &[u8],
-    geometry: &[u32; 11],
+    geometry: &[u32; GEOMETRY_WORDS],
     allocation: &[u32; 4],
     list: &mut [u32],
 ) -> u32
     ensures { λ r. ⌜ (r ≡ listingNumber (geometryOf (now (geometry .entry))) (now (vol .entry)) (now (map .entry)) (allocationOf (now (allocation .entry))) (length (now (list .entry)))) × (now (list .exit) ≡ listingList (geometryOf (now (geometry .entry))) (now (vol .entry)) (now (map .entry)) (allocationOf (now (allocation .entry))) (now (list .entry))) ⌝ }
 {
-    let g = words::geometry_of(geometry);
+    let g = boot::geometry::geometry_of(geometry);
     let a = words::allocation_of(allocation);
     stream::list::clusters(vol, map, g, a, list)
 }
@@ -52,7 +54,7 @@ pub extern "C" fn exfat_clusters(
 pub extern "C" fn exfat_allocate(
     vol: &mut [u8],
     map: &[u8],
-    geometry: &[u32; 11],
+    geometry: &[u32; GEOMETRY_WORDS],
     count: u32,
     has_near: u32,
     near: u32,
@@ -61,7 +63,7 @@ pub extern "C" fn exfat_allocate(
 ) -> u32
     ensures { λ r. ⌜ (let o = allocateClusters (geometryOf (now (geometry .entry))) (now (vol .entry)) (now (map .entry)) count (flagOf «has_near») near hint in (r ≡ o .answer .number) × ((now (vol .exit) ≡ o .volume) × (now (out .exit) ≡ answerWords (o .answer)))) ⌝ }
 {
-    let g = words::geometry_of(geometry);
+    let g = boot::geometry::geometry_of(geometry);
     let given = words::flag_of(has_near);
     let r = write_alloc::allocate::allocate_clusters(vol, map, g, count, given, near, hint);
     words::put_answer(out, r)
@@ -72,7 +74,7 @@ pub extern "C" fn exfat_allocate(
 pub extern "C" fn exfat_extend(
     vol: &mut [u8],
     map: &[u8],
-    geometry: &[u32; 11],
+    geometry: &[u32; GEOMETRY_WORDS],
     allocation: &[u32; 4],
     more: u32,
     hint: u32,
@@ -80,7 +82,7 @@ pub extern "C" fn exfat_extend(
 ) -> u32
     ensures { λ r. ⌜ (let o = extendClusters (geometryOf (now (geometry .entry))) (now (vol .entry)) (now (map .entry)) (allocationOf (now (allocation .entry))) more hint in (r ≡ o .answer .number) × ((now (vol .exit) ≡ o .volume) × (now (out .exit) ≡ answerWords (o .answer)))) ⌝ }
 {
-    let g = words::geometry_of(geometry);
+    let g = boot::geometry::geometry_of(geometry);
     let a = words::allocation_of(allocation);
     let r = write_extend::extend::extend_clusters(vol, map, g, a, more, hint);
     words::put_answer(out, r)
@@ -91,7 +93,7 @@ pub extern "C" fn exfat_extend(
 pub extern "C" fn exfat_shrink(
     vol: &mut [u8],
     map: &[u8],
-    geometry: &[u32; 11],
+    geometry: &[u32; GEOMETRY_WORDS],
     allocation: &[u32; 4],
     keep: u32,
     hint: u32,
@@ -99,7 +101,7 @@ pub extern "C" fn exfat_shrink(
 ) -> u32
     ensures { λ r. ⌜ (let o = shrinkClusters (geometryOf (now (geometry .entry))) (now (vol .entry)) (now (map .entry)) (allocationOf (now (allocation .entry))) keep hint in (r ≡ o .answer .number) × ((now (vol .exit) ≡ o .volume) × (now (out .exit) ≡ answerWords (o .answer)))) ⌝ }
 {
-    let g = words::geometry_of(geometry);
+    let g = boot::geometry::geometry_of(geometry);
     let a = words::allocation_of(allocation);
     let r = write_shrink::shrink::shrink_clusters(vol, map, g, a, keep, hint);
     words::put_answer(out, r)
@@ -110,7 +112,7 @@ pub extern "C" fn exfat_shrink(
 pub extern "C" fn exfat_new_file(
     vol: &mut [u8],
     map: &[u8],
-    geometry: &[u32; 11],
+    geometry: &[u32; GEOMETRY_WORDS],
     name: &[u16],
     attributes: u16,
     hash: u16,
@@ -120,7 +122,7 @@ pub extern "C" fn exfat_new_file(
 ) -> u32
     ensures { λ r. ⌜ (let o = newFile (geometryOf (now (geometry .entry))) (now (vol .entry)) (now (map .entry)) (now (name .entry)) attributes hash (stampsAt (now (stamps .entry)) 0) hint in (r ≡ o .answer .number) × ((now (vol .exit) ≡ o .volume) × (now (out .exit) ≡ slotWords (o .answer)))) ⌝ }
 {
-    let g = words::geometry_of(geometry);
+    let g = boot::geometry::geometry_of(geometry);
     let t = words::stamps_of(stamps);
     let r = write_file::new_file::make_in(vol, map, g, name, attributes, hash, t, hint);
     words::put_slot(out, r)
@@ -131,7 +133,7 @@ pub extern "C" fn exfat_new_file(
 pub extern "C" fn exfat_write(
     vol: &mut [u8],
     map: &[u8],
-    geometry: &[u32; 11],
+    geometry: &[u32; GEOMETRY_WORDS],
     slot: u32,
     offset: u64,
     src: &[u8],
@@ -141,7 +143,7 @@ pub extern "C" fn exfat_write(
 ) -> u32
     ensures { λ r. ⌜ (let o = writeInto (geometryOf (now (geometry .entry))) (now (vol .entry)) (now (map .entry)) slot offset (now (src .entry)) (stampAt (now (stamp .entry)) 0) hint in (r ≡ o .answer .number) × ((now (vol .exit) ≡ o .volume) × (now (out .exit) ≡ hintWords (o .answer)))) ⌝ }
 {
-    let g = words::geometry_of(geometry);
+    let g = boot::geometry::geometry_of(geometry);
     let t = words::stamp_of(stamp);
     let r = write_file::write::write_into(vol, map, g, slot, offset, src, t, hint);
     words::put_hint(out, r)
@@ -152,7 +154,7 @@ pub extern "C" fn exfat_write(
 pub extern "C" fn exfat_set_length(
     vol: &mut [u8],
     map: &[u8],
-    geometry: &[u32; 11],
+    geometry: &[u32; GEOMETRY_WORDS],
     slot: u32,
     len: u64,
     stamp: &[u8; 6],
@@ -161,7 +163,7 @@ pub extern "C" fn exfat_set_length(
 ) -> u32
     ensures { λ r. ⌜ (let o = setLength (geometryOf (now (geometry .entry))) (now (vol .entry)) (now (map .entry)) slot len (stampAt (now (stamp .entry)) 0) hint in (r ≡ o .answer .number) × ((now (vol .exit) ≡ o .volume) × (now (out .exit) ≡ hintWords (o .answer)))) ⌝ }
 {
-    let g = words::geometry_of(geometry);
+    let g = boot::geometry::geometry_of(geometry);
     let t = words::stamp_of(stamp);
     let r = write_length::set_length::set_length(vol, map, g, slot, len, t, hint);
     words::put_hint(out, r)
@@ -172,14 +174,14 @@ pub extern "C" fn exfat_set_length(
 pub extern "C" fn exfat_remove(
     vol: &mut [u8],
     map: &[u8],
-    geometry: &[u32; 11],
+    geometry: &[u32; GEOMETRY_WORDS],
     slot: u32,
     hint: u32,
     out: &mut [u32; 8],
 ) -> u32
     ensures { λ r. ⌜ (let o = remove (geometryOf (now (geometry .entry))) (now (vol .entry)) (now (map .entry)) slot hint in (r ≡ o .answer .number) × ((now (vol .exit) ≡ o .volume) × (now (out .exit) ≡ hintWords (o .answer)))) ⌝ }
 {
-    let g = words::geometry_of(geometry);
+    let g = boot::geometry::geometry_of(geometry);
     let r = write_remove::remove::remove(vol, map, g, slot, hint);
     words::put_hint(out, r)
 }

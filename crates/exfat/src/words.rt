@@ -1,8 +1,7 @@
 // Arguments and answers as words: what crosses the C boundary.
 ghost use mathlib.Core.Path.{_≡_};
 ghost use Rattle.entry_set.specs.Stamps.{stampAt, stampsAt};
-ghost use Rattle.exfat.specs.Words.{flagOf, flagWord, geometryOf, allocationOf, countWords, answerWords, slotWords, hintWords};
-use boot::geometry::Geometry;
+ghost use Rattle.exfat.specs.Words.{flagOf, flagWord, allocationOf, countWords, answerWords, slotWords, hintWords};
 use entry_set::stamp::Stamp;
 use entry_set::stamp::Stamps;
 use file::answer::FileAnswer;
@@ -25,25 +24,6 @@ fn flag_word(flag: bool) -> u32
         return 1;
     }
     0
-}
-
-// The geometry, its fields in the struct's order.
-pub fn geometry_of(w: &[u32; 11]) -> Geometry
-    ensures { λ r. ⌜ r ≡ geometryOf (now (w .entry)) ⌝ }
-{
-    Geometry {
-        sector_shift: w[0],
-        cluster_shift: w[1],
-        fat_offset: w[2],
-        fat_length: w[3],
-        number_of_fats: w[4],
-        active_fat: w[5],
-        cluster_heap_offset: w[6],
-        cluster_count: w[7],
-        root_cluster: w[8],
-        bitmap_0: w[9],
-        bitmap_1: w[10],
-    }
 }
 
 // A stream's record: first, last, count, no_fat_chain.
