@@ -5,25 +5,13 @@ use mathlib.Core.List.{List, [], _∷_, _++_}
 use Prim.Native.Nat.{ℕ, zero, suc, _+_, _-_, _/_, _%_}
 use lib.Dec.{eqb}
 use lib.ListN.{length, replicate}
+use Rattle.boot.specs.Geometry.{geometryOf}
 use Rattle.boot.specs.declared.geometry.Geometry.{Geometry}
 use Rattle.metadata.specs.Fat.{END}
 
 -- the geometry of the trials
 unfoldable pub geometry : Geometry
-geometry =
-    record {
-      «sector_shift» = 9;
-      «cluster_shift» = 0;
-      «fat_offset» = 24;
-      «fat_length» = 1;
-      «number_of_fats» = 1;
-      «active_fat» = 0;
-      «cluster_heap_offset» = 32;
-      «cluster_count» = 16;
-      «root_cluster» = 3;
-      «bitmap_0» = 2;
-      «bitmap_1» = 0;
-    }
+geometry = geometryOf (9 ∷ 0 ∷ 24 ∷ 1 ∷ 1 ∷ 0 ∷ 32 ∷ 16 ∷ 3 ∷ 2 ∷ 0 ∷ [])
 
 -- the system map: the bitmap's cluster and the root's
 unfoldable pub system : List ℕ

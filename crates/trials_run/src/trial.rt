@@ -24,19 +24,8 @@ enum Call {
 fn volume() -> Geometry
     ensures { λ r. ⌜ r ≡ geometry ⌝ }
 {
-    Geometry {
-        sector_shift: 9,
-        cluster_shift: 0,
-        fat_offset: 24,
-        fat_length: 1,
-        number_of_fats: 1,
-        active_fat: 0,
-        cluster_heap_offset: 32,
-        cluster_count: 16,
-        root_cluster: 3,
-        bitmap_0: 2,
-        bitmap_1: 0,
-    }
+    let w = [9, 0, 24, 1, 1, 0, 32, 16, 3, 2, 0];
+    boot::geometry::geometry_of(&w)
 }
 
 // A run.
