@@ -8,7 +8,8 @@
 
 static uint8_t card[16 * 1024 * 1024];  /* on a device, the mapped memory */
 static const uint8_t map[512] = {0x0F}; /* system clusters 2 to 5: allocation bitmap, up-case table, root directory */
-static const uint32_t geometry[11] = {9, 3, 24, 32, 1, 0, 56, 4089, 5, 2, 0}; /* from the boot sector; exfat.h has the order */
+/* from the boot sector; exfat.h has the order */
+static const uint32_t geometry[EXFAT_GEOMETRY_WORDS] = {9, 3, 24, 32, 1, 0, 56, 4089, 5, 2, 0};
 #define CARD card, sizeof card, map, sizeof map, geometry
 
 static const uint16_t name[8] = {'M', 'E', 'L', 'T', '.', 'C', 'S', 'V'}; /* UTF-16 */
@@ -21,7 +22,7 @@ static const uint8_t stamps[18] = {0, 0x60, 0x70, 0x5D, 0, 0x80,          /* cre
 static uint32_t record(void)
 {
     static const uint8_t lines[3][10] = {"0,1712.5\n", "1,1713.1\n", "2,1711.8\n"}; /* seconds, degrees Celsius */
-    uint32_t out[8];
+    uint32_t out[EXFAT_OUT_WORDS];
     uint32_t number = exfat_new_file(CARD, name, 8, 0x20, hash, stamps, 2, out); /* 0x20: archive; 2: seek clusters from there */
     uint32_t slot = out[0], hint = out[1];
 

@@ -20,9 +20,10 @@
  *   map         The system map, only read: one bit for each cluster, laid out like the allocation bitmap, so exactly
  *               ceil(C / 8) bytes for C clusters. The clusters in it are never taken and never freed. It has to hold every
  *               bitmap; a caller will put the up-case table and the root directory in it as well.
- *   geometry    11 words: BytesPerSectorShift, SectorsPerClusterShift, FatOffset, FatLength, NumberOfFats, ActiveFat (0 or
- *               1), ClusterHeapOffset, ClusterCount, FirstClusterOfRootDirectory, first cluster of the first FAT's bitmap,
- *               first cluster of the second FAT's bitmap (not looked at with one FAT). Offsets and FatLength are in sectors.
+ *   geometry    EXFAT_GEOMETRY_WORDS words: BytesPerSectorShift, SectorsPerClusterShift, FatOffset, FatLength, NumberOfFats,
+ *               ActiveFat (0 or 1), ClusterHeapOffset, ClusterCount, FirstClusterOfRootDirectory, first cluster of the first
+ *               FAT's bitmap, first cluster of the second FAT's bitmap (not looked at with one FAT). Offsets and FatLength are
+ *               in sectors.
  *   allocation  A stream's record, 4 words: first cluster, last cluster, count of clusters, NoFatChain (0 is clear, any other
  *               value set). Set, the clusters first..last follow each other (a run) and the FAT is not looked at; clear, the FAT
  *               links them (a chain). With count 0 the stream is empty, whatever the other words say. Where a call gives a
@@ -104,8 +105,8 @@ enum exfat_number {
  * Numbers: 1.
  * out[0] is the count; refused, 0.
  */
-uint32_t exfat_free_count(const uint8_t *vol, size_t vol_len, const uint8_t *map, size_t map_len, const uint32_t geometry[11],
-                          uint32_t out[8]);
+uint32_t exfat_free_count(const uint8_t *vol, size_t vol_len, const uint8_t *map, size_t map_len,
+                          const uint32_t geometry[EXFAT_GEOMETRY_WORDS], uint32_t out[EXFAT_OUT_WORDS]);
 
 /*
  * Writes the clusters of a record, in stream order, to the front of a list; the list's further words stay.
@@ -113,8 +114,9 @@ uint32_t exfat_free_count(const uint8_t *vol, size_t vol_len, const uint8_t *map
  * Numbers: 1, 14, then the record's: for a run 5, then 2 or 6 of its earliest cluster that is wrong; for a chain 2, 3 or 4, 5, 6.
  * Refused, the whole list stays.
  */
-uint32_t exfat_clusters(const uint8_t *vol, size_t vol_len, const uint8_t *map, size_t map_len, const uint32_t geometry[11],
-                        const uint32_t allocation[4], uint32_t *list, size_t list_len);
+uint32_t exfat_clusters(const uint8_t *vol, size_t vol_len, const uint8_t *map, size_t map_len,
+                        const uint32_t geometry[EXFAT_GEOMETRY_WORDS], const uint32_t allocation[EXFAT_ALLOCATION_WORDS],
+                        uint32_t *list, size_t list_len);
 
 /*
  * Takes `count` clusters as a new stream: the lowest run of usable clusters from the start on, else the lowest of all, else
@@ -125,8 +127,9 @@ uint32_t exfat_clusters(const uint8_t *vol, size_t vol_len, const uint8_t *map, 
  * out[0..3] is the record (first, last, count, NoFatChain as 0 or 1), out[4] the new hint; refused, the empty record (four
  * zeros) and the hint as given.
  */
-uint32_t exfat_allocate(uint8_t *vol, size_t vol_len, const uint8_t *map, size_t map_len, const uint32_t geometry[11],
-                        uint32_t count, uint32_t has_near, uint32_t near, uint32_t hint, uint32_t out[8]);
+uint32_t exfat_allocate(uint8_t *vol, size_t vol_len, const uint8_t *map, size_t map_len,
+                        const uint32_t geometry[EXFAT_GEOMETRY_WORDS], uint32_t count, uint32_t has_near, uint32_t near,
+                        uint32_t hint, uint32_t out[EXFAT_OUT_WORDS]);
 
 /*
  * Adds `more` clusters to a record. A run stays one where the clusters behind it are usable; else it is linked in the FAT, and
@@ -137,8 +140,9 @@ uint32_t exfat_allocate(uint8_t *vol, size_t vol_len, const uint8_t *map, size_t
  * exfat_clusters; 7 for too few usable clusters.
  * out as for exfat_allocate; refused or with `more` 0, the record and the hint as given (NoFatChain as 0 or 1).
  */
-uint32_t exfat_extend(uint8_t *vol, size_t vol_len, const uint8_t *map, size_t map_len, const uint32_t geometry[11],
-                      const uint32_t allocation[4], uint32_t more, uint32_t hint, uint32_t out[8]);
+uint32_t exfat_extend(uint8_t *vol, size_t vol_len, const uint8_t *map, size_t map_len,
+                      const uint32_t geometry[EXFAT_GEOMETRY_WORDS], const uint32_t allocation[EXFAT_ALLOCATION_WORDS],
+                      uint32_t more, uint32_t hint, uint32_t out[EXFAT_OUT_WORDS]);
 
 /*
  * Cuts a record to its first `keep` clusters and frees the others: each gets FAT entry 0 and is unmarked. A chain whose kept
@@ -149,8 +153,9 @@ uint32_t exfat_extend(uint8_t *vol, size_t vol_len, const uint8_t *map, size_t m
  * out[0..3] is the record that is left (empty: four zeros), out[4] the hint as given; refused or with nothing to cut, the record
  * and the hint as given (NoFatChain as 0 or 1).
  */
-uint32_t exfat_shrink(uint8_t *vol, size_t vol_len, const uint8_t *map, size_t map_len, const uint32_t geometry[11],
-                      const uint32_t allocation[4], uint32_t keep, uint32_t hint, uint32_t out[8]);
+uint32_t exfat_shrink(uint8_t *vol, size_t vol_len, const uint8_t *map, size_t map_len,
+                      const uint32_t geometry[EXFAT_GEOMETRY_WORDS], const uint32_t allocation[EXFAT_ALLOCATION_WORDS],
+                      uint32_t keep, uint32_t hint, uint32_t out[EXFAT_OUT_WORDS]);
 
 /*
  * Makes an empty file in the root directory. Its entry set goes to the lowest sequence of unused entries that holds it; the root
@@ -160,9 +165,10 @@ uint32_t exfat_shrink(uint8_t *vol, size_t vol_len, const uint8_t *map, size_t m
  * Numbers: 1; 2 for the hint; the root's 2, 3, 4, 6, 9; 12; 13; 7.
  * out[0] is the slot of the new set, out[1] the hint, new where the root grew; refused, 0 and the hint as given.
  */
-uint32_t exfat_new_file(uint8_t *vol, size_t vol_len, const uint8_t *map, size_t map_len, const uint32_t geometry[11],
-                        const uint16_t *name, size_t name_len, uint16_t attributes, uint16_t hash, const uint8_t stamps[18],
-                        uint32_t hint, uint32_t out[8]);
+uint32_t exfat_new_file(uint8_t *vol, size_t vol_len, const uint8_t *map, size_t map_len,
+                        const uint32_t geometry[EXFAT_GEOMETRY_WORDS], const uint16_t *name, size_t name_len,
+                        uint16_t attributes, uint16_t hash, const uint8_t stamps[18], uint32_t hint,
+                        uint32_t out[EXFAT_OUT_WORDS]);
 
 /*
  * Writes data to a file from an offset on and makes it longer as needed. What lies between the file's valid length and the
@@ -172,9 +178,9 @@ uint32_t exfat_new_file(uint8_t *vol, size_t vol_len, const uint8_t *map, size_t
  * Numbers: 1; 2 for the hint; the root's 2, 3, 4, 6, 9; 10; 11; the file's 3 or 4, 5, 6, 9; and with data 8, then 7.
  * out[0] is the hint, new where the file got clusters; refused, the hint as given.
  */
-uint32_t exfat_write(uint8_t *vol, size_t vol_len, const uint8_t *map, size_t map_len, const uint32_t geometry[11],
-                     uint32_t slot, uint64_t offset, const uint8_t *src, size_t src_len, const uint8_t stamp[6], uint32_t hint,
-                     uint32_t out[8]);
+uint32_t exfat_write(uint8_t *vol, size_t vol_len, const uint8_t *map, size_t map_len,
+                     const uint32_t geometry[EXFAT_GEOMETRY_WORDS], uint32_t slot, uint64_t offset, const uint8_t *src,
+                     size_t src_len, const uint8_t stamp[6], uint32_t hint, uint32_t out[EXFAT_OUT_WORDS]);
 
 /*
  * Sets a file's length. Shorter, the clusters past the new end are freed, the valid length becomes at most the length, and a
@@ -186,8 +192,9 @@ uint32_t exfat_write(uint8_t *vol, size_t vol_len, const uint8_t *map, size_t ma
  * Numbers: 1; 2 for the hint; the root's 2, 3, 4, 6, 9; 10; 11; the file's 3 or 4, 5, 6, 9; 7.
  * out[0] is the hint, new where the file got clusters; refused, the hint as given.
  */
-uint32_t exfat_set_length(uint8_t *vol, size_t vol_len, const uint8_t *map, size_t map_len, const uint32_t geometry[11],
-                          uint32_t slot, uint64_t length, const uint8_t stamp[6], uint32_t hint, uint32_t out[8]);
+uint32_t exfat_set_length(uint8_t *vol, size_t vol_len, const uint8_t *map, size_t map_len,
+                          const uint32_t geometry[EXFAT_GEOMETRY_WORDS], uint32_t slot, uint64_t length, const uint8_t stamp[6],
+                          uint32_t hint, uint32_t out[EXFAT_OUT_WORDS]);
 
 /*
  * Removes a file: bit 0x80 of the type of each of its entries is cleared, every other byte of them stays; its clusters are freed
@@ -196,8 +203,9 @@ uint32_t exfat_set_length(uint8_t *vol, size_t vol_len, const uint8_t *map, size
  * Numbers: 1; 2 for the hint; the root's 2, 3, 4, 6, 9; 10; 11; the file's 3 or 4, 5, 6, 9.
  * out[0] is the hint as given.
  */
-uint32_t exfat_remove(uint8_t *vol, size_t vol_len, const uint8_t *map, size_t map_len, const uint32_t geometry[11],
-                      uint32_t slot, uint32_t hint, uint32_t out[8]);
+uint32_t exfat_remove(uint8_t *vol, size_t vol_len, const uint8_t *map, size_t map_len,
+                      const uint32_t geometry[EXFAT_GEOMETRY_WORDS], uint32_t slot, uint32_t hint,
+                      uint32_t out[EXFAT_OUT_WORDS]);
 
 #ifdef __cplusplus
 }

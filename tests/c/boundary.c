@@ -16,12 +16,12 @@
 #define MAP_BYTES (CLUSTERS / 8)
 #define END 0xFFFFFFFFu
 
-static const uint32_t geometry[11] = {9, 0, 24, 1, 1, 0, 32, CLUSTERS, 3, 2, 0};
+static const uint32_t geometry[EXFAT_GEOMETRY_WORDS] = {9, 0, 24, 1, 1, 0, 32, CLUSTERS, 3, 2, 0};
 static const uint8_t map[MAP_BYTES] = {0x03, 0x00}; /* clusters 2 and 3 */
 
 static uint8_t volume[VOLUME_BYTES];   /* what the calls get */
 static uint8_t expected[VOLUME_BYTES]; /* what they have to leave */
-static uint32_t out[8];
+static uint32_t out[EXFAT_OUT_WORDS];
 static int failed;
 
 static void check(const char *what, int holds)
@@ -33,13 +33,13 @@ static void check(const char *what, int holds)
 /* Words that no call gives, so that one which is not stored shows. */
 static void spoil_out(void)
 {
-    for (int i = 0; i < 8; i++)
+    for (int i = 0; i < EXFAT_OUT_WORDS; i++)
         out[i] = 0xDEADBEEFu;
 }
 
 static int out_is(uint32_t a, uint32_t b, uint32_t c, uint32_t d, uint32_t e)
 {
-    const uint32_t words[8] = {a, b, c, d, e, 0, 0, 0};
+    const uint32_t words[EXFAT_OUT_WORDS] = {a, b, c, d, e, 0, 0, 0};
     return memcmp(out, words, sizeof words) == 0;
 }
 
@@ -75,7 +75,7 @@ static void make_volume(uint8_t marks)
 
 static void free_count(void)
 {
-    uint32_t bad[11];
+    uint32_t bad[EXFAT_GEOMETRY_WORDS];
 
     make_volume(0x03);
     uint32_t number = exfat_free_count(volume, VOLUME_BYTES, map, MAP_BYTES, geometry, out);
@@ -90,8 +90,8 @@ static void free_count(void)
 
 static void clusters(void)
 {
-    const uint32_t run[4] = {4, 6, 3, 1};
-    const uint32_t other_flag[4] = {4, 6, 3, 0x80000000u};
+    const uint32_t run[EXFAT_ALLOCATION_WORDS] = {4, 6, 3, 1};
+    const uint32_t other_flag[EXFAT_ALLOCATION_WORDS] = {4, 6, 3, 0x80000000u};
     const uint32_t five[5] = {4, 5, 6, 77, 77};
     const uint32_t spoiled[5] = {77, 77, 77, 77, 77};
     uint32_t list[5];
@@ -129,8 +129,8 @@ static void allocate(void)
 
 static void extend(void)
 {
-    const uint32_t run[4] = {4, 6, 3, 1};
-    const uint32_t other_flag[4] = {4, 6, 3, 2};
+    const uint32_t run[EXFAT_ALLOCATION_WORDS] = {4, 6, 3, 1};
+    const uint32_t other_flag[EXFAT_ALLOCATION_WORDS] = {4, 6, 3, 2};
 
     make_volume(0x3F); /* 4..6 the run's, 7 taken */
     put_chain(expected);
@@ -145,8 +145,8 @@ static void extend(void)
 
 static void shrink(void)
 {
-    const uint32_t chain[4] = {4, 8, 4, 0};
-    const uint32_t bitmap[4] = {2, 2, 1, 1};
+    const uint32_t chain[EXFAT_ALLOCATION_WORDS] = {4, 8, 4, 0};
+    const uint32_t bitmap[EXFAT_ALLOCATION_WORDS] = {2, 2, 1, 1};
 
     make_volume(0x7F);
     put_chain(volume);
