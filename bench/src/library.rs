@@ -42,7 +42,7 @@ impl<'list> Side<'list> {
         let mut out = [0; 8];
         let given = &self.list.volume;
         let setting = Setting {
-            geometry: &given.geometry,
+            geometry: &given.words,
             map: &given.map,
         };
         let hint = self.hint;

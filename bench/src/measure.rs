@@ -8,6 +8,7 @@ use crate::rust;
 #[cfg(rust_sources)]
 use crate::volume::same;
 use crate::workloads::{Limit, Workload};
+use exfat::bytes::u32_at;
 
 /// How often a workload is run. The sides take turns, so that each meets the machine in the same state.
 #[derive(Clone, Copy)]
@@ -129,12 +130,12 @@ fn run_walks(list: &List, data: &[u8], volume: &Shared) -> u64 {
 
 /// The first cluster of the file at a slot of the root's first cluster, and whether the FAT links its clusters.
 fn stream_of(list: &List, volume: &[u8], slot: u32) -> (u32, bool) {
-    let at = list.volume.cluster_at(list.volume.geometry[8]) + 32 * (slot as usize + 1);
+    let at = list.volume.cluster_at(list.volume.geometry.root_cluster) + 32 * (slot as usize + 1);
     assert_eq!(
         volume[at], 0xc0,
         "the slot lies in the root's first cluster"
     );
-    let first = u32::from_le_bytes(volume[at + 20..at + 24].try_into().expect("four bytes"));
+    let first = u32_at(volume, at + 20);
     (first, first != 0 && volume[at + 1] & 2 == 0)
 }
 

@@ -1,17 +1,21 @@
 //! Volumes of 16 MiB, written out from the specification: one FAT, sectors of 512 bytes, the bitmap from cluster 2 on, then the
 //! up-case table, then a root of one cluster.
 
+use exfat::boot::{is_mutable, seal, REGION};
+use exfat::bytes::{set_bit, FAT_END};
+use exfat::{Geometry, GeometryWords};
+
 pub const VOLUME_BYTES: usize = 16 << 20;
 const SECTOR: usize = 512;
 const FAT_OFFSET: usize = 24;
-const FAT_END: u32 = 0xffff_ffff;
 
-/// A volume, its system map and its geometry, as the library takes them.
+/// A volume, its system map and its geometry, also as the words that the library takes.
 #[derive(Clone)]
 pub struct Volume {
     pub bytes: Vec<u8>,
     pub map: Vec<u8>,
-    pub geometry: [u32; 11],
+    pub geometry: Geometry,
+    pub words: GeometryWords,
     pub cluster_size: usize,
     pub cluster_count: u32,
     /// The first byte of the FAT and of the heap.
@@ -50,11 +54,6 @@ fn put(bytes: &mut [u8], at: usize, value: &[u8]) {
     bytes[at..at + value.len()].copy_from_slice(value);
 }
 
-fn set_bit(bits: &mut [u8], cluster: u32) {
-    let index = (cluster - 2) as usize;
-    bits[index / 8] |= 1 << (index % 8);
-}
-
 /// Only a to z change, in the compressed form.
 fn upcase_table() -> Vec<u8> {
     let mut words: Vec<u16> = vec![0xffff, 0x61];
@@ -85,23 +84,23 @@ impl Volume {
         let heap = (FAT_OFFSET + fat_sectors(count)) * SECTOR;
         let bitmap_clusters = count.div_ceil(8).div_ceil(cluster_size) as u32;
         let (upcase, root) = (2 + bitmap_clusters, 3 + bitmap_clusters);
-        let geometry = [
-            9,
-            shift,
-            FAT_OFFSET as u32,
-            fat_sectors(count) as u32,
-            1,
-            0,
-            (heap / SECTOR) as u32,
-            count as u32,
-            root,
-            2,
-            0,
-        ];
+        let geometry = Geometry {
+            sector_shift: 9,
+            cluster_shift: shift,
+            fat_offset: FAT_OFFSET as u32,
+            fat_length: fat_sectors(count) as u32,
+            number_of_fats: 1,
+            cluster_heap_offset: (heap / SECTOR) as u32,
+            cluster_count: count as u32,
+            root_cluster: root,
+            bitmap_0: 2,
+            ..Geometry::default()
+        };
         let mut volume = Volume {
             bytes: vec![0; VOLUME_BYTES],
             map: vec![0; count.div_ceil(8)],
             geometry,
+            words: geometry.words(),
             cluster_size,
             cluster_count: count as u32,
             fat: FAT_OFFSET * SECTOR,
@@ -145,7 +144,7 @@ impl Volume {
 
     fn put_boot_regions(&mut self) {
         let g = self.geometry;
-        let mut region = vec![0; SECTOR * 12];
+        let mut region = vec![0; SECTOR * REGION];
         put(&mut region, 0, b"\xeb\x76\x90EXFAT   ");
         put(
             &mut region,
@@ -153,11 +152,11 @@ impl Volume {
             &((VOLUME_BYTES / SECTOR) as u64).to_le_bytes(),
         );
         for (at, word) in [
-            (80, g[2]),
-            (84, g[3]),
-            (88, g[6]),
-            (92, g[7]),
-            (96, g[8]),
+            (80, g.fat_offset),
+            (84, g.fat_length),
+            (88, g.cluster_heap_offset),
+            (92, g.cluster_count),
+            (96, g.root_cluster),
             (100, 1),
         ] {
             put(&mut region, at, &word.to_le_bytes());
@@ -165,7 +164,16 @@ impl Volume {
         put(
             &mut region,
             104,
-            &[0, 1, 0, 0, g[0] as u8, g[1] as u8, 1, 0x80],
+            &[
+                0,
+                1,
+                0,
+                0,
+                g.sector_shift as u8,
+                g.cluster_shift as u8,
+                1,
+                0x80,
+            ],
         );
         put(&mut region, 510, &[0x55, 0xaa]);
         for sector in 2..=9 {
@@ -175,17 +183,9 @@ impl Volume {
                 &0xaa55_0000u32.to_le_bytes(),
             );
         }
-        let summed = region[..SECTOR * 11].iter().copied().enumerate();
-        let checksum = sum32(
-            summed
-                .filter(|(index, _)| !is_mutable(*index))
-                .map(|(_, byte)| byte),
-        );
-        for word in region[SECTOR * 11..].chunks_exact_mut(4) {
-            word.copy_from_slice(&checksum.to_le_bytes());
-        }
+        seal(&mut region);
         put(&mut self.bytes, 0, &region);
-        put(&mut self.bytes, SECTOR * 12, &region);
+        put(&mut self.bytes, SECTOR * REGION, &region);
     }
 
     pub fn cluster_at(&self, cluster: u32) -> usize {
@@ -219,7 +219,7 @@ impl Volume {
             slot * 32 + entries.len() <= self.cluster_size,
             "the root has one cluster"
         );
-        let at = self.cluster_at(self.geometry[8]) + slot * 32;
+        let at = self.cluster_at(self.geometry.root_cluster) + slot * 32;
         put(&mut self.bytes, at, entries);
         self.slots += entries.len() / 32;
         slot as u32
@@ -269,13 +269,8 @@ impl Volume {
     }
 }
 
-/// VolumeFlags and PercentInUse of the main boot sector, which the original's mount and commit write; the boot checksum leaves
-/// them out too.
-pub fn is_mutable(index: usize) -> bool {
-    matches!(index, 106 | 107 | 112)
-}
-
-/// Whether two volumes hold the same bytes, those three apart.
+/// Whether two volumes hold the same bytes, VolumeFlags and PercentInUse of the main boot sector apart: the original's mount and
+/// commit write them.
 pub fn same(one: &[u8], other: &[u8]) -> bool {
     one.len() == other.len() && {
         let (head, rest) = one.split_at(SECTOR);

@@ -1,5 +1,12 @@
 //! The proved library: each call of include/exfat.h over slices. The only
-//! foreign functions of the repository's Rust.
+//! foreign functions of the repository's Rust. Beside them, what the tool, the
+//! oracle and the measurements read and write of a volume by themselves.
+
+pub mod boot;
+pub mod bytes;
+mod geometry;
+
+pub use geometry::{Geometry, GeometryWords, GEOMETRY_WORDS};
 
 /// A stream's record: first and last cluster, count, and NoFatChain.
 pub type Record = [u32; 4];
@@ -13,7 +20,7 @@ pub type Out = [u32; 8];
 /// Geometry and system map, which every call takes.
 #[derive(Clone, Copy)]
 pub struct Setting<'a> {
-    pub geometry: &'a [u32; 11],
+    pub geometry: &'a GeometryWords,
     pub map: &'a [u8],
 }
 
@@ -30,7 +37,7 @@ pub struct NewFile<'a> {
 macro_rules! foreign {
     ($($name:ident($volume:ty $(, $argument:ident: $kind:ty)*);)*) => {
         mod foreign {
-            use super::{Out, Record, Stamp};
+            use super::{GeometryWords, Out, Record, Stamp};
 
             extern "C" {
                 $(pub fn $name(
@@ -38,7 +45,7 @@ macro_rules! foreign {
                     vol_len: usize,
                     map: *const u8,
                     map_len: usize,
-                    geometry: *const [u32; 11]
+                    geometry: *const GeometryWords
                     $(, $argument: $kind)*
                 ) -> u32;)*
             }

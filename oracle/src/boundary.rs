@@ -2,7 +2,7 @@
 //! as it is made, so whoever runs them puts the bytes back after each.
 
 use crate::calls::{Call, Data};
-use crate::geometry::{Entry, Record, View};
+use crate::view::{Entry, Record, View};
 
 /// Zero, one short, exactly full, one over, of every measure of the heap.
 fn counts(view: View) -> Vec<u32> {

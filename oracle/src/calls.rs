@@ -2,10 +2,11 @@
 //! borders that the volume at hand has.
 
 use crate::entries;
-use crate::geometry::{Entry, Geometry, Record, Stamp, View};
 use crate::maker::{Health, Volume};
 use crate::rng::Rng;
 use crate::subject::NewFile;
+use crate::view::{Entry, Record, Stamp, View};
+use exfat::Geometry;
 
 #[derive(Clone, Debug, PartialEq, Eq)]
 pub enum Call {
@@ -321,7 +322,7 @@ impl Chooser {
                 no_fat_chain: false,
             };
         }
-        let first = g.bitmap(self.rng.below(u64::from(g.number_of_fats)) as u32);
+        let first = g.bitmap_first(self.rng.below(u64::from(g.number_of_fats)) as u32);
         Record {
             first,
             last: first + g.bitmap_clusters() - 1,

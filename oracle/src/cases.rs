@@ -5,11 +5,13 @@
 use crate::calls::{Call, Data};
 use crate::compare::{timed, Mode, Outcome, Pair};
 use crate::entries::{self, StreamFields};
-use crate::geometry::{put32, set_bit, Geometry, Record, FAT_BAD, FAT_END};
 use crate::maker::{put_boot_regions, Health, Volume};
 use crate::rng::Rng;
 use crate::sides::Theirs;
 use crate::subject::{NewFile, Subject};
+use crate::view::Record;
+use exfat::bytes::{put32, set_bit, FAT_BAD, FAT_END};
+use exfat::Geometry;
 
 /// What the original does in a case.
 #[derive(Clone, Copy, Debug, PartialEq, Eq)]
@@ -103,10 +105,10 @@ impl Bench {
         let at = self.g.cluster_offset(self.upcase);
         self.bytes[at..at + table.len()].copy_from_slice(&table);
         for fat in 0..self.g.number_of_fats {
-            let length = self.g.map_length() as u64;
+            let length = self.g.bitmap_bytes() as u64;
             self.put_set(&entries::bitmap_entry(
                 fat as u8,
-                self.g.bitmap(fat),
+                self.g.bitmap_first(fat),
                 length,
             ));
         }
@@ -115,7 +117,7 @@ impl Bench {
 
     fn mark(&mut self, cluster: u32) {
         for fat in 0..self.g.number_of_fats {
-            let at = self.g.cluster_offset(self.g.bitmap(fat));
+            let at = self.g.cluster_offset(self.g.bitmap_first(fat));
             set_bit(&mut self.bytes[at..], cluster);
         }
     }

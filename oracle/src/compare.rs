@@ -3,12 +3,13 @@
 use crate::boundary;
 use crate::calls::{Call, Chooser, Kinds, Step, KINDS};
 use crate::differences::{explain, in_inactive_bitmap, Difference};
-use crate::geometry::{clear_bit, Record, View};
 use crate::maker::{self, Health, Size, Volume};
 use crate::rng::Rng;
 use crate::sides::{call_original, call_subject, numbers, root_numbers};
 use crate::sides::{Numbers, Ours, Theirs};
 use crate::subject::Subject;
+use crate::view::{Record, View};
+use exfat::bytes::clear_bit;
 use original::{Device, Mount};
 use std::collections::BTreeMap;
 

@@ -2,9 +2,9 @@
 //! is only taken for one of these where its cause is seen in the bytes.
 
 use crate::calls::{Call, Step};
-use crate::geometry::{Record, View};
 use crate::maker::{Health, Volume};
 use crate::sides::{Ours, Theirs};
+use crate::view::{Record, View};
 use original::Error;
 
 #[derive(Clone, Copy, Debug, PartialEq, Eq, PartialOrd, Ord)]
@@ -81,8 +81,7 @@ pub fn in_inactive_bitmap(view: View, cluster: u32) -> bool {
     if g.number_of_fats != 2 {
         return false;
     }
-    let first = g.bitmap(1 - g.active_fat);
-    (first..first + g.bitmap_clusters()).contains(&cluster)
+    g.bitmap(1 - g.active_fat).contains(&cluster)
 }
 
 /// The clusters of the stream that a call is about, and how many it keeps.

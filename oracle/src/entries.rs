@@ -1,8 +1,8 @@
 //! Directory entry sets written out from the specification, for the volumes
 //! that the maker makes.
 
-use crate::geometry::Stamp;
 use crate::rng::Rng;
+use crate::view::Stamp;
 
 /// The checksum over an entry set (section 6.3.3).
 pub fn set_checksum(set: &[u8]) -> u16 {

@@ -18,8 +18,6 @@ mod differences;
 #[cfg(rust_sources)]
 mod entries;
 #[cfg(rust_sources)]
-mod geometry;
-#[cfg(rust_sources)]
 mod maker;
 #[cfg(rust_sources)]
 mod rng;
@@ -29,6 +27,8 @@ mod sample;
 mod sides;
 #[cfg(rust_sources)]
 mod subject;
+#[cfg(rust_sources)]
+mod view;
 
 #[cfg(rust_sources)]
 fn main() -> ExitCode {

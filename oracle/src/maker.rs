@@ -2,8 +2,11 @@
 //! streams, root, entries or geometry.
 
 use crate::entries::{self, StreamFields};
-use crate::geometry::{put32, set_bit, Geometry, Record, View, FAT_BAD, FAT_END};
 use crate::rng::Rng;
+use crate::view::{Record, View};
+use exfat::boot::{seal, REGION};
+use exfat::bytes::{put32, put64, set_bit, u64_at, FAT_BAD, FAT_END};
+use exfat::Geometry;
 
 pub const MAX_BYTES: usize = 16 * 1024 * 1024;
 /// The original mounts nothing smaller.
@@ -48,9 +51,9 @@ impl Volume {
             return map.clone();
         }
         let g = self.geometry;
-        let mut map = vec![0; g.map_length()];
+        let mut map = vec![0; g.bitmap_bytes()];
         if !g.cluster_count.is_multiple_of(8) {
-            map[g.map_length() - 1] = self.map_tail << (g.cluster_count % 8);
+            map[g.bitmap_bytes() - 1] = self.map_tail << (g.cluster_count % 8);
         }
         let none = vec![0; map.len()];
         let view = View {
@@ -61,8 +64,7 @@ impl Volume {
         let mut clusters = view.chain(g.root_cluster).0;
         clusters.push(self.upcase);
         for fat in 0..g.number_of_fats {
-            let first = g.bitmap(fat);
-            clusters.extend(first..first + g.bitmap_clusters());
+            clusters.extend(g.bitmap(fat));
         }
         for cluster in clusters {
             if g.in_heap(cluster) {
@@ -164,9 +166,7 @@ fn choose_geometry(rng: &mut Rng, size: Size) -> Geometry {
         active_fat: rng.below(u64::from(number_of_fats)) as u32,
         cluster_heap_offset: fat_offset + fat_length * number_of_fats + spare(rng),
         cluster_count,
-        root_cluster: 0,
-        bitmap_0: 0,
-        bitmap_1: 0,
+        ..Geometry::default()
     };
     // As many of the clusters as the largest slice holds.
     let room = (MAX_BYTES - g.cluster_offset(2)) / g.cluster_size();
@@ -566,9 +566,13 @@ impl Maker<'_> {
     /// then the end, if there is room for one.
     fn root_bytes(&mut self, capacity: usize, upcase: u32, tidy: bool) -> Vec<u8> {
         let mut needed = vec![entries::upcase_entry(upcase)];
-        let length = self.g.map_length() as u64;
+        let length = self.g.bitmap_bytes() as u64;
         for fat in 0..self.g.number_of_fats {
-            needed.push(entries::bitmap_entry(fat as u8, self.g.bitmap(fat), length));
+            needed.push(entries::bitmap_entry(
+                fat as u8,
+                self.g.bitmap_first(fat),
+                length,
+            ));
         }
         let mut items = self.file_items(tidy);
         items.extend(self.other_items());
@@ -623,7 +627,7 @@ impl Maker<'_> {
     }
 
     fn bitmap_bytes(&mut self) -> Vec<u8> {
-        let mut bytes = vec![0; self.g.map_length()];
+        let mut bytes = vec![0; self.g.bitmap_bytes()];
         for cluster in 2..self.g.end() {
             if self.marks[cluster as usize] {
                 set_bit(&mut bytes, cluster);
@@ -641,7 +645,7 @@ impl Maker<'_> {
     fn put_bitmaps(&mut self) {
         let bytes = self.bitmap_bytes();
         for fat in 0..self.g.number_of_fats {
-            let at = (self.g.bitmap(fat) - 2) as usize * self.g.cluster_size();
+            let at = (self.g.bitmap_first(fat) - 2) as usize * self.g.cluster_size();
             let stale = fat != self.g.active_fat && self.rng.percent(40);
             if !stale {
                 self.heap[at..at + bytes.len()].copy_from_slice(&bytes);
@@ -696,9 +700,9 @@ fn extra_secondary(set: &mut Vec<u8>) {
 pub fn put_boot_regions(volume: &mut [u8], g: &Geometry, serial: u32) {
     let sector = g.sector_size();
     let length = volume.len();
-    let mut region = vec![0; sector * 12];
+    let mut region = vec![0; sector * REGION];
     region[..11].copy_from_slice(b"\xeb\x76\x90EXFAT   ");
-    region[72..80].copy_from_slice(&((length / sector) as u64).to_le_bytes());
+    put64(&mut region, 72, (length / sector) as u64);
     put32(&mut region, 80, g.fat_offset);
     put32(&mut region, 84, g.fat_length);
     put32(&mut region, 88, g.cluster_heap_offset);
@@ -716,23 +720,9 @@ pub fn put_boot_regions(volume: &mut [u8], g: &Geometry, serial: u32) {
     for index in 1..9 {
         put32(&mut region, (index + 1) * sector - 4, 0xaa55_0000);
     }
-    let checksum = boot_checksum(&region[..sector * 11]);
-    for word in region[sector * 11..].chunks_exact_mut(4) {
-        word.copy_from_slice(&checksum.to_le_bytes());
-    }
-    volume[..sector * 12].copy_from_slice(&region);
-    volume[sector * 12..sector * 24].copy_from_slice(&region);
-}
-
-/// Section 3.4: the three bytes that change in use are left out.
-fn boot_checksum(sectors: &[u8]) -> u32 {
-    let mut sum = 0u32;
-    for (index, byte) in sectors.iter().enumerate() {
-        if ![106, 107, 112].contains(&index) {
-            sum = sum.rotate_right(1).wrapping_add(u32::from(*byte));
-        }
-    }
-    sum
+    seal(&mut region);
+    volume[..sector * REGION].copy_from_slice(&region);
+    volume[sector * REGION..2 * sector * REGION].copy_from_slice(&region);
 }
 
 fn volume_length(rng: &mut Rng, g: &Geometry) -> usize {
@@ -820,11 +810,12 @@ pub fn damage_root(rng: &mut Rng, volume: &mut Volume) {
         }
         3 => {
             let bit = (any - 2) as usize;
-            let byte = g.cluster_offset(g.bitmap(g.active_fat)) + bit / 8;
+            let byte = g.cluster_offset(g.bitmap_first(g.active_fat)) + bit / 8;
             volume.bytes[byte] &= !(1 << (bit % 8));
         }
         _ => {
-            let bitmap = g.bitmap(g.active_fat) + rng.below(u64::from(g.bitmap_clusters())) as u32;
+            let bitmap =
+                g.bitmap_first(g.active_fat) + rng.below(u64::from(g.bitmap_clusters())) as u32;
             put32(&mut volume.bytes, at, bitmap);
         }
     }
@@ -868,10 +859,6 @@ pub fn damage_entry(rng: &mut Rng, volume: &mut Volume) -> bool {
     true
 }
 
-fn put64(bytes: &mut [u8], at: usize, value: u64) {
-    bytes[at..at + 8].copy_from_slice(&value.to_le_bytes());
-}
-
 /// One fault in a set; all but the first leave the checksum right. True where
 /// only the original minds it.
 fn break_set(rng: &mut Rng, g: &Geometry, root: &mut [u8], start: usize, length: usize) -> bool {
@@ -898,7 +885,7 @@ fn break_set(rng: &mut Rng, g: &Geometry, root: &mut [u8], start: usize, length:
             put32(set, 52, 2);
         }
         9 => {
-            let valid = u64::from_le_bytes(set[56..64].try_into().expect("eight bytes")) + 1;
+            let valid = u64_at(set, 56) + 1;
             put64(set, 40, valid);
         }
         10 => {
@@ -966,12 +953,9 @@ pub fn damage_geometry(rng: &mut Rng, volume: &mut Volume) {
 }
 
 fn put_shift(volume: &mut [u8], sector: u32, shift: u8) {
-    let region = 12 << sector;
-    for at in [0, region] {
-        volume[at + 108] = shift;
-        let checksum = boot_checksum(&volume[at..at + (11 << sector)]);
-        for word in volume[at + (11 << sector)..at + region].chunks_exact_mut(4) {
-            word.copy_from_slice(&checksum.to_le_bytes());
-        }
+    let length = REGION << sector;
+    for region in volume[..2 * length].chunks_exact_mut(length) {
+        region[108] = shift;
+        seal(region);
     }
 }

@@ -4,11 +4,12 @@
 use crate::calls::{Call, Chooser, Data, Kinds, Step, KINDS};
 use crate::cases;
 use crate::compare::timed;
-use crate::geometry::{Geometry, Record, Stamp, View};
 use crate::maker::{self, Health, Size, Volume};
 use crate::rng::Rng;
 use crate::sides::{call_original, call_subject, numbers, root_numbers, Given, Numbers, Theirs};
 use crate::subject::{NewFile, Subject};
+use crate::view::{Record, Stamp, View};
+use exfat::{Geometry, GEOMETRY_WORDS};
 use original::{Device, Mount};
 use std::collections::BTreeSet;
 use std::fmt::Write as _;
@@ -561,19 +562,11 @@ impl Replay<'_> {
         let length: usize = next(words)?;
         self.volume = vec![0; length];
         self.expected = vec![0; length];
-        self.geometry = Some(Geometry {
-            sector_shift: next(words)?,
-            cluster_shift: next(words)?,
-            fat_offset: next(words)?,
-            fat_length: next(words)?,
-            number_of_fats: next(words)?,
-            active_fat: next(words)?,
-            cluster_heap_offset: next(words)?,
-            cluster_count: next(words)?,
-            root_cluster: next(words)?,
-            bitmap_0: next(words)?,
-            bitmap_1: next(words)?,
-        });
+        let mut geometry = [0; GEOMETRY_WORDS];
+        for word in &mut geometry {
+            *word = next(words)?;
+        }
+        self.geometry = Some(Geometry::of(geometry));
         Ok(())
     }
 

@@ -1,8 +1,9 @@
 //! One call made on either side, and what is told of it.
 
 use crate::calls::{Call, Step};
-use crate::geometry::{Geometry, Record};
 use crate::subject::{Lent, Subject};
+use crate::view::Record;
+use exfat::Geometry;
 use original::{Error, Mount};
 
 /// What an accepted call gives; the parts that it does not have are 0 or

@@ -1,8 +1,8 @@
 //! The library under comparison. `Subject` is what the comparison calls;
 //! `Library` is the static library behind it.
 
-use crate::geometry::{Geometry, Record, Stamp};
-use exfat::Setting;
+use crate::view::{Record, Stamp};
+use exfat::{Geometry, GeometryWords, Setting};
 
 /// A volume's bytes, its system map and its geometry, as a call gets them.
 pub struct Lent<'bytes> {
@@ -86,7 +86,7 @@ fn stamp_bytes(stamp: Stamp) -> [u8; 6] {
 const OUT: [u32; 8] = [0xdead_beef; 8];
 
 /// What a call of the library gets of a volume.
-fn setting<'a>(map: &'a [u8], geometry: &'a [u32; 11]) -> Setting<'a> {
+fn setting<'a>(map: &'a [u8], geometry: &'a GeometryWords) -> Setting<'a> {
     Setting { geometry, map }
 }
 

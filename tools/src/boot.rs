@@ -1,12 +1,10 @@
 //! The boot regions (section 3 of the standard), written and read.
 
 use crate::failure::{image, Outcome};
-use crate::geometry::{put32, put64, u32_at, u64_at, Geometry};
-
-/// Sectors of one boot region: the boot sector, eight extended ones, OEM
-/// parameters, a reserved one and the checksum.
-pub const REGION: usize = 12;
-const CHECKSUM_SECTOR: usize = 11;
+use crate::limits::over_limits;
+use exfat::boot::{checksum, seal, CHECKSUM_SECTOR, REGION};
+use exfat::bytes::{put32, put64, u32_at, u64_at};
+use exfat::Geometry;
 
 /// Lays both boot regions, the second like the first.
 pub fn write(volume: &mut [u8], g: &Geometry, serial: u32) {
@@ -33,20 +31,9 @@ pub fn write(volume: &mut [u8], g: &Geometry, serial: u32) {
     for index in 1..=8 {
         put32(&mut region, (index + 1) * sector - 4, 0xaa55_0000);
     }
-    let sum = checksum(&region[..CHECKSUM_SECTOR * sector]);
-    for word in region[CHECKSUM_SECTOR * sector..].chunks_exact_mut(4) {
-        word.copy_from_slice(&sum.to_le_bytes());
-    }
+    seal(&mut region);
     volume[..REGION * sector].copy_from_slice(&region);
     volume[REGION * sector..2 * REGION * sector].copy_from_slice(&region);
-}
-
-/// Section 3.4: VolumeFlags and PercentInUse, which change in use, are left
-/// out.
-fn checksum(sectors: &[u8]) -> u32 {
-    let kept = |(index, _): &(usize, &u8)| ![106, 107, 112].contains(index);
-    let bytes = sectors.iter().enumerate().filter(kept);
-    bytes.fold(0u32, |sum, (_, byte)| sum.rotate_right(1).wrapping_add(u32::from(*byte)))
 }
 
 /// Reads the main boot region of an image: the geometry, whose bitmaps are
@@ -78,7 +65,7 @@ pub fn read(image_bytes: &[u8]) -> Outcome<(Geometry, usize)> {
         cluster_heap_offset: u32_at(boot, 88),
         cluster_count: u32_at(boot, 92),
         root_cluster: u32_at(boot, 96),
-        bitmaps: [0, 0],
+        ..Geometry::default()
     };
     if !(9..=12).contains(&g.sector_shift) {
         return image(format!("BytesPerSectorShift {} is not in 9..12", g.sector_shift));
@@ -93,7 +80,7 @@ pub fn read(image_bytes: &[u8]) -> Outcome<(Geometry, usize)> {
         return image("the boot region's checksum is wrong");
     }
     let length = u64_at(boot, 72).saturating_mul(sector as u64);
-    if let Some(limit) = g.over_limits(length) {
+    if let Some(limit) = over_limits(&g, length) {
         return image(format!("over the limits: {limit}"));
     }
     if length > image_bytes.len() as u64 {

@@ -1,8 +1,9 @@
 //! File entry sets of a directory's bytes (sections 6 and 7), read as 01 says.
 
-use crate::geometry::{u16_at, u32_at, u64_at, Geometry};
 use crate::library::Stamp;
 use crate::text::plain;
+use exfat::bytes::{u16_at, u32_at, u64_at};
+use exfat::Geometry;
 
 pub const ENTRY: usize = 32;
 pub const IN_USE: u8 = 0x80;

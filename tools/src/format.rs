@@ -3,10 +3,10 @@
 use crate::boot;
 use crate::directory::{BITMAP, ENTRY, LABEL, UPCASE};
 use crate::failure::{usage, Failure, Outcome};
-use crate::geometry::{
-    put32, put64, set_bit, Geometry, FAT_END, MAX_BYTES, MAX_CLUSTERS, MAX_CLUSTER_SHIFT, MIN_FAT_OFFSET,
-};
+use crate::limits::{MAX_BYTES, MAX_CLUSTERS, MAX_CLUSTER_SHIFT, MIN_FAT_OFFSET};
 use crate::upcase::{self, Upcase};
+use exfat::bytes::{put32, put64, set_bit, FAT_END};
+use exfat::Geometry;
 use std::fs;
 use std::io::Write;
 use std::path::Path;
@@ -46,15 +46,15 @@ pub fn volume(wish: &Wish) -> Outcome<(Vec<u8>, Geometry)> {
             for cluster in stream.clone() {
                 let next = if cluster + 1 == stream.end { FAT_END } else { cluster + 1 };
                 put32(&mut bytes, g.fat_entry(fat, cluster), next);
-                let bitmap = g.cluster(g.bitmaps[fat as usize]).start;
+                let bitmap = g.cluster_offset(g.bitmap_first(fat));
                 set_bit(&mut bytes[bitmap..], cluster);
             }
         }
     }
-    let at = g.cluster(upcase.start).start;
+    let at = g.cluster_offset(upcase.start);
     bytes[at..at + table.len()].copy_from_slice(&table);
     let entries = root(&g, &wish.label, upcase.start, &table);
-    let at = g.cluster(g.root_cluster).start;
+    let at = g.cluster_offset(g.root_cluster);
     bytes[at..at + entries.len()].copy_from_slice(&entries);
     Ok((bytes, g))
 }
@@ -74,7 +74,7 @@ fn root(g: &Geometry, label: &[u16], upcase: u32, table: &[u8]) -> Vec<u8> {
     for fat in 0..g.number_of_fats {
         let mut entry = [0; ENTRY];
         entry[..2].copy_from_slice(&[BITMAP, fat as u8]);
-        put32(&mut entry, 20, g.bitmaps[fat as usize]);
+        put32(&mut entry, 20, g.bitmap_first(fat));
         put64(&mut entry, 24, g.bitmap_bytes() as u64);
         entries.extend(entry);
     }
@@ -117,12 +117,12 @@ fn geometry(wish: &Wish, table: u64) -> Outcome<Geometry> {
         number_of_fats: fats,
         cluster_heap_offset: heap_offset(count) as u32,
         cluster_count: count as u32,
-        bitmaps: [2, 0],
+        bitmap_0: 2,
         ..Geometry::default()
     };
     let mut next = g.bitmap(0).end;
     if fats == 2 {
-        g.bitmaps[1] = next;
+        g.bitmap_1 = next;
         next = g.bitmap(1).end;
     }
     g.root_cluster = next + g.clusters_for(table) as u32;
@@ -184,7 +184,7 @@ mod tests {
                         }
                         let (bytes, g) = made.ok().expect("a volume");
                         let (mut read, length) = boot::read(&bytes).ok().expect("a boot region");
-                        read.bitmaps = g.bitmaps;
+                        (read.bitmap_0, read.bitmap_1) = (g.bitmap_0, g.bitmap_1);
                         assert_eq!((read, length as u64), (g, size));
                     }
                 }

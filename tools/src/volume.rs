@@ -5,10 +5,12 @@ use crate::boot;
 use crate::directory::{self, File};
 use crate::failure::{image, usage, Failure, Outcome};
 use crate::files;
-use crate::geometry::{bit, set_bit, u32_at, u64_at, Geometry, FAT_BAD, FAT_END, MAX_BYTES};
 use crate::heap::ranges;
 use crate::library::{self, Allocation, Number, Setting};
+use crate::limits::MAX_BYTES;
 use crate::upcase::{self, Upcase};
+use exfat::bytes::{bit, set_bit, u32_at, u64_at, FAT_BAD, FAT_END};
+use exfat::{Geometry, GeometryWords};
 use std::fs;
 use std::io::Read;
 use std::os::unix::fs::FileExt;
@@ -18,7 +20,7 @@ const BLOCK: usize = 512;
 
 pub struct Volume {
     pub geometry: Geometry,
-    pub words: [u32; 11],
+    pub words: GeometryWords,
     pub bytes: Vec<u8>,
     /// The system map: every bitmap, the up-case table and the root.
     pub map: Vec<u8>,
@@ -96,7 +98,10 @@ impl Volume {
             if !self.geometry.heap().contains(&first) {
                 return image(format!("the allocation bitmap of FAT {fat} is not in the heap"));
             }
-            self.geometry.bitmaps[fat as usize] = first;
+            match fat {
+                0 => self.geometry.bitmap_0 = first,
+                _ => self.geometry.bitmap_1 = first,
+            }
             let clusters = self.geometry.bitmap(fat);
             if clusters.end > self.geometry.heap().end {
                 return image(format!("the allocation bitmap of FAT {fat} goes past the heap"));
@@ -185,7 +190,7 @@ impl Volume {
     }
 
     pub fn marked_for(&self, fat: u32, cluster: u32) -> bool {
-        let bitmap = self.geometry.cluster(self.geometry.bitmaps[fat as usize]).start;
+        let bitmap = self.geometry.cluster_offset(self.geometry.bitmap_first(fat));
         bit(&self.bytes[bitmap..], cluster)
     }
 

@@ -1,23 +1,8 @@
-//! Geometry and records as the library takes them, and a plain reading of a
-//! volume's bytes: enough to choose calls and to name a difference's cause.
+//! Records and stamps, and a plain reading of a volume's bytes: enough to
+//! choose calls and to name a difference's cause.
 
-#[derive(Clone, Copy, Debug, PartialEq, Eq)]
-pub struct Geometry {
-    pub sector_shift: u32,
-    pub cluster_shift: u32,
-    pub fat_offset: u32,
-    pub fat_length: u32,
-    pub number_of_fats: u32,
-    pub active_fat: u32,
-    pub cluster_heap_offset: u32,
-    pub cluster_count: u32,
-    pub root_cluster: u32,
-    pub bitmap_0: u32,
-    pub bitmap_1: u32,
-}
-
-pub const FAT_END: u32 = 0xffff_ffff;
-pub const FAT_BAD: u32 = 0xffff_fff7;
+use exfat::bytes::{bit, u32_at, u64_at, FAT_BAD, FAT_END};
+use exfat::Geometry;
 
 /// The clusters of a stream: `Allocation` in the original.
 #[derive(Clone, Copy, Debug, Default, PartialEq, Eq)]
@@ -30,101 +15,6 @@ pub struct Record {
 
 /// A stamp: value, 10 ms increment, UTC offset.
 pub type Stamp = (u32, u8, u8);
-
-pub fn u32_at(bytes: &[u8], at: usize) -> u32 {
-    u32::from_le_bytes(bytes[at..at + 4].try_into().expect("four bytes"))
-}
-
-pub fn u64_at(bytes: &[u8], at: usize) -> u64 {
-    u64::from_le_bytes(bytes[at..at + 8].try_into().expect("eight bytes"))
-}
-
-pub fn put32(bytes: &mut [u8], at: usize, value: u32) {
-    bytes[at..at + 4].copy_from_slice(&value.to_le_bytes());
-}
-
-impl Geometry {
-    /// In the order of the C boundary.
-    pub fn words(&self) -> [u32; 11] {
-        [
-            self.sector_shift,
-            self.cluster_shift,
-            self.fat_offset,
-            self.fat_length,
-            self.number_of_fats,
-            self.active_fat,
-            self.cluster_heap_offset,
-            self.cluster_count,
-            self.root_cluster,
-            self.bitmap_0,
-            self.bitmap_1,
-        ]
-    }
-
-    pub fn sector_size(&self) -> usize {
-        1 << self.sector_shift
-    }
-
-    pub fn cluster_size(&self) -> usize {
-        1 << (self.sector_shift + self.cluster_shift)
-    }
-
-    /// One past the last cluster.
-    pub fn end(&self) -> u32 {
-        self.cluster_count + 2
-    }
-
-    pub fn in_heap(&self, cluster: u32) -> bool {
-        (2..self.end()).contains(&cluster)
-    }
-
-    pub fn map_length(&self) -> usize {
-        (self.cluster_count as usize).div_ceil(8)
-    }
-
-    /// How many clusters a bitmap fills.
-    pub fn bitmap_clusters(&self) -> u32 {
-        self.map_length().div_ceil(self.cluster_size()) as u32
-    }
-
-    pub fn bitmap(&self, fat: u32) -> u32 {
-        if fat == 0 {
-            self.bitmap_0
-        } else {
-            self.bitmap_1
-        }
-    }
-
-    /// Where a cluster's entry in a FAT lies.
-    pub fn fat_entry(&self, fat: u32, cluster: u32) -> usize {
-        let sectors = self.fat_offset as usize + fat as usize * self.fat_length as usize;
-        (sectors << self.sector_shift) + cluster as usize * 4
-    }
-
-    pub fn cluster_offset(&self, cluster: u32) -> usize {
-        ((self.cluster_heap_offset as usize) << self.sector_shift)
-            + (cluster - 2) as usize * self.cluster_size()
-    }
-
-    pub fn heap_end(&self) -> usize {
-        self.cluster_offset(self.end())
-    }
-}
-
-fn bit(bytes: &[u8], cluster: u32) -> bool {
-    let index = (cluster - 2) as usize;
-    bytes[index / 8] & (1 << (index % 8)) != 0
-}
-
-pub fn set_bit(bytes: &mut [u8], cluster: u32) {
-    let index = (cluster - 2) as usize;
-    bytes[index / 8] |= 1 << (index % 8);
-}
-
-pub fn clear_bit(bytes: &mut [u8], cluster: u32) {
-    let index = (cluster - 2) as usize;
-    bytes[index / 8] &= !(1 << (index % 8));
-}
 
 /// A volume's bytes with its geometry and system map, for reading.
 #[derive(Clone, Copy)]
@@ -153,7 +43,9 @@ impl View<'_> {
     }
 
     pub fn marked(&self, cluster: u32) -> bool {
-        let at = self.g.cluster_offset(self.g.bitmap(self.g.active_fat));
+        let at = self
+            .g
+            .cluster_offset(self.g.bitmap_first(self.g.active_fat));
         bit(&self.bytes[at..], cluster)
     }
 
@@ -213,8 +105,7 @@ impl View<'_> {
     pub fn root_bytes(&self) -> Vec<u8> {
         let mut bytes = Vec::new();
         for cluster in self.chain(self.g.root_cluster).0 {
-            let at = self.g.cluster_offset(cluster);
-            bytes.extend_from_slice(&self.bytes[at..at + self.g.cluster_size()]);
+            bytes.extend_from_slice(&self.bytes[self.g.cluster(cluster)]);
         }
         bytes
     }
