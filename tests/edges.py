@@ -8,6 +8,7 @@ import ctypes
 import struct
 import sys
 
+import geometry
 from trials import checksum
 
 SECTOR, FAT_AT, HEAP_AT, END = 512, 24 * 512, 32 * 512, 0xFFFFFFFF
@@ -29,7 +30,7 @@ class Volume:
     """The volume of the trials: C 16, bitmap in 2, root in 3 unless told otherwise. With more clusters the FAT is longer."""
 
     def __init__(self, root=3, marks=(2, 3), fat=((3, END),), system=(2, 3), at_root=b"", count=16):
-        self.geometry = (ctypes.c_uint32 * 11)(9, 0, 24, 1 if count == 16 else 8, 1, 0, 32, count, root, 2, 0)
+        self.geometry = geometry.array(9, 0, 24, 1 if count == 16 else 8, 1, 0, 32, count, root, 2, 0)
         self.bytes, self.map = bytearray(SECTOR * (32 + count)), bytearray((count + 7) // 8)
         for k in system:
             self.map[(k - 2) // 8] |= 1 << (k - 2) % 8

@@ -23,12 +23,12 @@ def ceil_div(a, b):
 
 
 class Volume:
-    """The lent slice, the system map and the geometry: 11 words, in the order of include/exfat.h."""
+    """The lent slice, the system map and the geometry: its words, in the order of include/exfat.h."""
 
     def __init__(self, data, map, geometry):
         self.data, self.map = data, map
         self.s, self.c, self.fat_offset, self.fat_length, self.fats, self.active, self.heap_offset, self.C = geometry[:8]
-        self.root, self.bitmap_first = geometry[8], geometry[9:]
+        self.root, self.bitmap_first = geometry[8], geometry[9:11]
 
 
 def keeps_limits(v):

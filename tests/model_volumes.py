@@ -2,6 +2,7 @@
 bitmaps and a system map; then, for most, damage. Places of clusters and entries are asked of tests/model.py.
 """
 
+import geometry
 import model
 from model import BAD, END, ceil_div
 
@@ -9,7 +10,7 @@ TOP = 2**32 - 1
 
 
 def make_geometry(rng):
-    """Eleven words that keep the limits; the root's cluster is still to come."""
+    """Words that keep the limits; the root's cluster is still to come."""
     s = rng.choice([9] * 12 + [10, 10, 11, 12])
     c = rng.choice([0] * 7 + [1, 1, 2, 15 - s])
     size, roll = 2 ** (s + c), rng.random()
@@ -295,7 +296,7 @@ def bend(case):
         cluster + [words[10], words[10] + 1 & TOP],
         cluster + [words[9], words[9] + 1],
     ]
-    what = rng.choice([*range(11), "end", "end", "map", "bitmap", "bitmap", "longest"])
+    what = rng.choice([*range(geometry.WORDS), "end", "end", "map", "bitmap", "bitmap", "longest"])
     if what == "end":
         del data[model.cluster_at(v, count + 2) - rng.choice([0, 1, 1]) :]
     elif what == "map":

@@ -24,7 +24,8 @@ import sys
 import tempfile
 
 sys.dont_write_bytecode = True
-import left_out  # noqa: E402, beside this file
+import geometry  # noqa: E402, beside this file
+import left_out  # noqa: E402
 
 END = 0xFFFFFFFF
 MIB = 1 << 20
@@ -200,7 +201,7 @@ class Lists:
 
     def __init__(self, library, volume, rng, longest):
         self.library, self.volume, self.rng, self.longest = library, volume, rng, longest
-        self.geometry = (ctypes.c_uint32 * 11)(
+        self.geometry = geometry.array(
             volume.sector_shift, volume.cluster_shift, volume.fat_offset, volume.fat_length, volume.fats, volume.active,
             volume.heap_offset, volume.count, volume.root, volume.bitmaps[0], volume.bitmaps[-1],
         )  # fmt: skip

@@ -12,6 +12,9 @@ import struct
 import sys
 from itertools import zip_longest
 
+sys.dont_write_bytecode = True
+from geometry import FIELDS  # noqa: E402, beside this file
+
 LINES = []
 
 
@@ -210,19 +213,6 @@ def sets_file():
 
 # Geometries: 01, "The volume". Numbers are unbounded here.
 
-FIELDS = (
-    "sector_shift",
-    "cluster_shift",
-    "fat_offset",
-    "fat_length",
-    "number_of_fats",
-    "active_fat",
-    "cluster_heap_offset",
-    "cluster_count",
-    "root_cluster",
-    "bitmap_0",
-    "bitmap_1",
-)
 # the volume of the marked trials
 BASE = dict(zip(FIELDS, (9, 0, 24, 1, 1, 0, 32, 16, 3, 2, 0)))
 MOST = 16777216
