@@ -67,12 +67,12 @@ impl Bench {
             fat_offset: 24,
             fat_length: 1,
             number_of_fats: fats,
-            active_fat: 0,
             cluster_heap_offset: 32,
             cluster_count,
             root_cluster: root,
             bitmap_0: 2,
             bitmap_1: if fats == 2 { 3 } else { 0 },
+            ..Geometry::default()
         };
         let mut bench = Self {
             g,
