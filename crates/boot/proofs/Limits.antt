@@ -8,7 +8,7 @@ use borrow.Author.Tests.{lt-ltb, le-leb, lt-leb, ltb-true, leb-true, eqb-true, e
 use Rattle.boot.specs.declared.geometry.Geometry.{Geometry}
 use Rattle.boot.specs.Geometry.{sectorShift, clusterShift, fatOffset, fatLength, numberOfFats, activeFat, clusterHeapOffset, clusterCount, bitmap0, bitmap1, sectorSize, clusterSize, bitmapBytes, bitmapClusters}
 use Rattle.boot.specs.Limits.{all, shapeTests, roomTests, mapTests, inMap, allInMap, runInMap, apart, secondBitmap, limits}
-use Rattle.boot.specs.Facts.{Shape, Room}
+use Rattle.boot.specs.Facts.{Shape, RoomFacts}
 use Rattle.tables.proofs.Cases.{not-so, and-true}
 use native.Mathlib.Numerals.{sub-one}
 use lib.ListN.{length}
@@ -62,7 +62,7 @@ of-shape g s =
 pub not-shape : (g : Geometry) → (Shape g → ⊥) → all (shapeTests g) ≡ false
 not-shape g h = not-so (all (shapeTests g)) (λ e. h (shape-of g e))
 
-pub room-of : (g : Geometry) (len : ℕ) → all (roomTests g len) ≡ true → Room g len
+pub room-of : (g : Geometry) (len : ℕ) → all (roomTests g len) ≡ true → RoomFacts g len
 unfolding roomTests
 room-of g len e =
     let t = each-of (roomTests g len) e in
@@ -73,13 +73,13 @@ room-of g len e =
       len-high = leb-true _ _ (t .1 .1 .1 .0);
     }
 
-pub of-room : (g : Geometry) (len : ℕ) → Room g len → all (roomTests g len) ≡ true
+pub of-room : (g : Geometry) (len : ℕ) → RoomFacts g len → all (roomTests g len) ≡ true
 unfolding roomTests
 of-room g len r =
     of-each (roomTests g len)
     (le-leb _ _ (r .fat-holds), (le-leb _ _ (r .heap-past), (le-leb _ _ (r .heap-in), (le-leb _ _ (r .len-high), tt))))
 
-pub not-room : (g : Geometry) (len : ℕ) → (Room g len → ⊥) → all (roomTests g len) ≡ false
+pub not-room : (g : Geometry) (len : ℕ) → (RoomFacts g len → ⊥) → all (roomTests g len) ≡ false
 not-room g len h = not-so (all (roomTests g len)) (λ e. h (room-of g len e))
 
 -- ---- runs in the system map

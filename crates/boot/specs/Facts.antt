@@ -18,7 +18,7 @@ pub record Shape (g : Geometry) : Type 0 where
   pub count-high : clusterCount g ≤ 32768
 
 -- FATs, heap and volume
-pub record Room (g : Geometry) (len : ℕ) : Type 0 where
+pub record RoomFacts (g : Geometry) (len : ℕ) : Type 0 where
   pub fat-holds : 4 * (clusterCount g + 2) ≤ fatLength g * sectorSize g
   pub heap-past : fatOffset g + numberOfFats g * fatLength g ≤ clusterHeapOffset g
   pub heap-in : clusterHeapOffset g * sectorSize g + clusterCount g * clusterSize g ≤ len
@@ -35,5 +35,5 @@ pub record Bitmaps (g : Geometry) : Type 0 where
 -- a geometry that keeps the limits with a volume of len bytes
 pub record Accepted (g : Geometry) (len : ℕ) : Type 0 where
   pub shape : Shape g
-  pub room : Room g len
+  pub room : RoomFacts g len
   pub bitmaps : Bitmaps g

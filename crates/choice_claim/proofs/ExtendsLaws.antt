@@ -42,7 +42,7 @@ use Rattle.choice_claim.proofs.KeptLaws.{fat-off, link-off, run-off, ta
 use Rattle.choice_claim.proofs.AddsLaws.{fits-limits, InHeap, in-allocates}
 use Rattle.write_extend.specs.Extend.{moreCause, Allowed, inPlace, linkOld, longerRun, longerChain, longer, extendIn, extendClusters}
 use Rattle.choice_claim.specs.Extends.{Extends}
-use Rattle.write_extend.proofs.ExtendLaws.{allowed-of, place-usable, link-chain, link-run, Tail, tail-of, start-in, place-facts, longer-in, longer-out, extend-hint, extend-longer, extend-refused, extend-is, extend-limits}
+use Rattle.write_extend.proofs.ExtendLaws.{allowed-of, place-usable, link-chain, link-run, LastOf, tail-of, start-in, place-facts, longer-in, longer-out, extend-hint, extend-longer, extend-refused, extend-is, extend-limits}
 use Rattle.write_extend.proofs.KeepLaws.{longer-on}
 use Rattle.write_extend.proofs.LongerLaws.{longer-run-grown, longer-chain-grown, place-run, length-more, extend-empty}
 
@@ -64,7 +64,7 @@ module _ (y : Layout) (d m : List ℕ) (w : Fits y d) (a : Allocation) (n : ℕ)
   abbrev start : ℕ
   start = wrap (y .count) (a .last + 1)
 
-  tail : Tail y d a
+  tail : LastOf y d a
   tail = tail-of y d a (ok .reads) some
 
   read : Read (y .count) (fatEntry y d) (marked y d) a old

@@ -115,7 +115,7 @@ pub fn refreshed(
 }
 
 // The set with the InUse bit of its n entries cleared.
-pub fn unset(set: [u8; 608], n: usize) -> [u8; 608]
+pub fn cleared(set: [u8; 608], n: usize) -> [u8; 608]
     requires { ⌜ n ≤ 19 ⌝ }
     ensures { λ r. ⌜ r ≡ cleared set n ⌝ }
 {

@@ -28,7 +28,7 @@ use Rattle.entry_set.specs.Fields.{validLength, dataLength}
 use Rattle.write_alloc.specs.Outcome as alloc
 use Rattle.write_alloc.proofs.KeepLaws.{Taking}
 use Rattle.write_extend.specs.Extend.{extendIn}
-use Rattle.write_extend.proofs.EnoughLaws.{Took, extend-done}
+use Rattle.write_extend.proofs.EnoughLaws.{Extended, extend-done}
 use Rattle.write_extend.proofs.KeepLaws.{extend-on}
 use Rattle.directory.specs.Directory.{directoryCause}
 use Rattle.file.specs.Outcome.{carried}
@@ -95,7 +95,7 @@ module _ (y : Layout) (P : ℕ → Type 0) (K : List ℕ → List ℕ → Type 0
     abbrev old-list : List ℕ
     old-list = clustersOf (streamOf y d b)
 
-    took : Took y d m o old-list n
+    took : Extended y d m o old-list n
     took = extend-done y d m (r .fits) b old-list (stream-is y d b (f .reads)) n hint hint-in enough
 
     pub longer-on : Went y K d (extendIn y d m b n hint .volume)

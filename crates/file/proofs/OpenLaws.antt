@@ -33,7 +33,7 @@ use Rattle.write_dir.specs.declared.«open_file».Opened.{Opened}
 use Rattle.write_dir.specs.declared.place.Spot.{Spot}
 use Rattle.write_dir.specs.Place.{spotOf, spotClusters, Reaches}
 use Rattle.write_dir.proofs.PlaceLaws.{spot-reaches, spot-store}
-use Rattle.write_dir.specs.Open.{fileRecord, entryCause, attributeCause, streamCause, setIn, fileCause, opened, openFile}
+use Rattle.write_dir.specs.Open.{fileRecord, entryCause, directoryAttributeCause, streamCause, setIn, fileCause, opened, openFile}
 use Rattle.file.specs.Refresh.{entriesOf, recorded, stored, openCause}
 use Rattle.file.specs.declared.target.Target.{Target}
 use Rattle.file.specs.Opens.{Opens, Stands, target}
@@ -49,7 +49,7 @@ module _ (y : Layout) (d m : List ℕ) (a : Allocation) (slot : ℕ) (s : List �
   open-directory =
       cause-none (numberOf (streamOf y d a)) (bitmapCause y (clustersOf (streamOf y d a)) ∷ []) (unfold directoryCause in (o .directory)) .0
 
-  causes : firstCause (entryCause y (bytesIn y d a) slot ∷ attributeCause (setIn y d a slot) ∷ streamCause y d m (fileRecord y d (setIn y d a slot)) ∷ []) ≡ 0
+  causes : firstCause (entryCause y (bytesIn y d a) slot ∷ directoryAttributeCause (setIn y d a slot) ∷ streamCause y d m (fileRecord y d (setIn y d a slot)) ∷ []) ≡ 0
   causes = unfold fileCause in (o .file)
 
   pub open-sound : isSound (y .count) (y .size) (bytesIn y d a) slot ≡ true

@@ -35,7 +35,7 @@ use Rattle.entry_set.proofs.LengthLaws.{clusters-hold}
 use Rattle.write_alloc.specs.declared.answer.Answer.{Answer}
 use Rattle.write_alloc.specs.Outcome.{Outcome}
 use Rattle.write_extend.specs.Extend.{extendIn}
-use Rattle.write_extend.proofs.EnoughLaws.{Took, extend-done}
+use Rattle.write_extend.proofs.EnoughLaws.{Extended, extend-done}
 use Rattle.write_alloc.proofs.AllocateLaws.{space-met, space-kept}
 use Rattle.directory.proofs.DirectoryLaws.{clusters-along}
 use Rattle.write_dir.specs.Open.{fileRecord}
@@ -113,7 +113,7 @@ module _ (y : Layout) (d m : List ℕ) (w : Fits y d) (b : Allocation) (n hint :
   abbrev out : Outcome
   out = extendIn y d m b n hint
 
-  took : Took y d m out (clustersOf (streamOf y d b)) n
+  took : Extended y d m out (clustersOf (streamOf y d b)) n
   took = extend-done y d m w b (clustersOf (streamOf y d b)) (stream-is y d b reads) n hint hint-in enough
 
   pub grown-reads : numberOf (streamOf y (out .volume) (out .answer .allocation)) ≡ 0

@@ -28,7 +28,7 @@ fn first_bad(fat: &[u8], first: u32, n: u32) -> Found
 }
 
 // The first of the n clusters from first that is bad in the active FAT. The FAT begins mid-volume; that part is handed on.
-pub fn bad_in(vol: &[u8], y: Layout, first: u32, n: u32) -> Found
+fn bad_in(vol: &[u8], y: Layout, first: u32, n: u32) -> Found
     requires { ⌜ Laid y × ((length (now vol) ≡ y .len) × (first + n ≤ y .count + 2)) ⌝ }
     ensures { λ r. ⌜ r ≡ firstBad (fatEntry y (now (vol .entry))) first n ⌝ }
 {

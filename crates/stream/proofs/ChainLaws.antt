@@ -16,7 +16,7 @@ use Rattle.stream.specs.declared.walk.Next.{Next}
 use Rattle.stream.specs.declared.walk.Next.the-variants.{End, More, Wrong}
 use Rattle.stream.specs.declared.allocation.Allocation.{Allocation}
 use Rattle.stream.specs.declared.walk.Walked.{Walked}
-use Rattle.stream.specs.Chain.{Clusters, listed, refused, nextOf, byNext, onto, chainFrom, readChain}
+use Rattle.stream.specs.Chain.{Clusters, listed, refused, nextOf, byNext, withFirst, chainFrom, readChain}
 use Rattle.stream.specs.Stream.{numberOf, runCause, readRun, checkChain, readStream, walked, walkCause}
 
 pub next-end : (C v : ℕ) → v ≡ END → nextOf C v ≡ End
@@ -37,7 +37,7 @@ abbrev pub walkAt : (ℕ → Bool) → ℕ → ℕ → Bool → Clusters → Wal
 walkAt mark z b f (listed ks) = record { number = 0; last = lastOr z ks; count = b + length ks; marked = f && every mark ks }
 walkAt mark z b f (refused n) = record { number = n; last = 0; count = 0; marked = false }
 
-walk-onto : (mark : ℕ → Bool) (z b : ℕ) (f : Bool) (k : ℕ) (c : Clusters) → walkAt mark z b f (onto k c) ≡ walkAt mark k (b + 1) (f && mark k) c
+walk-onto : (mark : ℕ → Bool) (z b : ℕ) (f : Bool) (k : ℕ) (c : Clusters) → walkAt mark z b f (withFirst k c) ≡ walkAt mark k (b + 1) (f && mark k) c
 unfolding lastOr every
 walk-onto mark z b f k (listed ks) =
     let e : b + suc (length ks) ≡ b + 1 + length ks = omega arith in
@@ -47,7 +47,7 @@ walk-onto mark z b f k (refused n) = refl
 -- a chain has a cluster, so what came before it does not matter
 module _ (mark : ℕ → Bool) (C : ℕ) (fat : ℕ → ℕ) (z z′ b : ℕ) (f : Bool) where
   by-any : (x : Next) (k : ℕ) (c : Clusters) (n : ℕ)
-      → walkAt mark z b f (byNext x (listed (k ∷ [])) (onto k c) (refused n)) ≡ walkAt mark z′ b f (byNext x (listed (k ∷ [])) (onto k c) (refused n))
+      → walkAt mark z b f (byNext x (listed (k ∷ [])) (withFirst k c) (refused n)) ≡ walkAt mark z′ b f (byNext x (listed (k ∷ [])) (withFirst k c) (refused n))
   unfolding lastOr
   by-any End k c n = refl
   by-any More k c n = walk-onto mark z b f k c ∙ sym (walk-onto mark z′ b f k c)
@@ -195,7 +195,7 @@ more-in C v e = by (eqb v END) (inHeap C v) refl refl
 
 -- a refusal of a walk is never 0
 module _ (C : ℕ) (fat : ℕ → ℕ) where
-  onto-refused : (k m : ℕ) (c : Clusters) → onto k c ≡ refused m → c ≡ refused m
+  onto-refused : (k m : ℕ) (c : Clusters) → withFirst k c ≡ refused m → c ≡ refused m
   onto-refused k m (listed ks) e = let z : _≡_ {A = ℕ} 0 1 = cc in absurd (omega arith)
   onto-refused k m (refused n) e = e
 
@@ -209,8 +209,8 @@ module _ (C : ℕ) (fat : ℕ → ℕ) where
       by Wrong q = let w : 3 ≡ m = cc in omega arith
   from-not-zero (suc n) k m e z = by (nextOf C (fat k)) (λ q. from-not-zero n (fat k) m (onto-refused k m (chainFrom C fat n (fat k)) q) z) e
     where
-      by : (x : Next) → (onto k (chainFrom C fat n (fat k)) ≡ refused m → ⊥)
-          → byNext x (listed (k ∷ [])) (onto k (chainFrom C fat n (fat k))) (refused 3) ≡ refused m → ⊥
+      by : (x : Next) → (withFirst k (chainFrom C fat n (fat k)) ≡ refused m → ⊥)
+          → byNext x (listed (k ∷ [])) (withFirst k (chainFrom C fat n (fat k))) (refused 3) ≡ refused m → ⊥
       by End h q = let w : _≡_ {A = ℕ} 0 1 = cc in omega arith
       by More h q = h q
       by Wrong h q = let w : 3 ≡ m = cc in omega arith

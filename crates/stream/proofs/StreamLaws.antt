@@ -19,7 +19,7 @@ use Rattle.metadata.specs.Fat.{END}
 use Rattle.stream.specs.declared.allocation.Allocation.{Allocation}
 use Rattle.stream.specs.declared.walk.Next.{Next}
 use Rattle.stream.specs.declared.walk.Next.the-variants.{End, More, Wrong}
-use Rattle.stream.specs.Chain.{Clusters, listed, refused, nextOf, byNext, onto, chainFrom, readChain}
+use Rattle.stream.specs.Chain.{Clusters, listed, refused, nextOf, byNext, withFirst, chainFrom, readChain}
 use Rattle.stream.specs.Stream.{numberOf, runCause, readRun, checkChain, readStream}
 use Rattle.stream.specs.Along.{after, along}
 use Rattle.stream.proofs.ChainLaws.{more-in, stream-empty, stream-run, stream-chain}
@@ -122,7 +122,7 @@ module _ (C : ℕ) (fat : ℕ → ℕ) where
     where
       by : (x : Next) → nextOf C (fat k) ≡ x → (c : Clusters)
           → ((l : List ℕ) → inHeap C (fat k) ≡ true → c ≡ listed l → Listed C fat n (fat k) l)
-          → byNext x (listed (k ∷ [])) (onto k c) (refused 3) ≡ listed ks → Listed C fat (suc n) k ks
+          → byNext x (listed (k ∷ [])) (withFirst k c) (refused 3) ≡ listed ks → Listed C fat (suc n) k ks
       by End q c i p = let z : k ∷ [] ≡ ks = cc in rw (sym z) (only-one (suc n) k h (next-end (fat k) q))
       by More q (listed l) i p = let z : k ∷ l ≡ ks = cc in rw (sym z) (one-more n k l h (i l (more-in C (fat k) q) refl))
       by More q (refused m) i p = clash (cc)

@@ -24,15 +24,15 @@ byNext More e m w = m
 byNext Wrong e m w = w
 
 -- k before the clusters that follow it
-abbrev pub onto : ℕ → Clusters → Clusters
-onto k (listed ks) = listed (k ∷ ks)
-onto k (refused n) = refused n
+abbrev pub withFirst : ℕ → Clusters → Clusters
+withFirst k (listed ks) = listed (k ∷ ks)
+withFirst k (refused n) = refused n
 
 -- the chain from k, a cluster of the heap, where at most n clusters may follow it: 3 for a value that is neither in the heap
 -- nor the end, 4 where another cluster follows the last that may
 unfoldable pub chainFrom : ℕ → (ℕ → ℕ) → ℕ → ℕ → Clusters
 chainFrom C fat zero k = byNext (nextOf C (fat k)) (listed (k ∷ [])) (refused 4) (refused 3)
-chainFrom C fat (suc n) k = byNext (nextOf C (fat k)) (listed (k ∷ [])) (onto k (chainFrom C fat n (fat k))) (refused 3)
+chainFrom C fat (suc n) k = byNext (nextOf C (fat k)) (listed (k ∷ [])) (withFirst k (chainFrom C fat n (fat k))) (refused 3)
 
 -- the chain from first: 2 where first is outside the heap; C clusters at most
 unfoldable pub readChain : ℕ → (ℕ → ℕ) → ℕ → Clusters

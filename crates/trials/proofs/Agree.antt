@@ -17,7 +17,7 @@ use Rattle.metadata.specs.Usable.{isFree, isUsable}
 use Rattle.stream.specs.Chain.{nextOf, chainFrom, readChain}
 use Rattle.stream.specs.Listing.{roomCause, listedNumber, listedList, listingNumber, listingList}
 use Rattle.stream.specs.Stream.{numberOf, runCause, readRun, checkChain, readStream, streamOf, systemCause}
-use Rattle.write_alloc.specs.Allocate.{nearCause, newCause, newRun, newChain, newStream, allocateIn, allocateClusters}
+use Rattle.write_alloc.specs.Allocate.{nearCause, allocateCause, newRun, newChain, newStream, allocateIn, allocateClusters}
 use Rattle.search.specs.Search.{allFrom, firstRun, runFrom}
 use Rattle.choice.specs.Choice.{choose, around, chosen}
 use Rattle.write_extend.specs.Extend.{moreCause, inPlace, longerRun, linkOld, longerChain, longer, extendIn, extendClusters}
@@ -25,13 +25,13 @@ use Rattle.write_shrink.specs.Shrink.{freeAll, keptRecord, endKept, shrinkCause
 use Rattle.write_alloc.specs.Take.{markRun, linkRun, takeOne, takeAll}
 use Rattle.trials.specs.Table.{new, bad6, page, list6, after6, file, after8, after9, loop, old, eight, T1, T2, T3, T4, T5, T6, T6-list, T7, T8, T8-list, T9, T10-list, T10-extend, T10-shrink, T11, T12, old-entries, eight-list, eight-extend, eight-shrink, trials}
 use Rattle.trials.specs.Trial.{Trial, wanted, resultOf, sameFlag, sameList, sameRecord, sameAnswer, sameResult, said, agrees, allAgree}
-use Rattle.trials.specs.Volume.{geometry, system, linkAt, entryAt, wordBytes, fatBytes, padded, bytesOf, linked}
+use Rattle.trials.specs.Volume.{geometry, system, linkAt, trialEntry, wordBytes, fatBytes, padded, trialBytes, linked}
 use Rattle.trials.proofs.Same.{all-same}
 use Rattle.trials.proofs.FileRows.{row-T11, row-T12}
 
 -- a trial with everything open that has to compute
 unfoldable opened : Trial → Bool
-unfolding bitOf setBit clearBit putBit bitAt countBits splice getLe putLe count keep every lastOr consec firstCause limitsCause heapCause geometryOf sectorSize clusterSize bitmapClusters fatStart clusterStart bitmapFirst layoutOf inRun inHeap shapeTests roomTests inMap allInMap runInMap apart secondBitmap mapTests limits fatEntry setFat markByte marked putByte setMark allocatedCount freeCount isFree isUsable nextOf chainFrom readChain roomCause listedNumber listedList listingNumber listingList numberOf runCause readRun checkChain readStream streamOf nearCause newCause newRun newChain newStream allocateIn allocateClusters allFrom firstRun runFrom choose around chosen moreCause inPlace longerRun linkOld longerChain longer extendIn extendClusters wrap spaceCause systemCause freeAll risingFrom rising keptRecord endKept shrinkCause cut shrinkIn shrinkClusters markRun linkRun takeOne takeAll new bad6 page list6 after6 file after8 after9 loop old eight T1 T2 T3 T4 T5 T6 T6-list T7 T8 T8-list T9 T10-list T10-extend T10-shrink old-entries eight-list eight-extend eight-shrink resultOf sameFlag sameList sameRecord sameAnswer sameResult said agrees geometry system linkAt entryAt wordBytes fatBytes padded bytesOf linked
+unfolding bitOf setBit clearBit putBit bitAt countBits splice getLe putLe count keep every lastOr consec firstCause limitsCause heapCause geometryOf sectorSize clusterSize bitmapClusters fatStart clusterStart bitmapFirst layoutOf inRun inHeap shapeTests roomTests inMap allInMap runInMap apart secondBitmap mapTests limits fatEntry setFat markByte marked putByte setMark allocatedCount freeCount isFree isUsable nextOf chainFrom readChain roomCause listedNumber listedList listingNumber listingList numberOf runCause readRun checkChain readStream streamOf nearCause allocateCause newRun newChain newStream allocateIn allocateClusters allFrom firstRun runFrom choose around chosen moreCause inPlace longerRun linkOld longerChain longer extendIn extendClusters wrap spaceCause systemCause freeAll risingFrom rising keptRecord endKept shrinkCause cut shrinkIn shrinkClusters markRun linkRun takeOne takeAll new bad6 page list6 after6 file after8 after9 loop old eight T1 T2 T3 T4 T5 T6 T6-list T7 T8 T8-list T9 T10-list T10-extend T10-shrink old-entries eight-list eight-extend eight-shrink resultOf sameFlag sameList sameRecord sameAnswer sameResult said agrees geometry system linkAt trialEntry wordBytes fatBytes padded trialBytes linked
 opened t = agrees t
 
 row-T1 : agrees T1 ≡ true

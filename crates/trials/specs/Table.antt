@@ -6,7 +6,7 @@ use lib.ListN.{replicate}
 use Rattle.metadata.specs.Fat.{BAD}
 use Rattle.stream.specs.declared.allocation.Allocation.{Allocation}
 use Rattle.stream.specs.Stream.{empty}
-use Rattle.trials.specs.Volume.{Link, Volume, bytesOf, linked, padded}
+use Rattle.trials.specs.Volume.{Link, Volume, trialBytes, linked, padded}
 use Rattle.trials.specs.File.{earlier, given, entries}
 use Rattle.trials.specs.Trial.{Call, allocate, extend, shrink, listing, newLength, Result, answered, listed, carried, Trial}
 
@@ -28,11 +28,11 @@ chain first last count = record { first = first; last = last; count = count; «n
 
 -- number, record, hint, and the volume after the call
 abbrev pub gives : ℕ → Allocation → ℕ → Volume → Result
-gives number a hint v = answered (record { number = number; allocation = a; hint = hint }) (bytesOf v)
+gives number a hint v = answered (record { number = number; allocation = a; hint = hint }) (trialBytes v)
 
 -- number, hint, and the volume after a file call that makes no set
 abbrev pub leaves : ℕ → ℕ → Volume → Result
-leaves number hint v = carried (record { number = number; slot = 0; hint = hint }) (bytesOf v)
+leaves number hint v = carried (record { number = number; slot = 0; hint = hint }) (trialBytes v)
 
 -- a row
 abbrev pub trial : Volume → Call → Result → Trial

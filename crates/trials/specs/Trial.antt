@@ -15,7 +15,7 @@ use Rattle.entry_set.specs.declared.stamp.Stamp.{Stamp}
 use Rattle.file.specs.declared.answer.FileAnswer.{FileAnswer}
 use Rattle.file.specs.Outcome as file
 use Rattle.write_length.specs.SetLength.{setLength}
-use Rattle.trials.specs.Volume.{Volume, geometry, system, bytesOf}
+use Rattle.trials.specs.Volume.{Volume, geometry, system, trialBytes}
 
 -- a call with its own arguments, in the order of 01
 pub data Call : Type 0 where
@@ -102,7 +102,7 @@ sameResult (carried a d) (carried b e) = sameFileAnswer a b && sameList d e
 
 -- what the definitions say in a trial
 unfoldable pub said : Trial → Result
-said t = resultOf (bytesOf (t .start)) (t .call)
+said t = resultOf (trialBytes (t .start)) (t .call)
 
 -- what is expected of it
 abbrev pub wanted : Trial → Result

@@ -36,8 +36,8 @@ linkAt [] k = 0
 linkAt (l ∷ ls) k = cond (eqb (l .at) k) (l .value) (linkAt ls k)
 
 -- entry k of the FAT: the root's is the end
-unfoldable pub entryAt : List Link → ℕ → ℕ
-entryAt ls k = cond (eqb k 3) END (linkAt ls k)
+unfoldable pub trialEntry : List Link → ℕ → ℕ
+trialEntry ls k = cond (eqb k 3) END (linkAt ls k)
 
 -- four bytes, low byte first
 unfoldable pub wordBytes : ℕ → List ℕ
@@ -46,15 +46,15 @@ wordBytes v = v % 256 ∷ v / 256 % 256 ∷ v / 65536 % 256 ∷ v / 16777216 % 2
 -- the bytes of n entries from k on
 unfoldable pub fatBytes : List Link → ℕ → ℕ → List ℕ
 fatBytes ls k zero = []
-fatBytes ls k (suc n) = wordBytes (entryAt ls k) ++ fatBytes ls (k + 1) n
+fatBytes ls k (suc n) = wordBytes (trialEntry ls k) ++ fatBytes ls (k + 1) n
 
 -- a list filled up with zeros to n bytes
 unfoldable pub padded : ℕ → List ℕ → List ℕ
 padded n l = l ++ replicate (n - length l) 0
 
 -- the 24,576 bytes: 24 sectors of zeros, the FAT with its 18 entries, zeros up to the heap, the bitmap's cluster, the other clusters
-unfoldable pub bytesOf : Volume → List ℕ
-bytesOf v =
+unfoldable pub trialBytes : Volume → List ℕ
+trialBytes v =
     replicate 12288 0
     ++ (padded 4096 (fatBytes (v .links) 0 18) ++ (padded 512 (v .mark0 ∷ v .mark1 ∷ []) ++ padded 7680 (v .heap)))
 

@@ -26,7 +26,7 @@ use Rattle.stream.specs.Stream.{clustersIn}
 use Rattle.file.specs.Outcome.{Outcome, refuse, carried}
 use Rattle.write_dir.specs.Open.{fileRecord, setIn}
 use Rattle.write_dir.specs.Place.{growBy}
-use Rattle.write_file.specs.NewFile.{newGrowth, newCause, placed, newFileIn, newFile}
+use Rattle.write_file.specs.NewFile.{newGrowth, newFileCause, placed, newFileIn, newFile}
 use Rattle.file.specs.Refresh.{missing, lengthCause, openCause, refreshedOnly}
 use Rattle.write_file.specs.Write.{larger, endCause, dataCause, writeCause, written, writeIn, writeInto}
 use Rattle.write_length.specs.SetLength.{setLengthCause, shorter, longerFile, resized, setLengthIn, setLength}
@@ -72,7 +72,7 @@ either false o o′ p q = q
 
 module _ (g : Geometry) (m d : List ℕ) (l : limits g (length d) m ≡ true) where
   pub new-decided : (name : List ℕ) (attributes hash : ℕ) (t : Stamps) (hint : ℕ)
-      → Decided d (newCause (lay g d) d m (root g d) name attributes hint) hint
+      → Decided d (newFileCause (lay g d) d m (root g d) name attributes hint) hint
       (placed (lay g d) (growBy (lay g d) m (newGrowth (lay g d) d (root g d) (length name)) (record { volume = d; directory = root g d; hint = hint }))
       (newEntries (length name)) (newSet name attributes hash t))
       (step g m d (New name attributes hash t hint))
@@ -213,7 +213,7 @@ module _ (g : Geometry) (m d : List ℕ) where
     unfolding otherCause mustAdd
     numbered-in (New name attributes hash t hint) =
         decided-number (new-decided g m d l name attributes hash t hint)
-        ∙ (unfold newCause in (unfold usable in
+        ∙ (unfold newFileCause in (unfold usable in
         (then-space
         (heapCause (lay g d .count) hint ∷ directoryCause (lay g d) d (root g d) ∷ nameCause name ∷ attributeCause attributes ∷ [])
         (newGrowth (lay g d) d (root g d) (length name)))))

@@ -36,10 +36,10 @@ use Rattle.directory.proofs.FitLaws.{Fit}
 use Rattle.directory.proofs.DirectoryLaws.{clusters-length}
 use Rattle.file.specs.Outcome.{carried}
 use Rattle.write_dir.specs.Open.{fileRecord}
-use Rattle.write_dir.specs.Place.{Grown, growBy}
+use Rattle.write_dir.specs.Place.{GrownDirectory, growBy}
 use Rattle.write_dir.proofs.InsertLaws.{insert-room, insert-free, insert-ordered, insert-sets}
 use Rattle.file.specs.Refresh.{entriesOf}
-use Rattle.write_file.specs.NewFile.{newGrowth, newCause, placed}
+use Rattle.write_file.specs.NewFile.{newGrowth, newFileCause, placed}
 use Rattle.write_file.proofs.NewFileLaws.{space-enough}
 use Rattle.write.specs.Calls.{New, step}
 use Rattle.write.specs.Consistent.{Consistent, lay, root, rootClusters, rootBytes, setOf}
@@ -79,7 +79,7 @@ module _ (g : Geometry) (m d : List ℕ) (c : Consistent g m d) (name : List ℕ
   abbrev more : ℕ
   more = newGrowth (lay g d) d (root g d) (length name)
 
-  abbrev w : Grown
+  abbrev w : GrownDirectory
   w = growBy y m more (record { volume = d; directory = root g d; hint = hint })
 
   -- its bytes and the slot
@@ -96,10 +96,10 @@ module _ (g : Geometry) (m d : List ℕ) (c : Consistent g m d) (name : List ℕ
   big : 1 ≤ y .size
   big = let l = fits g m d c .laid .size-low in omega arith
 
-  module _ (e : newCause (lay g d) d m (root g d) name attributes hint ≡ 0) where
+  module _ (e : newFileCause (lay g d) d m (root g d) name attributes hint ≡ 0) where
     causes : (heapCause (y .count) hint ≡ 0) × (nameCause name ≡ 0) × (attributeCause attributes ≡ 0)
         × (spaceCause more (count (isUsable y d m) 2 (y .count)) ≡ 0)
-    unfolding newCause
+    unfolding newFileCause
     causes =
         let p = cause-none _ _ e in
         let q = cause-none _ _ (p .1) in

@@ -37,7 +37,7 @@ use Rattle.write_extend.proofs.EnoughLaws.{grow-new, grow-longer}
 use Rattle.directory.specs.Directory.{rootRecord}
 use Rattle.directory.specs.Entries.{sets}
 use Rattle.write_dir.specs.Open.{fileRecord}
-use Rattle.write_dir.specs.Place.{Grown, growOne, growBy}
+use Rattle.write_dir.specs.Place.{GrownDirectory, growOne, growBy}
 use Rattle.write_dir.proofs.AddedLaws.{grow-one}
 use Rattle.write.specs.Calls.{Call}
 use Rattle.write.specs.Consistent.{Consistent, lay, root, rootClusters, rootBytes, streamAt, fileClusters}
@@ -90,11 +90,11 @@ module _ (y : Layout) (d m : List ℕ) (w : Fits y d) (a : Allocation) (n hint :
       ]
 
 -- a directory grown by none, and by at least one cluster
-pub grow-same : (y : Layout) (m : List ℕ) (n : ℕ) (v : Grown) → n ≡ 0 → growBy y m n v .hint ≡ v .hint
+pub grow-same : (y : Layout) (m : List ℕ) (n : ℕ) (v : GrownDirectory) → n ≡ 0 → growBy y m n v .hint ≡ v .hint
 unfolding growBy
 grow-same y m n v z = ap (λ (k : ℕ). growBy y m k v .hint) z
 
-pub grow-next : (y : Layout) (m : List ℕ) → ((k : ℕ) → isBitmapCluster y k ≡ true → inMap m k ≡ true) → (n : ℕ) (v : Grown) → Fits y (v .volume)
+pub grow-next : (y : Layout) (m : List ℕ) → ((k : ℕ) → isBitmapCluster y k ≡ true → inMap m k ≡ true) → (n : ℕ) (v : GrownDirectory) → Fits y (v .volume)
     → (ks : List ℕ) → streamOf y (v .volume) (v .directory) ≡ listed ks → inHeap (y .count) (v .hint) ≡ true
     → n ≤ count (isUsable y (v .volume) m) 2 (y .count) → 1 ≤ n
     → growBy y m n v .hint ≡ wrap (y .count) (growBy y m n v .directory .last + 1)

@@ -21,7 +21,7 @@ use Rattle.kept.proofs.TwinKeeps.{FatTwins, BitmapTwins, fat-keeps, bitmap-keep
 use Rattle.kept.proofs.IntactKeeps.{OthersIntact, intact-keeps}
 use Rattle.write.specs.Calls.{Call, step, run}
 use Rattle.write.specs.Consistent.{lay}
-use Rattle.write.specs.Demand.{slotOf, Foreign, Lost}
+use Rattle.write.specs.Demand.{callSlot, Foreign, Lost}
 use Rattle.write.proofs.Scene.{lay-same, fits-of}
 use Rattle.write.proofs.Answers.{broken-number, refused-volume}
 use Rattle.write.proofs.Reached.{Reach, step-keeps}
@@ -57,11 +57,11 @@ bitmaps-alike g m d c two = step-keeps g m d c (BitmapTwins (lay g d)) (bitmap-k
 
 -- ---- clusters that a call does not reach
 
-pub foreign-kept : (g : Geometry) (m d : List ℕ) (c : Call) (k : ℕ) → Foreign g m d (slotOf c (step g m d c .answer .slot)) k
+pub foreign-kept : (g : Geometry) (m d : List ℕ) (c : Call) (k : ℕ) → Foreign g m d (callSlot c (step g m d c .answer .slot)) k
     → Intact (lay g d) d (step g m d c .volume) k
 foreign-kept g m d c k f =
-    step-keeps g m d c (OthersIntact (lay g d) (Reach g m d (slotOf c (step g m d c .answer .slot))))
-    (intact-keeps (lay g d) (Reach g m d (slotOf c (step g m d c .answer .slot)))) k (f .heap) (λ r. r f)
+    step-keeps g m d c (OthersIntact (lay g d) (Reach g m d (callSlot c (step g m d c .answer .slot))))
+    (intact-keeps (lay g d) (Reach g m d (callSlot c (step g m d c .answer .slot)))) k (f .heap) (λ r. r f)
 
 -- a marked cluster of no stream is foreign to every call
 pub lost-foreign : (g : Geometry) (m d : List ℕ) (i k : ℕ) → Lost g d k → Foreign g m d i k

@@ -13,7 +13,7 @@ use Rattle.entry_set.specs.Fields.{isDirectory}
 use Rattle.directory.specs.Entries.{isSound, sets}
 use Rattle.directory.proofs.EntryLaws.{sound-file}
 use Rattle.directory.proofs.StoreLaws.{sets-file}
-use Rattle.write_dir.specs.Open.{entryCause, attributeCause, setIn, fileCause}
+use Rattle.write_dir.specs.Open.{entryCause, directoryAttributeCause, setIn, fileCause}
 use Rattle.file.specs.Refresh.{openCause}
 use Rattle.write.specs.Consistent.{lay, root, rootBytes, fileAt, setOf}
 use Rattle.write.proofs.Scene.{both-clear, if-clear}
@@ -34,7 +34,7 @@ module _ (g : Geometry) (m d : List ℕ) (i hint : ℕ) (e : openCause (lay g d)
   open-hint = if-clear _ 2 (λ z. omega arith) (clear .0)
 
   file-clear : (isSound (lay g d .count) (lay g d .size) (rootBytes g d) i ≡ true) × (isDirectory (setOf g d i) ≡ false)
-  unfolding fileCause entryCause attributeCause setIn rootBytes setOf
+  unfolding fileCause entryCause directoryAttributeCause setIn rootBytes setOf
   file-clear =
       let a = cause-none _ _ (clear .1) in
       (if-clear _ 10 (λ z. omega arith) (a .0), unless-clear _ 11 (λ z. omega arith) (cause-none _ _ (a .1) .0))

@@ -22,7 +22,7 @@ use Rattle.entry_set.specs.New.{newEntries, newSet}
 use Rattle.directory.specs.Directory.{directoryCause}
 use Rattle.file.specs.Outcome.{Outcome}
 use Rattle.write_dir.specs.Open.{fileRecord, setIn, fileCause, streamCause}
-use Rattle.write_file.specs.NewFile.{newGrowth, newCause}
+use Rattle.write_file.specs.NewFile.{newGrowth, newFileCause}
 use Rattle.file.specs.Refresh.{missing, lengthCause, openCause, refreshedOnly}
 use Rattle.write_file.specs.Write.{larger, dataCause, writeCause, written}
 use Rattle.write_file.proofs.NewFileLaws.{space-enough}
@@ -33,7 +33,7 @@ use Rattle.write_length.proofs.KeepLaws.{resized-on}
 use Rattle.write_remove.proofs.KeepLaws.{removed-on}
 use Rattle.write.specs.Calls.{Call, New, Write, SetLength, Remove, step}
 use Rattle.write.specs.Consistent.{lay, root, rootClusters, rootBytes, setOf, streamAt, fileClusters}
-use Rattle.write.specs.Demand.{slotOf, Foreign}
+use Rattle.write.specs.Demand.{callSlot, Foreign}
 use Rattle.write.proofs.Scene.{both-clear, if-clear, stream-clear, fits-of, mapped}
 use Rattle.write.proofs.Answers.{decided-number, decided-carried, new-decided, write-decided, set-decided, remove-decided, broken-number, refused-volume}
 use Rattle.write.proofs.Open.{open-hint, open-at}
@@ -69,10 +69,10 @@ module _ (g : Geometry) (m d : List ℕ) (l : limits g (length d) m ≡ true) (i
         let r = stream-clear (lay g d) d m (fileRecord (lay g d) d (setIn (lay g d) d (root g d) i)) (parts .1) in
         record { reads = r .0; off = r .1; own = λ k q f. f .not-file (open-at g m d i hint e) q }
 
-new-parts : (g : Geometry) (m d : List ℕ) (name : List ℕ) (attributes hint : ℕ) → newCause (lay g d) d m (root g d) name attributes hint ≡ 0
+new-parts : (g : Geometry) (m d : List ℕ) (name : List ℕ) (attributes hint : ℕ) → newFileCause (lay g d) d m (root g d) name attributes hint ≡ 0
     → (inHeap (lay g d .count) hint ≡ true) × (directoryCause (lay g d) d (root g d) ≡ 0)
     × (newGrowth (lay g d) d (root g d) (length name) ≤ count (isUsable (lay g d) d m) 2 (lay g d .count))
-unfolding newCause heapCause
+unfolding newFileCause heapCause
 new-parts g m d name attributes hint e = (
   if-clear _ 2 (λ z. omega arith) (cause-none _ _ e .0),
   cause-none _ _ (cause-none _ _ e .1) .0,
@@ -99,8 +99,8 @@ module _ (g : Geometry) (m d : List ℕ) (i hint : ℕ) where
 -- ---- a call that is carried out
 
 went : (g : Geometry) (m d : List ℕ) → limits g (length d) m ≡ true → (c : Call) (slot : ℕ) (K : List ℕ → List ℕ → Type 0)
-    → Keeps (lay g d) (Reach g m d (slotOf c slot)) K → step g m d c .answer .number ≡ 0 → Went (lay g d) K d (step g m d c .volume)
-unfolding slotOf
+    → Keeps (lay g d) (Reach g m d (callSlot c slot)) K → step g m d c .answer .number ≡ 0 → Went (lay g d) K d (step g m d c .volume)
+unfolding callSlot
 went g m d l (New name attributes hash t hint) slot K s z =
     let r = new-decided g m d l name attributes hash t hint in
     let e = new-parts g m d name attributes hint (sym (decided-number r) ∙ z) in
@@ -134,7 +134,7 @@ went g m d l (Remove i hint) slot K s z =
 -- ---- any call on any volume
 
 pub step-keeps : (g : Geometry) (m d : List ℕ) (c : Call) (K : List ℕ → List ℕ → Type 0)
-    → Keeps (lay g d) (Reach g m d (slotOf c (step g m d c .answer .slot))) K → K d (step g m d c .volume)
+    → Keeps (lay g d) (Reach g m d (callSlot c (step g m d c .answer .slot))) K → K d (step g m d c .volume)
 step-keeps g m d c K s =
     elim (ℕ-discrete (step g m d c .answer .number) 0) [
       | yes z ↦ by (limits g (length d) m) refl z

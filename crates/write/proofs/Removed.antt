@@ -31,7 +31,7 @@ use Rattle.write.specs.Consistent.{Consistent, lay, root, rootBytes, set
 use Rattle.write.specs.Contents.{contents}
 use Rattle.write.specs.Model.{accepted, hasList, finds}
 use Rattle.write.specs.Space.{mustAdd}
-use Rattle.write.specs.Demand.{slotOf, hintOf, setAfter, entriesPut, rootAdds, slotAnswered, hintAnswered}
+use Rattle.write.specs.Demand.{callSlot, hintOf, setAfter, entriesPut, rootAdds, slotAnswered, hintAnswered}
 use Rattle.write.proofs.Family.{moved-drop}
 use Rattle.write.proofs.Scene.{members, ordered, slot-fit}
 use Rattle.write.proofs.Change.{Change, takes, contentsOf}
@@ -108,7 +108,7 @@ module _ (g : Geometry) (m d : List ℕ) (c : Consistent g m d) (i hint : ℕ) w
       ≡ carried 0 hint
       (shrinkIn y (unlinked y d (clustersIn y d (root g d)) i (setIn y d (root g d) i)) m (fileRecord y d (setIn y d (root g d) i)) 0 hint .volume)
       → Step g m d (Remove i hint)
-  unfolding unlinked setIn setOf rootBytes slotOf setAfter accepted contentsOf finds hasList rootAdds slotAnswered
+  unfolding unlinked setIn setOf rootBytes callSlot setAfter accepted contentsOf finds hasList rootAdds slotAnswered
   removed e q =
       carried-step g m d (Remove i hint) 0 hint d₂ 0 none c q refl refl refl hinted (change e) (sym (upd-same (contents g d) i none))
       (ap hasList (shows-before g m d c i s (own e) (open-file g m d i hint e)))

@@ -37,7 +37,7 @@ use Rattle.write_alloc.specs.Outcome.{Outcome}
 use Rattle.write_extend.specs.Extend.{extendIn}
 use Rattle.write_shrink.specs.Shrink.{keptRecord, shrinkCause, cut, shrinkIn}
 use Rattle.write_alloc.proofs.GrowLaws.{Grown, grown-other}
-use Rattle.write_extend.proofs.EnoughLaws.{Took, extend-done}
+use Rattle.write_extend.proofs.EnoughLaws.{Extended, extend-done}
 use Rattle.write_shrink.proofs.Cutting.{shrink-by}
 use Rattle.write_shrink.proofs.ShrinkLaws.{Shrunk, cut-reads, cut-shrunk}
 use Rattle.directory.proofs.DirectoryLaws.{clusters-heap, clusters-length}
@@ -84,7 +84,7 @@ module _ (y : Layout) (d m : List ℕ) (w : Fits y d) (mapped : Mapped y m) (S :
   abbrev o : Outcome
   o = extendIn y d m a n hint
 
-  took : Took y d m o old n
+  took : Extended y d m o old n
   took = extend-done y d m w a old (reads-as y d a own) n hint hint-in enough
 
   abbrev got : List ℕ

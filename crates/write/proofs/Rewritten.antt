@@ -40,7 +40,7 @@ use Rattle.write.specs.Calls.{Call, step}
 use Rattle.write.specs.Consistent.{Consistent, lay, root, rootClusters, rootBytes, setOf, fileClusters}
 use Rattle.write.specs.Contents.{shown, contents}
 use Rattle.write.specs.Model.{accepted, finds}
-use Rattle.write.specs.Demand.{slotOf, setAfter, entriesPut, rootAdds, slotAnswered, hintAnswered}
+use Rattle.write.specs.Demand.{callSlot, setAfter, entriesPut, rootAdds, slotAnswered, hintAnswered}
 use Rattle.write.proofs.Reading.{reads-as, bytes-length, record-count}
 use Rattle.write.proofs.Family.{Family, Moved, Stored, same-clusters, kept-member, moved-same, moved-again, store-member}
 use Rattle.write.proofs.Resized.{Longer, extend-member}
@@ -343,7 +343,7 @@ module _ (g : Geometry) (m d : List ℕ) (c : Consistent g m d) (i : ℕ) (s : L
 
     -- a call that answers 0 and leaves that volume
     pub rewritten-step : (cl : Call) (hint : ℕ) → step g m d cl ≡ carried 0 hint d′ → hint ≡ hintAnswered g d d′ cl
-        → slotOf cl 0 ≡ i → setAfter g m d cl ≡ some s′
+        → callSlot cl 0 ≡ i → setAfter g m d cl ≡ some s′
         → isDirectory s ≡ false → accepted (contents g d) cl 0 i ≡ some (shown B valid len)
         → finds cl (contents g d i) ≡ true → rootAdds g d cl ≡ 0 → slotAnswered g d cl ≡ 0 → Step g m d cl
     rewritten-step cl hint is hinted at after z shows found adds slot =

@@ -36,7 +36,7 @@ use Rattle.write.specs.Consistent.{Consistent, lay, root, rootBytes, set
 use Rattle.write.specs.Contents.{shown, contents}
 use Rattle.write.specs.Model.{resize, onto, accepted, hasList, finds}
 use Rattle.write.specs.Space.{beyond, mustAdd}
-use Rattle.write.specs.Demand.{slotOf, hintOf, setAfter, entriesPut, rootAdds, slotAnswered, hintAnswered}
+use Rattle.write.specs.Demand.{callSlot, hintOf, setAfter, entriesPut, rootAdds, slotAnswered, hintAnswered}
 use Rattle.write.proofs.Shown.{shown-shorter}
 use Rattle.write.proofs.Reading.{reads-as, bytes-length}
 use Rattle.write.proofs.Scene.{both-clear, members, fits, ordered, slot-number, slot-off, slot-takes, slot-fit}
@@ -235,7 +235,7 @@ module _ (g : Geometry) (m d : List ℕ) (c : Consistent g m d) (i len : ℕ) (t
   hinted = hint-none g d d₂ (SetLength i len t hint) (omega (arith, fewer))
 
   pub shorter-step : Step g m d (SetLength i len t hint)
-  unfolding slotOf accepted finds hasList rootAdds slotAnswered
+  unfolding callSlot accepted finds hasList rootAdds slotAnswered
   shorter-step =
       carried-step g m d (SetLength i len t hint) 0 hint d₂ 0 (some x) c done set-after refl refl hinted change
       (same ∙ sym (upd-same (contents g d) i (onto (λ l. resize l len) (contents g d i)))) (ap hasList before)

@@ -25,7 +25,7 @@ use Rattle.write.specs.Consistent.{Consistent, lay, rootBytes, fileAt, s
 use Rattle.write.specs.Contents.{contents}
 use Rattle.write.specs.Model.{overwrite, resize, onto, accepted, finds, fed, model}
 use Rattle.write.specs.Space.{clustersTaken}
-use Rattle.write.specs.Demand.{slotOf, setAfter, entriesAtSlot, rootAdds, rootGrown, slotAnswered, hintAnswered, Lost, Done, Demand}
+use Rattle.write.specs.Demand.{callSlot, setAfter, entriesAtSlot, rootAdds, rootGrown, slotAnswered, hintAnswered, Lost, Done, Demand}
 use Rattle.write.proofs.Scene.{lay-same}
 use Rattle.write.proofs.Change.{contentsOf, Change, change-consistent, change-lost, change-sets, change-root-bytes, change-root-clusters, change-other-clusters, change-other-bytes, change-contents, change-marks}
 use Rattle.write.proofs.Kept.{outer-kept, bits-kept, bitmap-rest-kept, foreign-kept, fats-alike, bitmaps-alike, lost-foreign}
@@ -38,7 +38,7 @@ pub record Step (g : Geometry) (m d : List ℕ) (c : Call) : Type 0 where
   pub consistent : Consistent g m (step g m d c .volume)
   pub agree : (j : ℕ) → contents g (step g m d c .volume) j ≡ fed (contents g d) c (step g m d c .answer) j
   -- what it finds at its slot
-  pub found : step g m d c .answer .number ≡ 0 → finds c (contents g d (slotOf c (step g m d c .answer .slot))) ≡ true
+  pub found : step g m d c .answer .number ≡ 0 → finds c (contents g d (callSlot c (step g m d c .answer .slot))) ≡ true
   pub done : Done g m d c (step g m d c)
   pub marks : allocatedCount (lay g d) (step g m d c .volume) + clustersTaken g d ≡ allocatedCount (lay g d) d + clustersTaken g (step g m d c .volume)
   -- marked clusters of no stream
@@ -79,8 +79,8 @@ refused-step g m d c w n =
     kept j = unfold fed in (rw (ne-eqb (step g m d c .answer .number) 0 n) refl)
 
 -- an accepted one changes the model at its slot alone
-accepted-other : (p : ℕ → Option (List ℕ)) (c : Call) (slot j : ℕ) → j ≢ slotOf c slot → accepted p c slot j ≡ p j
-unfolding accepted slotOf
+accepted-other : (p : ℕ → Option (List ℕ)) (c : Call) (slot j : ℕ) → j ≢ callSlot c slot → accepted p c slot j ≡ p j
+unfolding accepted callSlot
 accepted-other p (New name attributes hash t hint) slot j n = upd-other p slot (some []) j n
 accepted-other p (Write i offset bs t hint) slot j n =
     cond-case (λ (q : ℕ → Option (List ℕ)). q j ≡ p j) (eqb (length bs) 0) p (upd p i (onto (λ l. overwrite l offset bs) (p i))) (λ _. refl)
@@ -95,10 +95,10 @@ slot-entries g d i = refl
 
 -- an accepted call whose volume is changed at its slot alone, where the set that it leaves shows what the model has there
 accepted-step : (g : Geometry) (m d : List ℕ) (c : Call) → Consistent g m d → step g m d c .answer .number ≡ 0
-    → Change g m d (step g m d c .volume) (rootAdds g d c) (slotOf c (step g m d c .answer .slot)) (setAfter g m d c)
+    → Change g m d (step g m d c .volume) (rootAdds g d c) (callSlot c (step g m d c .answer .slot)) (setAfter g m d c)
     → contentsOf (lay g d) (step g m d c .volume) (setAfter g m d c)
-    ≡ accepted (contents g d) c (step g m d c .answer .slot) (slotOf c (step g m d c .answer .slot))
-    → finds c (contents g d (slotOf c (step g m d c .answer .slot))) ≡ true → step g m d c .answer .slot ≡ slotAnswered g d c
+    ≡ accepted (contents g d) c (step g m d c .answer .slot) (callSlot c (step g m d c .answer .slot))
+    → finds c (contents g d (callSlot c (step g m d c .answer .slot))) ≡ true → step g m d c .answer .slot ≡ slotAnswered g d c
     → step g m d c .answer .hint ≡ hintAnswered g d (step g m d c .volume) c
     → Step g m d c
 accepted-step g m d c w z h v f slot hinted = record {
@@ -132,41 +132,41 @@ accepted-step g m d c w z h v f slot hinted = record {
     fed-is j = unfold fed in (rw (eq-eqb (step g m d c .answer .number) 0 z) refl)
 
     at : (j : ℕ)
-        → upd (contents g d) (slotOf c (step g m d c .answer .slot)) (contentsOf (lay g d) (step g m d c .volume) (setAfter g m d c)) j
+        → upd (contents g d) (callSlot c (step g m d c .answer .slot)) (contentsOf (lay g d) (step g m d c .volume) (setAfter g m d c)) j
         ≡ accepted (contents g d) c (step g m d c .answer .slot) j
     at j =
         upd-case (λ (x : Option (List ℕ)). x ≡ accepted (contents g d) c (step g m d c .answer .slot) j) (contents g d)
-        (slotOf c (step g m d c .answer .slot)) (contentsOf (lay g d) (step g m d c .volume) (setAfter g m d c)) j
+        (callSlot c (step g m d c .answer .slot)) (contentsOf (lay g d) (step g m d c .volume) (setAfter g m d c)) j
         (λ q. v ∙ ap (accepted (contents g d) c (step g m d c .answer .slot)) (sym q))
         (λ q. sym (accepted-other (contents g d) c (step g m d c .answer .slot) j q))
 
-    entry : entriesAtSlot g (step g m d c .volume) (slotOf c (step g m d c .answer .slot)) ≡ setAfter g m d c
+    entry : entriesAtSlot g (step g m d c .volume) (callSlot c (step g m d c .answer .slot)) ≡ setAfter g m d c
     entry =
-        slot-entries g (step g m d c .volume) (slotOf c (step g m d c .answer .slot))
-        ∙ change-sets g m d (step g m d c .volume) _ _ _ w h (slotOf c (step g m d c .answer .slot))
-        ∙ upd-same (sets (rootBytes g d)) (slotOf c (step g m d c .answer .slot)) (setAfter g m d c)
+        slot-entries g (step g m d c .volume) (callSlot c (step g m d c .answer .slot))
+        ∙ change-sets g m d (step g m d c .volume) _ _ _ w h (callSlot c (step g m d c .answer .slot))
+        ∙ upd-same (sets (rootBytes g d)) (callSlot c (step g m d c .answer .slot)) (setAfter g m d c)
 
-    other-set : (j : ℕ) → j ≢ slotOf c (step g m d c .answer .slot) → entriesAtSlot g (step g m d c .volume) j ≡ entriesAtSlot g d j
+    other-set : (j : ℕ) → j ≢ callSlot c (step g m d c .answer .slot) → entriesAtSlot g (step g m d c .volume) j ≡ entriesAtSlot g d j
     other-set j n =
         slot-entries g (step g m d c .volume) j ∙ change-sets g m d (step g m d c .volume) _ _ _ w h j
-        ∙ upd-other (sets (rootBytes g d)) (slotOf c (step g m d c .answer .slot)) (setAfter g m d c) j n ∙ sym (slot-entries g d j)
+        ∙ upd-other (sets (rootBytes g d)) (callSlot c (step g m d c .answer .slot)) (setAfter g m d c) j n ∙ sym (slot-entries g d j)
 
 -- the same by its outcome and the set that it leaves
 pub carried-step : (g : Geometry) (m d : List ℕ) (c : Call) (slot hint : ℕ) (d′ : List ℕ) (more : ℕ) (o : Option (List ℕ)) → Consistent g m d
     → step g m d c ≡ carried slot hint d′ → setAfter g m d c ≡ o → rootAdds g d c ≡ more → slot ≡ slotAnswered g d c → hint ≡ hintAnswered g d d′ c
-    → Change g m d d′ more (slotOf c slot) o
-    → contentsOf (lay g d) d′ o ≡ accepted (contents g d) c slot (slotOf c slot)
-    → finds c (contents g d (slotOf c slot)) ≡ true
+    → Change g m d d′ more (callSlot c slot) o
+    → contentsOf (lay g d) d′ o ≡ accepted (contents g d) c slot (callSlot c slot)
+    → finds c (contents g d (callSlot c slot)) ≡ true
     → Step g m d c
 unfolding carried
 carried-step g m d c slot hint d′ more o w e after adds place hinted h shows found =
     accepted-step g m d c w (ap (λ (x : Outcome). x .answer .number) e)
-    (subst (λ (x : Outcome). Change g m d (x .volume) (rootAdds g d c) (slotOf c (x .answer .slot)) (setAfter g m d c)) (sym e)
-    (subst (Change g m d d′ (rootAdds g d c) (slotOf c slot)) (sym after) (subst (λ (k : ℕ). Change g m d d′ k (slotOf c slot) o) (sym adds) h)))
+    (subst (λ (x : Outcome). Change g m d (x .volume) (rootAdds g d c) (callSlot c (x .answer .slot)) (setAfter g m d c)) (sym e)
+    (subst (Change g m d d′ (rootAdds g d c) (callSlot c slot)) (sym after) (subst (λ (k : ℕ). Change g m d d′ k (callSlot c slot) o) (sym adds) h)))
     (subst
-    (λ (x : Outcome). contentsOf (lay g d) (x .volume) (setAfter g m d c) ≡ accepted (contents g d) c (x .answer .slot) (slotOf c (x .answer .slot)))
+    (λ (x : Outcome). contentsOf (lay g d) (x .volume) (setAfter g m d c) ≡ accepted (contents g d) c (x .answer .slot) (callSlot c (x .answer .slot)))
     (sym e) (ap (contentsOf (lay g d) d′) after ∙ shows))
-    (ap (λ (x : Outcome). finds c (contents g d (slotOf c (x .answer .slot)))) e ∙ found)
+    (ap (λ (x : Outcome). finds c (contents g d (callSlot c (x .answer .slot)))) e ∙ found)
     (ap (λ (x : Outcome). x .answer .slot) e ∙ place)
     (ap (λ (x : Outcome). x .answer .hint) e ∙ hinted ∙ ap (λ (x : Outcome). hintAnswered g d (x .volume) c) (sym e))
 
@@ -217,7 +217,7 @@ module _ (g : Geometry) (m : List ℕ) (one : (d : List ℕ) (c : Call) → Cons
   run-intact d (c ∷ cs) w k l =
       let s = one d c w in
       let v = step g m d c .volume in
-      intact-again (lay g d) d v (run g m v cs) k (s .done .foreign-kept k (lost-foreign g m d (slotOf c (step g m d c .answer .slot)) k l))
+      intact-again (lay g d) d v (run g m v cs) k (s .done .foreign-kept k (lost-foreign g m d (callSlot c (step g m d c .answer .slot)) k l))
       (subst (λ (y : Layout). Intact y v (run g m v cs) k) (lay-same g d v (s .done .same-length)) (run-intact v cs (s .consistent) k (s .lost k l)))
 
   pub every : (d : List ℕ) (cs : List Call) → Consistent g m d → Demand g m d cs
@@ -226,7 +226,7 @@ module _ (g : Geometry) (m : List ℕ) (one : (d : List ℕ) (c : Call) → Cons
     contents-agree = run-contents d cs w;
     slots-fit = λ before rest e c z.
         let v = run g m d before in
-        ap (finds c) (sym (run-contents d before w (slotOf c (step g m v c .answer .slot)))) ∙ one v c (run-consistent d before w) .found z;
+        ap (finds c) (sym (run-contents d before w (callSlot c (step g m v c .answer .slot)))) ∙ one v c (run-consistent d before w) .found z;
     each-call = λ before rest e c. one (run g m d before) c (run-consistent d before w) .done;
     marks-add-up = run-marks d cs w;
     lost-kept = run-lost d cs w;

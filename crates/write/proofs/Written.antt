@@ -44,7 +44,7 @@ use Rattle.write.specs.Consistent.{Consistent, lay, root, rootBytes, set
 use Rattle.write.specs.Contents.{shown, contents}
 use Rattle.write.specs.Model.{overwrite, resize, onto, accepted, hasList, finds}
 use Rattle.write.specs.Space.{beyond, mustAdd}
-use Rattle.write.specs.Demand.{slotOf, hintOf, setAfter, rootAdds, slotAnswered, clustersGrown, hintAnswered}
+use Rattle.write.specs.Demand.{callSlot, hintOf, setAfter, rootAdds, slotAnswered, clustersGrown, hintAnswered}
 use Rattle.write.proofs.Shown.{shown-written, shown-longer, shown-same}
 use Rattle.write.proofs.Reading.{record-empty, record-count}
 use Rattle.write.proofs.Scene.{both-clear, slot-number, slot-fit, fits}
@@ -101,7 +101,7 @@ module _ (g : Geometry) (m d : List ℕ) (c : Consistent g m d) where
     now f = ap (onto f) before ∙ (unfold onto in refl)
 
     -- the entry refreshed, and nothing else
-    refreshed-step : (cl : Call) (t : Stamp) → step g m d cl ≡ refreshedOnly y d (root g d) i s t hint → slotOf cl 0 ≡ i
+    refreshed-step : (cl : Call) (t : Stamp) → step g m d cl ≡ refreshedOnly y d (root g d) i s t hint → callSlot cl 0 ≡ i
         → setAfter g m d cl ≡ some (recorded s old (validLength s) (dataLength s) t)
         → accepted (contents g d) cl 0 i ≡ some (shown B (validLength s) (dataLength s))
         → finds cl (contents g d i) ≡ true → rootAdds g d cl ≡ 0 → slotAnswered g d cl ≡ 0 → hintOf cl ≡ hint → mustAdd g d cl ≡ 0 → Step g m d cl
@@ -158,7 +158,7 @@ module _ (g : Geometry) (m d : List ℕ) (c : Consistent g m d) where
                   ∙ hint-some g d left cl (λ x. z (sym beyond-is ∙ sym added ∙ x))
             ]
 
-        grown-step : step g m d cl ≡ carried 0 (o .answer .hint) left → slotOf cl 0 ≡ i → setAfter g m d cl ≡ some (recorded s (o .answer .allocation) valid len t)
+        grown-step : step g m d cl ≡ carried 0 (o .answer .hint) left → callSlot cl 0 ≡ i → setAfter g m d cl ≡ some (recorded s (o .answer .allocation) valid len t)
             → accepted (contents g d) cl 0 i ≡ some (shown A valid len)
             → finds cl (contents g d i) ≡ true → rootAdds g d cl ≡ 0 → slotAnswered g d cl ≡ 0 → Step g m d cl
         grown-step is at after shows found adds slot =
@@ -188,7 +188,7 @@ module _ (g : Geometry) (m d : List ℕ) (c : Consistent g m d) where
     -- with no data
     write-none : openCause y d m (root g d) i hint ≡ 0 → length bs ≡ 0 → step g m d W ≡ refreshedOnly y d (root g d) i (setOf g d i) t hint → Step g m d W
     write-none clear z is =
-        refreshed-step i hint clear W t is (unfold slotOf in refl) (unfold setAfter in (unfold streamAt in (rw (eq-eqb (length bs) 0 z) refl)))
+        refreshed-step i hint clear W t is (unfold callSlot in refl) (unfold setAfter in (unfold streamAt in (rw (eq-eqb (length bs) 0 z) refl)))
         (unfold accepted in (rw (eq-eqb (length bs) 0 z) (before i hint clear))) (unfold finds in (listed i hint clear)) (unfold rootAdds in refl)
         (unfold slotAnswered in refl) (unfold hintOf in refl) (unfold mustAdd in (rw (eq-eqb (length bs) 0 z) refl))
 
@@ -248,7 +248,7 @@ module _ (g : Geometry) (m d : List ℕ) (c : Consistent g m d) where
       write-some is =
           grown-step i hint clear len some-len more fit W (withData y (x .volume) ks valid offset bs) all (larger valid end) t stream
           (larger-mono valid (dataLength (setOf g d i)) end (valid-le i hint clear)) (unfold hintOf in refl)
-          (unfold mustAdd in (rw (ne-eqb (length bs) 0 n) refl)) (λ l. unfold clustersGrown in refl) (is ∙ (unfold written in refl)) (unfold slotOf in refl)
+          (unfold mustAdd in (rw (ne-eqb (length bs) 0 n) refl)) (λ l. unfold clustersGrown in refl) (is ∙ (unfold written in refl)) (unfold callSlot in refl)
           (unfold setAfter in (unfold streamAt in (rw (ne-eqb (length bs) 0 n) refl))) (unfold accepted in (rw (ne-eqb (length bs) 0 n) model-has)) (unfold finds in (listed i hint clear)) (unfold rootAdds in refl)
           (unfold slotAnswered in refl)
 
@@ -310,7 +310,7 @@ module _ (g : Geometry) (m d : List ℕ) (c : Consistent g m d) where
     equal-step e =
         refreshed-step i hint open-clear L t
         (is-resized ∙ (unfold resized in (rw (le-ltb len len₀ (omega arith), eq-eqb len len₀ (sym e)) refl)))
-        (unfold slotOf in refl)
+        (unfold callSlot in refl)
         (unfold setAfter in (unfold streamAt in (rw (le-ltb len len₀ (omega arith)) kept)))
         (unfold accepted in (sized ∙ ap some same)) (unfold finds in (listed i hint open-clear)) (unfold rootAdds in refl)
         (unfold slotAnswered in refl) (unfold hintOf in refl) (unfold mustAdd in (unfold beyond in (omega (arith, ap (clustersFor (y .size)) e))))
@@ -384,7 +384,7 @@ module _ (g : Geometry) (m d : List ℕ) (c : Consistent g m d) where
           (omega (arith, valid-le i hint open-clear)) (unfold hintOf in refl) (unfold mustAdd in refl) (λ l. unfold clustersGrown in refl)
           (is-resized ∙ (unfold resized in (unfold longerFile in
           (rw (le-ltb len len₀ (omega arith), ne-eqb len len₀ (λ e. omega arith)) refl))))
-          (unfold slotOf in refl) (unfold setAfter in (unfold streamAt in (rw (le-ltb len len₀ (omega arith)) refl)))
+          (unfold callSlot in refl) (unfold setAfter in (unfold streamAt in (rw (le-ltb len len₀ (omega arith)) refl)))
           (unfold accepted in (sized ∙ ap some (sym longer-shows))) (unfold finds in (listed i hint open-clear)) (unfold rootAdds in refl)
           (unfold slotAnswered in refl)
 

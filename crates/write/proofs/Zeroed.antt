@@ -26,7 +26,7 @@ use Rattle.stream.proofs.Distinct.{stream-frame}
 use Rattle.stream.specs.Bytes.{bytesIn}
 use Rattle.directory.specs.Room.{withZeros}
 use Rattle.directory.proofs.DirectoryLaws.{clusters-heap, clusters-length}
-use Rattle.write_dir.specs.Place.{Grown, growBy}
+use Rattle.write_dir.specs.Place.{GrownDirectory, growBy}
 use Rattle.write_dir.proofs.AddedLaws.{Zeroed, zeroed-clusters, zeroed-count, grow-many}
 use Rattle.write_dir.proofs.GrownLaws.{zeroed-off, zeroed-bytes, zeroed-in, Led, grow-led}
 use Rattle.write.proofs.Reading.{number-of, reads-as}
@@ -34,7 +34,7 @@ use Rattle.write.proofs.Family.{Family, Outside, Moved, moved}
 use Rattle.write.proofs.Resized.{Mapped}
 
 -- w is member i with n zeroed clusters more
-pub record Wider (y : Layout) (d : List ℕ) (S : ℕ → Option Allocation) (i : ℕ) (a : Allocation) (n : ℕ) (w : Grown) : Type 0 where
+pub record Wider (y : Layout) (d : List ℕ) (S : ℕ → Option Allocation) (i : ℕ) (a : Allocation) (n : ℕ) (w : GrownDirectory) : Type 0 where
   pub moved : Moved y d (w .volume) S i (some (w .directory))
   pub bytes : bytesIn y (w .volume) (w .directory) ≡ withZeros (bytesIn y d a) (n * y .size)
   pub kept : take (length (clustersIn y d a)) (clustersIn y (w .volume) (w .directory)) ≡ clustersIn y d a
@@ -42,7 +42,7 @@ pub record Wider (y : Layout) (d : List ℕ) (S : ℕ → Option Allocation) (i 
   pub counts : w .directory .count ≡ a .count + n
   pub led : Led a (w .directory)
 
-module _ (y : Layout) (m : List ℕ) (mapped : Mapped y m) (i n : ℕ) (g : Grown) (w : Fits y (g .volume)) (S : ℕ → Option Allocation)
+module _ (y : Layout) (m : List ℕ) (mapped : Mapped y m) (i n : ℕ) (g : GrownDirectory) (w : Fits y (g .volume)) (S : ℕ → Option Allocation)
     (f : Family y (g .volume) S) (s : S i ≡ some (g .directory)) (nonempty : g .directory .count ≢ 0) (hint-in : inHeap (y .count) (g .hint) ≡ true)
     (enough : n ≤ count (isUsable y (g .volume) m) 2 (y .count)) where
   abbrev d : List ℕ
@@ -55,7 +55,7 @@ module _ (y : Layout) (m : List ℕ) (mapped : Mapped y m) (i n : ℕ) (g : Grow
   old = clustersIn y (g .volume) (g .directory)
 
   -- grown
-  abbrev v : Grown
+  abbrev v : GrownDirectory
   v = growBy y m n g
 
   abbrev d′ : List ℕ

@@ -36,11 +36,11 @@ use Rattle.write.specs.Model.{finds, model}
 use Rattle.write.specs.Space.{clustersTaken, usable, mustAdd, otherCause}
 
 -- the slot that a call is about: a new file's is its answer
-unfoldable pub slotOf : Call → ℕ → ℕ
-slotOf (New name attributes hash t hint) slot = slot
-slotOf (Write i offset bs t hint) slot = i
-slotOf (SetLength i len t hint) slot = i
-slotOf (Remove i hint) slot = i
+unfoldable pub callSlot : Call → ℕ → ℕ
+callSlot (New name attributes hash t hint) slot = slot
+callSlot (Write i offset bs t hint) slot = i
+callSlot (SetLength i len t hint) slot = i
+callSlot (Remove i hint) slot = i
 
 -- the hint that a call carries
 unfoldable pub hintOf : Call → ℕ
@@ -136,20 +136,20 @@ pub record Done (g : Geometry) (m d : List ℕ) (c : Call) (o : Outcome) : Type 
   -- .. and the hint ..
   pub hint-defined : o .answer .number ≡ 0 → o .answer .hint ≡ hintAnswered g d (o .volume) c
   -- .. and leaves at its slot the set of the definitions
-  pub entries-defined : o .answer .number ≡ 0 → entriesAtSlot g (o .volume) (slotOf c (o .answer .slot)) ≡ setAfter g m d c
+  pub entries-defined : o .answer .number ≡ 0 → entriesAtSlot g (o .volume) (callSlot c (o .answer .slot)) ≡ setAfter g m d c
   -- the root has the bytes that it had, then the zeros that it got, with the call's own entries stored at its slot: labels, bitmap and
   -- up-case entries and other files' names, attributes and stamps are as they were
   pub root-bytes : o .answer .number ≡ 0
       → rootBytes g (o .volume)
-      ≡ splice (rootGrown g d c) (32 * slotOf c (o .answer .slot)) (entriesPut (setOf g d (slotOf c (o .answer .slot))) (setAfter g m d c))
+      ≡ splice (rootGrown g d c) (32 * callSlot c (o .answer .slot)) (entriesPut (setOf g d (callSlot c (o .answer .slot))) (setAfter g m d c))
   -- .. in the clusters that it had, and then those that it got
   pub root-clusters : o .answer .number ≡ 0 → take (length (rootClusters g d)) (rootClusters g (o .volume)) ≡ rootClusters g d
   -- every other slot has the set that it had, and none where it had none ..
-  pub others-set : (j : ℕ) → j ≢ slotOf c (o .answer .slot) → entriesAtSlot g (o .volume) j ≡ entriesAtSlot g d j
+  pub others-set : (j : ℕ) → j ≢ callSlot c (o .answer .slot) → entriesAtSlot g (o .volume) j ≡ entriesAtSlot g d j
   -- .. and its stream, a directory's too, the clusters ..
-  pub others-clusters : (j : ℕ) → j ≢ slotOf c (o .answer .slot) → fileAt g d j ≡ true → fileClusters g (o .volume) j ≡ fileClusters g d j
+  pub others-clusters : (j : ℕ) → j ≢ callSlot c (o .answer .slot) → fileAt g d j ≡ true → fileClusters g (o .volume) j ≡ fileClusters g d j
   -- .. and the bytes that it had
-  pub others-bytes : (j : ℕ) → j ≢ slotOf c (o .answer .slot) → fileAt g d j ≡ true → fileBytes g (o .volume) j ≡ fileBytes g d j
+  pub others-bytes : (j : ℕ) → j ≢ callSlot c (o .answer .slot) → fileAt g d j ≡ true → fileBytes g (o .volume) j ≡ fileBytes g d j
   -- no byte of no cluster changes: boot sectors, FAT entries 0 and 1, what follows the last entry, what lies behind the heap
   pub outer-kept : (p : ℕ) → Outer (lay g d) p → getD (o .volume) p 0 ≡ getD d p 0
   -- nor does a bit past C "in the bitmap that is read"
@@ -158,7 +158,7 @@ pub record Done (g : Geometry) (m d : List ℕ) (c : Call) (o : Outcome) : Type 
   -- nor a byte of a bitmap's clusters behind the bitmap
   pub bitmap-rest-kept : RestKept (lay g d) d (o .volume)
   -- nor anything of a cluster that was not usable and is neither the root's nor of the stream at the call's slot
-  pub foreign-kept : (k : ℕ) → Foreign g m d (slotOf c (o .answer .slot)) k → Intact (lay g d) d (o .volume) k
+  pub foreign-kept : (k : ℕ) → Foreign g m d (callSlot c (o .answer .slot)) k → Intact (lay g d) d (o .volume) k
   -- of two FATs, a cluster's entry is as it was in both or alike in both ("FAT stores go to every FAT") ..
   pub fats-alike : lay g d .two ≡ true → (k : ℕ) → inHeap (lay g d .count) k ≡ true
       → Twins (fat0At (lay g d) d k) (fat1At (lay g d) d k) (fat0At (lay g d) (o .volume) k) (fat1At (lay g d) (o .volume) k)
@@ -174,7 +174,7 @@ pub record Demand (g : Geometry) (m d : List ℕ) (cs : List Call) : Type 0 wher
   -- at every point of the list, its end included, any call that is accepted finds at its slot what it has to: a new file takes no slot
   -- that the model has just then, any other call changes a list of the model
   pub slots-fit : (before rest : List Call) → cs ≡ before ++ rest → (c : Call) → step g m (run g m d before) c .answer .number ≡ 0
-      → finds c (model (contents g d) before (answers g m d before) (slotOf c (step g m (run g m d before) c .answer .slot))) ≡ true
+      → finds c (model (contents g d) before (answers g m d before) (callSlot c (step g m (run g m d before) c .answer .slot))) ≡ true
   -- and there any call does what the definitions say, and no more
   pub each-call : (before rest : List Call) → cs ≡ before ++ rest → (c : Call) → Done g m (run g m d before) c (step g m (run g m d before) c)
   -- marked clusters add up: as many more are marked as lengths and root take more

@@ -32,7 +32,7 @@ use Rattle.write_alloc.specs.declared.answer.Answer.{Answer}
 use Rattle.choice.specs.declared.choice.Choice.the-variants.{Run, Scattered, TooFew}
 use Rattle.write_alloc.specs.Outcome.{Outcome, unchanged}
 use Rattle.stream.specs.Stream.{empty}
-use Rattle.write_alloc.specs.Allocate.{nearCause, newCause, newRun, newChain, newStream, allocateIn, allocateClusters}
+use Rattle.write_alloc.specs.Allocate.{nearCause, allocateCause, newRun, newChain, newStream, allocateIn, allocateClusters}
 use Rattle.choice.proofs.ChoiceLaws.{length-around, in-around, chosen-scattered, count-few}
 use Rattle.write_alloc.specs.declared.take.Taken.{Taken}
 use Rattle.write_alloc.proofs.TakeLaws.{Before, Inside, taken-prev, taken-twice, last-twice}
@@ -190,18 +190,18 @@ module _ (y : Layout) (d m : List ℕ) (n : ℕ) (given : Bool) (near hint : ℕ
   in-none e z = rw (heap-kept (y .count) hint e, eq-eqb n 0 z) refl
 
   pub in-free : inHeap (y .count) hint ≡ true → (n ≡ 0 → ⊥) → freeCount y d < n → allocateIn y d m n given near hint ≡ unchanged 7 empty hint d
-  unfolding allocateIn firstCause newCause
+  unfolding allocateIn firstCause allocateCause
   in-free e z h = rw (heap-kept (y .count) hint e, ne-eqb n 0 z, space-met n (freeCount y d) h) refl
 
   pub in-near : inHeap (y .count) hint ≡ true → (n ≡ 0 → ⊥) → n ≤ freeCount y d → eqb (nearCause (y .count) given near) 0 ≡ false
       → allocateIn y d m n given near hint ≡ unchanged 2 empty hint d
-  unfolding allocateIn firstCause newCause
+  unfolding allocateIn firstCause allocateCause
   in-near e z h f =
       rw (heap-kept (y .count) hint e, ne-eqb n 0 z, space-kept n (freeCount y d) h, near-two (y .count) given near f) refl
 
   pub in-new : inHeap (y .count) hint ≡ true → (n ≡ 0 → ⊥) → n ≤ freeCount y d → eqb (nearCause (y .count) given near) 0 ≡ true
       → allocateIn y d m n given near hint ≡ newStream y d m n (cond given near hint) hint
-  unfolding allocateIn firstCause newCause
+  unfolding allocateIn firstCause allocateCause
   in-new e z h f =
       let u = isUsable y d m in
       let s = start-heap (y .count) given near hint e f in

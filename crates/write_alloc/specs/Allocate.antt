@@ -26,8 +26,8 @@ unfoldable pub nearCause : ℕ → Bool → ℕ → ℕ
 nearCause C given near = cond given (heapCause C near) 0
 
 -- what refuses an allocation of n clusters, n not 0: more than the free count, near, too few usable ones
-unfoldable pub newCause : Layout → List ℕ → List ℕ → ℕ → Bool → ℕ → ℕ
-newCause y d m n given near =
+unfoldable pub allocateCause : Layout → List ℕ → List ℕ → ℕ → Bool → ℕ → ℕ
+allocateCause y d m n given near =
     firstCause
     (spaceCause n (freeCount y d) ∷ nearCause (y .count) given near ∷ spaceCause n (count (isUsable y d m) 2 (y .count)) ∷ [])
 
@@ -58,7 +58,7 @@ newStream y d m n start hint =
 -- allocate on a volume that keeps the limits: the hint's 2; 0 clusters give the empty record; the causes above; the new stream
 unfoldable pub allocateIn : Layout → List ℕ → List ℕ → ℕ → Bool → ℕ → ℕ → Outcome
 allocateIn y d m n given near hint =
-    let number = firstCause (heapCause (y .count) hint ∷ cond (eqb n 0) 0 (newCause y d m n given near) ∷ []) in
+    let number = firstCause (heapCause (y .count) hint ∷ cond (eqb n 0) 0 (allocateCause y d m n given near) ∷ []) in
     cond (eqb number 0)
     (cond (eqb n 0) (unchanged 0 empty hint d) (newStream y d m n (cond given near hint) hint))
     (unchanged number empty hint d)

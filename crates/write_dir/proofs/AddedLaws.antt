@@ -37,9 +37,9 @@ use Rattle.write_alloc.specs.declared.answer.Answer.{Answer}
 use Rattle.write_alloc.specs.Outcome.{Outcome}
 use Rattle.write_extend.specs.Extend.{extendIn}
 use Rattle.write_alloc.proofs.GrowLaws.{fresh-unmarked}
-use Rattle.write_extend.proofs.EnoughLaws.{Took, extend-done, usable-grown}
+use Rattle.write_extend.proofs.EnoughLaws.{Extended, extend-done, usable-grown}
 use Rattle.write_dir.specs.declared.place.Added.{Added}
-use Rattle.write_dir.specs.Place.{Grown, standing, addedOf, growOne, growBy, Growable}
+use Rattle.write_dir.specs.Place.{GrownDirectory, standing, addedOf, growOne, growBy, Growable}
 
 -- ---- lists
 
@@ -68,7 +68,7 @@ splice-whole c s e =
 -- ---- a directory that grew
 
 -- the volume and directory of w: d with the clusters `new` taken, each full of zeros, and the directory reads as `old` followed by them
-pub record Zeroed (y : Layout) (d m : List ℕ) (w : Grown) (old new : List ℕ) : Type 0 where
+pub record Zeroed (y : Layout) (d m : List ℕ) (w : GrownDirectory) (old new : List ℕ) : Type 0 where
   pub long : length (w .volume) ≡ length d
   pub reads : streamOf y (w .volume) (w .directory) ≡ listed (old ++ new)
   pub plains : every (plain y) new ≡ true
@@ -82,7 +82,7 @@ pub record Zeroed (y : Layout) (d m : List ℕ) (w : Grown) (old new : List ℕ)
   pub counts : markedCount y (w .volume) ≡ markedCount y d + length new
   pub hint-in : inHeap (y .count) (w .hint) ≡ true
 
-module _ (y : Layout) (d m : List ℕ) (w : Grown) (old new : List ℕ) (z : Zeroed y d m w old new) where
+module _ (y : Layout) (d m : List ℕ) (w : GrownDirectory) (old new : List ℕ) (z : Zeroed y d m w old new) where
   pub zeroed-clusters : clustersIn y (w .volume) (w .directory) ≡ old ++ new
   unfolding clustersIn
   zeroed-clusters = ap clustersOf (z .reads)
@@ -94,7 +94,7 @@ module _ (y : Layout) (d m : List ℕ) (w : Grown) (old new : List ℕ) (z : Zer
       ∙ length-append old new
 
 -- no cluster is added
-none-zeroed : (y : Layout) (m : List ℕ) (w : Grown) (ks : List ℕ) → streamOf y (w .volume) (w .directory) ≡ listed ks → inHeap (y .count) (w .hint) ≡ true
+none-zeroed : (y : Layout) (m : List ℕ) (w : GrownDirectory) (ks : List ℕ) → streamOf y (w .volume) (w .directory) ≡ listed ks → inHeap (y .count) (w .hint) ≡ true
     → Zeroed y (w .volume) m w ks []
 none-zeroed y m w ks e h = record {
   long = refl;
@@ -113,7 +113,7 @@ none-zeroed y m w ks e h = record {
 
 -- ---- one cluster
 
-module _ (y : Layout) (m : List ℕ) (w : Grown) (fits : Fits y (w .volume)) (mapped : (k : ℕ) → isBitmapCluster y k ≡ true → inMap m k ≡ true)
+module _ (y : Layout) (m : List ℕ) (w : GrownDirectory) (fits : Fits y (w .volume)) (mapped : (k : ℕ) → isBitmapCluster y k ≡ true → inMap m k ≡ true)
     (ks : List ℕ) (e : streamOf y (w .volume) (w .directory) ≡ listed ks) (hint-in : inHeap (y .count) (w .hint) ≡ true)
     (h : 1 ≤ count (isUsable y (w .volume) m) 2 (y .count)) where
   abbrev d : List ℕ
@@ -122,7 +122,7 @@ module _ (y : Layout) (m : List ℕ) (w : Grown) (fits : Fits y (w .volume)) (ma
   abbrev o : Outcome
   o = extendIn y (w .volume) m (w .directory) 1 (w .hint)
 
-  took : Took y d m o ks 1
+  took : Extended y d m o ks 1
   took = extend-done y d m fits (w .directory) ks e 1 (w .hint) hint-in h
 
   abbrev d₁ : List ℕ
@@ -234,7 +234,7 @@ module _ (y : Layout) (m : List ℕ) (w : Grown) (fits : Fits y (w .volume)) (ma
 
 -- ---- one after the other
 
-module _ (y : Layout) (d m : List ℕ) (w₁ w₂ : Grown) (old new₁ new₂ : List ℕ) (a : Zeroed y d m w₁ old new₁) (b : Zeroed y (w₁ .volume) m w₂ (old ++ new₁) new₂) where
+module _ (y : Layout) (d m : List ℕ) (w₁ w₂ : GrownDirectory) (old new₁ new₂ : List ℕ) (a : Zeroed y d m w₁ old new₁) (b : Zeroed y (w₁ .volume) m w₂ (old ++ new₁) new₂) where
   off₁ : (k : ℕ) → Mem k new₂ → Mem k new₁ → ⊥
   off₁ k i j = false≢true (sym (b .unmarked k i) ∙ a .marks-new k j)
 
@@ -262,13 +262,13 @@ module _ (y : Layout) (d m : List ℕ) (w₁ w₂ : Grown) (old new₁ new₂ : 
     hint-in = b .hint-in;
   }
 
-pub by-step : (y : Layout) (m : List ℕ) (n : ℕ) (w : Grown) → 0 < n → growBy y m n w ≡ growBy y m (n - 1) (growOne y m w)
+pub by-step : (y : Layout) (m : List ℕ) (n : ℕ) (w : GrownDirectory) → 0 < n → growBy y m n w ≡ growBy y m (n - 1) (growOne y m w)
 unfolding growBy
 by-step y m zero w h = absurd (omega arith)
 by-step y m (suc n) w h = rw sub-one refl
 
 -- n clusters, as many as are usable
-pub grow-many : (y : Layout) (m : List ℕ) → ((k : ℕ) → isBitmapCluster y k ≡ true → inMap m k ≡ true) → (n : ℕ) (w : Grown) → Fits y (w .volume)
+pub grow-many : (y : Layout) (m : List ℕ) → ((k : ℕ) → isBitmapCluster y k ≡ true → inMap m k ≡ true) → (n : ℕ) (w : GrownDirectory) → Fits y (w .volume)
     → (ks : List ℕ) → streamOf y (w .volume) (w .directory) ≡ listed ks → inHeap (y .count) (w .hint) ≡ true
     → n ≤ count (isUsable y (w .volume) m) 2 (y .count)
     → (new : List ℕ) × (length new ≡ n) × Zeroed y (w .volume) m (growBy y m n w) ks new
@@ -307,7 +307,7 @@ module _ (y : Layout) (d m : List ℕ) (a : Allocation) (n hint : ℕ) (g : Grow
         let b = g .enough in
         let v : standing d′ (r .allocation) (r .hint) ≡ growOne y m (standing d a hint) =
         λ z. record { volume = q z; directory = p z .allocation; hint = p z .hint } in (
-          subst (λ (v : Grown). Growable y (v .volume) m (v .directory) (n - 1) (v .hint)) (sym v)
+          subst (λ (v : GrownDirectory). Growable y (v .volume) m (v .directory) (n - 1) (v .hint)) (sym v)
               (record {
                 reads = ap numberOf (s .reads) ∙ (unfold numberOf in refl);
                 mapped = g .mapped;
@@ -327,8 +327,8 @@ grow-is y d m a hint r d₁ d₂ p q e = (
   e ∙ ap₂ (λ (l : List ℕ) (b : Answer). putBytes y l (b .allocation .last) 0 (replicate (y .size) 0)) q p,
 )
 
-pub grow-end : (y : Layout) (m : List ℕ) (n : ℕ) (r : Added) (d : List ℕ) (v : Grown) → n ≤ 0 → growBy y m n (standing d (r .allocation) (r .hint)) ≡ v
+pub grow-end : (y : Layout) (m : List ℕ) (n : ℕ) (r : Added) (d : List ℕ) (v : GrownDirectory) → n ≤ 0 → growBy y m n (standing d (r .allocation) (r .hint)) ≡ v
     → (r ≡ addedOf v) × (d ≡ v .volume)
 unfolding growBy
-grow-end y m zero r d v h e = (λ z. record { allocation = e z .directory; hint = e z .hint }, ap (λ (v : Grown). v .volume) e)
+grow-end y m zero r d v h e = (λ z. record { allocation = e z .directory; hint = e z .hint }, ap (λ (v : GrownDirectory). v .volume) e)
 grow-end y m (suc n) r d v h e = absurd (omega arith)

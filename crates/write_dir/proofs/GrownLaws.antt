@@ -29,10 +29,10 @@ use Rattle.write_extend.specs.Extend.{extendIn, inPlace, longer, longerRun, lon
 use Rattle.write_extend.proofs.ExtendLaws.{longer-in, longer-out}
 use Rattle.write_extend.proofs.EnoughLaws.{grow-longer}
 use Rattle.directory.specs.Room.{withZeros}
-use Rattle.write_dir.specs.Place.{Grown, growOne, growBy}
+use Rattle.write_dir.specs.Place.{GrownDirectory, growOne, growBy}
 use Rattle.write_dir.proofs.AddedLaws.{Zeroed, zeroed-clusters, zeroed-count, grow-one}
 
-module _ (y : Layout) (d m : List ℕ) (w : Grown) (old new : List ℕ) (fits : Fits y d) (z : Zeroed y d m w old new) where
+module _ (y : Layout) (d m : List ℕ) (w : GrownDirectory) (old new : List ℕ) (fits : Fits y d) (z : Zeroed y d m w old new) where
   abbrev d′ : List ℕ
   d′ = w .volume
 
@@ -87,7 +87,7 @@ module _ (y : Layout) (d m : List ℕ) (fits : Fits y d) (a : Allocation) (hint 
           subst (λ (o : Outcome). Led a (o .answer .allocation)) (sym (longer-out y d m a 1 e))
           (unfold longerChain in (record { first = refl; flag = λ f. refl }))
 
-pub grow-led : (y : Layout) (m : List ℕ) → ((k : ℕ) → isBitmapCluster y k ≡ true → inMap m k ≡ true) → (n : ℕ) (w : Grown) → Fits y (w .volume)
+pub grow-led : (y : Layout) (m : List ℕ) → ((k : ℕ) → isBitmapCluster y k ≡ true → inMap m k ≡ true) → (n : ℕ) (w : GrownDirectory) → Fits y (w .volume)
     → (ks : List ℕ) → streamOf y (w .volume) (w .directory) ≡ listed ks → inHeap (y .count) (w .hint) ≡ true
     → n ≤ count (isUsable y (w .volume) m) 2 (y .count) → 1 ≤ w .directory .count
     → Led (w .directory) (growBy y m n w .directory)

@@ -30,7 +30,7 @@ use Rattle.write_alloc.proofs.KeepLaws.{Taking}
 use Rattle.write_extend.specs.Extend.{extendIn}
 use Rattle.write_extend.proofs.EnoughLaws.{extend-done}
 use Rattle.write_extend.proofs.KeepLaws.{extend-on}
-use Rattle.write_dir.specs.Place.{Grown, growOne, growBy}
+use Rattle.write_dir.specs.Place.{GrownDirectory, growOne, growBy}
 use Rattle.write_dir.proofs.AddedLaws.{Zeroed, grow-one}
 
 clusters-read : (y : Layout) (d : List ℕ) (a : Allocation) (ks : List ℕ) → streamOf y d a ≡ listed ks → clustersIn y d a ≡ ks
@@ -42,7 +42,7 @@ unfolding isUsable isFree
 usable-same y d e m k p q = rw (p, q) refl
 
 -- what is usable in a directory's volume after growth was usable before
-zeroed-usable : (y : Layout) (d m : List ℕ) (v : Grown) (old new : List ℕ) → every (marked y d) old ≡ true → Zeroed y d m v old new → (k : ℕ)
+zeroed-usable : (y : Layout) (d m : List ℕ) (v : GrownDirectory) (old new : List ℕ) → every (marked y d) old ≡ true → Zeroed y d m v old new → (k : ℕ)
     → inHeap (y .count) k ≡ true → isUsable y (v .volume) m k ≡ true → isUsable y d m k ≡ true
 zeroed-usable y d m v old new marks z k h e =
     let f : marked y (v .volume) k ≡ false = usable-facts y (v .volume) m k e .0 in
@@ -53,7 +53,7 @@ zeroed-usable y d m v old new marks z k h e =
     sym (usable-same y d (v .volume) m k mark entry) ∙ e
 
 -- the cluster that is added was usable
-added-usable : (y : Layout) (m : List ℕ) (v : Grown) → Fits y (v .volume) → (ks : List ℕ) → streamOf y (v .volume) (v .directory) ≡ listed ks
+added-usable : (y : Layout) (m : List ℕ) (v : GrownDirectory) → Fits y (v .volume) → (ks : List ℕ) → streamOf y (v .volume) (v .directory) ≡ listed ks
     → inHeap (y .count) (v .hint) ≡ true → 1 ≤ count (isUsable y (v .volume) m) 2 (y .count)
     → isUsable y (v .volume) m (extendIn y (v .volume) m (v .directory) 1 (v .hint) .answer .allocation .last) ≡ true
 added-usable y m v w ks e h some =
@@ -77,7 +77,7 @@ added-usable y m v w ks e h some =
 module _ (y : Layout) (P : ℕ → Type 0) (K : List ℕ → List ℕ → Type 0) (s : Keeps y P K) (d m : List ℕ)
     (mapped : (k : ℕ) → isBitmapCluster y k ≡ true → inMap m k ≡ true) where
   -- the clusters that the directory has then may be stored to, too
-  pub grow-on : (n : ℕ) (v : Grown) → Went y K d (v .volume) → Taking y P m (v .volume) → (ks : List ℕ)
+  pub grow-on : (n : ℕ) (v : GrownDirectory) → Went y K d (v .volume) → Taking y P m (v .volume) → (ks : List ℕ)
       → streamOf y (v .volume) (v .directory) ≡ listed ks → ((k : ℕ) → Mem k ks → P k) → inHeap (y .count) (v .hint) ≡ true
       → n ≤ count (isUsable y (v .volume) m) 2 (y .count)
       → Went y K d (growBy y m n v .volume) × ((k : ℕ) → Mem k (clustersIn y (growBy y m n v .volume) (growBy y m n v .directory)) → P k)

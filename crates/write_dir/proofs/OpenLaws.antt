@@ -41,7 +41,7 @@ use Rattle.directory.proofs.CursorLaws.{bytes-along, dir-heap, slot-bytes, alon
 use Rattle.directory.proofs.DirectoryLaws.{clusters-along}
 use Rattle.write_dir.specs.declared.place.Spot.{Spot}
 use Rattle.write_dir.specs.Place.{spotOf}
-use Rattle.write_dir.specs.Open.{fileRecord, entryCause, attributeCause, streamCause, setIn, fileCause, opened, openedStream, openFile}
+use Rattle.write_dir.specs.Open.{fileRecord, entryCause, directoryAttributeCause, streamCause, setIn, fileCause, opened, openedStream, openFile}
 
 -- ---- choices
 
@@ -361,23 +361,23 @@ module _ (y : Layout) (d m : List ℕ) (first n : ℕ) (v : Walked) (e : v ≡ w
 -- ---- the bytes of a set
 
 module _ (C size : ℕ) (s : List ℕ) where
-  pub cause-ill : wellFormed C size s ≡ false → 10 ≡ cond (wellFormed C size s) (attributeCause s) 10
+  pub cause-ill : wellFormed C size s ≡ false → 10 ≡ cond (wellFormed C size s) (directoryAttributeCause s) 10
   cause-ill e = rw e refl
 
-  pub cause-directory : wellFormed C size s ≡ true → isDirectory s ≡ true → 11 ≡ cond (wellFormed C size s) (attributeCause s) 10
-  unfolding attributeCause
+  pub cause-directory : wellFormed C size s ≡ true → isDirectory s ≡ true → 11 ≡ cond (wellFormed C size s) (directoryAttributeCause s) 10
+  unfolding directoryAttributeCause
   cause-directory e f = rw (e, f) refl
 
-  pub cause-none : wellFormed C size s ≡ true → isDirectory s ≡ false → 0 ≡ cond (wellFormed C size s) (attributeCause s) 10
-  unfolding attributeCause
+  pub cause-none : wellFormed C size s ≡ true → isDirectory s ≡ false → 0 ≡ cond (wellFormed C size s) (directoryAttributeCause s) 10
+  unfolding directoryAttributeCause
   cause-none e f = rw (e, f) refl
 
-  pub cause-formed : cond (wellFormed C size s) (attributeCause s) 10 ≡ 0 → wellFormed C size s ≡ true
+  pub cause-formed : cond (wellFormed C size s) (directoryAttributeCause s) 10 ≡ 0 → wellFormed C size s ≡ true
   cause-formed e = by (wellFormed C size s) refl
     where
       by : (b : Bool) → wellFormed C size s ≡ b → wellFormed C size s ≡ true
       by true q = q
-      by false q = absurd (omega (arith, e, cond-no (wellFormed C size s) (attributeCause s) 10 q))
+      by false q = absurd (omega (arith, e, cond-no (wellFormed C size s) (directoryAttributeCause s) 10 q))
 
 -- ---- the file at a slot
 
@@ -391,7 +391,7 @@ module _ (y : Layout) (d m : List ℕ) (dir : Allocation) (i : ℕ) where
   abbrev a : Allocation
   a = fileRecord y d s
 
-  cause-is : fileCause y d m dir i ≡ firstCause (entryCause y bs i ∷ attributeCause s ∷ streamCause y d m a ∷ [])
+  cause-is : fileCause y d m dir i ≡ firstCause (entryCause y bs i ∷ directoryAttributeCause s ∷ streamCause y d m a ∷ [])
   unfolding fileCause
   cause-is = refl
 
@@ -403,20 +403,20 @@ module _ (y : Layout) (d m : List ℕ) (dir : Allocation) (i : ℕ) where
   unsound e =
       let q : entryCause y bs i ≡ 10 = unfold entryCause in (rw e refl) in
       opened-not 10 a (λ z. omega arith)
-      ∙ open-is 10 (cause-is ∙ cause-met (entryCause y bs i) (attributeCause s ∷ streamCause y d m a ∷ []) (λ z. omega arith) ∙ q)
+      ∙ open-is 10 (cause-is ∙ cause-met (entryCause y bs i) (directoryAttributeCause s ∷ streamCause y d m a ∷ []) (λ z. omega arith) ∙ q)
 
   pub file-none : wholeSet (bytesIn y d dir) i ≡ 0 → record { number = 10; allocation = empty } ≡ openFile y d m dir i
   file-none e = unsound (sound-none bs i (y .count) (y .size) e)
 
-  module _ (some : wholeSet (bytesIn y d dir) i ≢ 0) (c : ℕ) (e : c ≡ cond (wellFormed (y .count) (y .size) (setIn y d dir i)) (attributeCause (setIn y d dir i)) 10) where
+  module _ (some : wholeSet (bytesIn y d dir) i ≢ 0) (c : ℕ) (e : c ≡ cond (wellFormed (y .count) (y .size) (setIn y d dir i)) (directoryAttributeCause (setIn y d dir i)) 10) where
     sound-is : isSound (y .count) (y .size) bs i ≡ wellFormed (y .count) (y .size) s
     sound-is = sym (sound-set y d dir i some)
 
-    skip : wellFormed (y .count) (y .size) s ≡ true → fileCause y d m dir i ≡ firstCause (attributeCause s ∷ streamCause y d m a ∷ [])
-    skip f = cause-is ∙ cause-skip (entryCause y bs i) (attributeCause s ∷ streamCause y d m a ∷ []) (unfold entryCause in (rw (sound-is ∙ f) refl))
+    skip : wellFormed (y .count) (y .size) s ≡ true → fileCause y d m dir i ≡ firstCause (directoryAttributeCause s ∷ streamCause y d m a ∷ [])
+    skip f = cause-is ∙ cause-skip (entryCause y bs i) (directoryAttributeCause s ∷ streamCause y d m a ∷ []) (unfold entryCause in (rw (sound-is ∙ f) refl))
 
-    attribute-is : wellFormed (y .count) (y .size) s ≡ true → c ≡ attributeCause s
-    attribute-is f = e ∙ cond-yes (wellFormed (y .count) (y .size) s) (attributeCause s) 10 f
+    attribute-is : wellFormed (y .count) (y .size) s ≡ true → c ≡ directoryAttributeCause s
+    attribute-is f = e ∙ cond-yes (wellFormed (y .count) (y .size) s) (directoryAttributeCause s) 10 f
 
     pub file-not : c ≢ 0 → record { number = c; allocation = empty } ≡ openFile y d m dir i
     file-not z = by (wellFormed (y .count) (y .size) s) refl
@@ -424,9 +424,9 @@ module _ (y : Layout) (d m : List ℕ) (dir : Allocation) (i : ℕ) where
         by : (b : Bool) → wellFormed (y .count) (y .size) s ≡ b → record { number = c; allocation = empty } ≡ openFile y d m dir i
         by true f =
             let t = attribute-is f in
-            opened-not c a z ∙ open-is c (skip f ∙ cause-met (attributeCause s) (streamCause y d m a ∷ []) (λ q. z (t ∙ q)) ∙ sym t)
+            opened-not c a z ∙ open-is c (skip f ∙ cause-met (directoryAttributeCause s) (streamCause y d m a ∷ []) (λ q. z (t ∙ q)) ∙ sym t)
         by false f =
-            let t : c ≡ 10 = e ∙ cond-no (wellFormed (y .count) (y .size) s) (attributeCause s) 10 f in
+            let t : c ≡ 10 = e ∙ cond-no (wellFormed (y .count) (y .size) s) (directoryAttributeCause s) 10 f in
             ap (λ (x : ℕ). record { number = x; allocation = empty }) t ∙ unsound (sound-is ∙ f)
 
     pub file-formed : c ≡ 0 → wellFormed (y .count) (y .size) (setIn y d dir i) ≡ true
@@ -436,4 +436,4 @@ module _ (y : Layout) (d m : List ℕ) (dir : Allocation) (i : ℕ) where
     file-stream z =
         let f = file-formed z in
         open-is (streamCause y d m a)
-        (skip f ∙ cause-skip (attributeCause s) (streamCause y d m a ∷ []) (sym (attribute-is f) ∙ z) ∙ cause-last (streamCause y d m a))
+        (skip f ∙ cause-skip (directoryAttributeCause s) (streamCause y d m a ∷ []) (sym (attribute-is f) ∙ z) ∙ cause-last (streamCause y d m a))

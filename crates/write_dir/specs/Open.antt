@@ -33,8 +33,8 @@ unfoldable pub entryCause : Layout → List ℕ → ℕ → ℕ
 entryCause y bs slot = cond (isSound (y .count) (y .size) bs slot) 0 10
 
 -- 11: the entry has attribute 0x10
-unfoldable pub attributeCause : List ℕ → ℕ
-attributeCause s = cond (isDirectory s) 11 0
+unfoldable pub directoryAttributeCause : List ℕ → ℕ
+directoryAttributeCause s = cond (isDirectory s) 11 0
 
 -- what refuses a stream: 3 or 4 from a chain's walk, 5 for another count, 6; then 9 for a system cluster among its clusters
 unfoldable pub streamCause : Layout → List ℕ → List ℕ → Allocation → ℕ
@@ -48,7 +48,7 @@ setIn y d a slot = setAt (bytesIn y d a) slot
 unfoldable pub fileCause : Layout → List ℕ → List ℕ → Allocation → ℕ → ℕ
 fileCause y d m a slot =
     let s = setIn y d a slot in
-    firstCause (entryCause y (bytesIn y d a) slot ∷ attributeCause s ∷ streamCause y d m (fileRecord y d s) ∷ [])
+    firstCause (entryCause y (bytesIn y d a) slot ∷ directoryAttributeCause s ∷ streamCause y d m (fileRecord y d s) ∷ [])
 
 -- a number with a record, which is empty beside a refusal
 unfoldable pub opened : ℕ → Allocation → Opened

@@ -17,13 +17,13 @@ use Rattle.write_dir.specs.declared.place.Spot.{Spot}
 use Rattle.write_dir.specs.declared.place.Added.{Added}
 
 -- a directory, the volume it stands on, and the hint
-pub record Grown : Type 0 where
+pub record GrownDirectory : Type 0 where
   pub volume : List ℕ
   pub directory : Allocation
   pub hint : ℕ
 
 -- one cluster added through the extension rule, from the last one on, and zeroed
-unfoldable pub growOne : Layout → List ℕ → Grown → Grown
+unfoldable pub growOne : Layout → List ℕ → GrownDirectory → GrownDirectory
 growOne y m w =
     let o = extendIn y (w .volume) m (w .directory) 1 (w .hint) in
     record {
@@ -33,15 +33,15 @@ growOne y m w =
     }
 
 -- n clusters, one at a time
-unfoldable pub growBy : Layout → List ℕ → ℕ → Grown → Grown
+unfoldable pub growBy : Layout → List ℕ → ℕ → GrownDirectory → GrownDirectory
 growBy y m zero w = w
 growBy y m (suc n) w = growBy y m n (growOne y m w)
 
 -- a directory with its volume and hint, and what a call answers of it
-abbrev pub standing : List ℕ → Allocation → ℕ → Grown
+abbrev pub standing : List ℕ → Allocation → ℕ → GrownDirectory
 standing d a hint = record { volume = d; directory = a; hint = hint }
 
-abbrev pub addedOf : Grown → Added
+abbrev pub addedOf : GrownDirectory → Added
 addedOf w = record { allocation = w .directory; hint = w .hint }
 
 -- n clusters may be added: the record reads, so many are usable, and the map has every bitmap cluster, so that none is a bitmap's

@@ -12,7 +12,7 @@ ghost use Rattle.stream.specs.Stream.{numberOf, streamOf, walkCause, clustersOf
 ghost use Rattle.entry_set.specs.Sound.{wellFormed};
 ghost use Rattle.stream.specs.Bytes.{bytesIn};
 ghost use Rattle.directory.specs.Entries.{entryCount, beforeEnd, entriesAt, wholeSet, isSound};
-ghost use Rattle.write_dir.specs.Open.{fileRecord, attributeCause, setIn, openedStream, openFile};
+ghost use Rattle.write_dir.specs.Open.{fileRecord, directoryAttributeCause, setIn, openedStream, openFile};
 use crate::place::Spot;
 use boot::layout::Layout;
 use stream::allocation::Allocation;
@@ -91,19 +91,6 @@ pub fn copy_set(vol: &[u8], y: Layout, dir: Allocation, slot: u32) -> [u8; 608]
     let spot = crate::place::locate(vol, y, dir, slot);
     let n = spot_entries(vol, y, spot);
     copy_entries(vol, y, dir, slot, n)
-}
-
-// Whether a slot has a sound file entry.
-pub fn sound(vol: &[u8], y: Layout, dir: Allocation, slot: u32) -> bool
-    requires { ⌜ Laid y × ((length (now vol) ≡ y .len) × (Apart y × (numberOf (streamOf y (now vol) dir) ≡ 0))) ⌝ }
-    ensures { λ r. ⌜ r ≡ isSound (y .count) (y .size) (bytesIn y (now (vol .entry)) dir) slot ⌝ }
-{
-    let n = file_entries(vol, y, dir, slot);
-    if n == 0 {
-        return false;
-    }
-    let set = copy_entries(vol, y, dir, slot, n);
-    entry_set::entry::well_formed(&set, y.count, y.size)
 }
 
 // The number of a walked chain that should have n clusters.
@@ -209,7 +196,7 @@ fn open_stream(vol: &[u8], map: &[u8], y: Layout, set: &[u8; 608]) -> Opened
 // What refuses a set's bytes: 10 where they are not well formed, else 11 for a directory.
 fn set_cause(set: &[u8; 608], count: u32, size: usize) -> u32
     requires { ⌜ (1 ≤ size) × (count ≤ 32768) ⌝ }
-    ensures { λ r. ⌜ r ≡ cond (wellFormed count size (now (set .entry))) (attributeCause (now (set .entry))) 10 ⌝ }
+    ensures { λ r. ⌜ r ≡ cond (wellFormed count size (now (set .entry))) (directoryAttributeCause (now (set .entry))) 10 ⌝ }
 {
     if entry_set::entry::well_formed(set, count, size) {
         if entry_set::entry::is_directory(set) {

@@ -29,7 +29,7 @@ pub struct Added {
 }
 
 // The cluster after k in a stream that has so many from k on, 0 where k is the last one.
-fn next_of(vol: &[u8], y: Layout, run: bool, k: u32, left: u32) -> u32
+fn cluster_after(vol: &[u8], y: Layout, run: bool, k: u32, left: u32) -> u32
     requires { ⌜ Laid y × ((length (now vol) ≡ y .len) × (every (inHeap (y .count)) (along (fatEntry y (now vol)) run k left) ≡ true)) ⌝ }
     ensures { λ r. ⌜ r ≡ getD (along (fatEntry y (now (vol .entry))) run k left) 1 0 ⌝ }
 {
@@ -48,8 +48,8 @@ pub fn locate(vol: &[u8], y: Layout, dir: Allocation, slot: u32) -> Spot
     let steps = (place / y.size) as u32;
     let left = dir.count - steps;
     let first = stream::bytes::seek(vol, y, dir.no_fat_chain, dir.first, steps);
-    let second = next_of(vol, y, dir.no_fat_chain, first, left);
-    let third = next_of(vol, y, dir.no_fat_chain, second, left - 1);
+    let second = cluster_after(vol, y, dir.no_fat_chain, first, left);
+    let third = cluster_after(vol, y, dir.no_fat_chain, second, left - 1);
     Spot {
         first: first,
         second: second,

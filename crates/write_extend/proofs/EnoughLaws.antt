@@ -247,7 +247,7 @@ module _ (y : Layout) (d m : List ℕ) (w : Fits y d) (a : Allocation) (n hint :
 -- ---- the same for a record that reads as clusters ks
 
 -- an outcome that takes n clusters after `old`, with a hint in the heap
-pub record Took (y : Layout) (d m : List ℕ) (o : Outcome) (old : List ℕ) (n : ℕ) : Type 0 where
+pub record Extended (y : Layout) (d m : List ℕ) (o : Outcome) (old : List ℕ) (n : ℕ) : Type 0 where
   pub new : List ℕ
   pub many : length new ≡ n
   pub grows : Grows y d m o old new
@@ -255,7 +255,7 @@ pub record Took (y : Layout) (d m : List ℕ) (o : Outcome) (old : List ℕ) (n 
 
 -- nothing is taken
 none-took : (y : Layout) (d m : List ℕ) (a : Allocation) (hint : ℕ) (ks : List ℕ) → streamOf y d a ≡ listed ks → inHeap (y .count) hint ≡ true
-    → Took y d m (unchanged 0 a hint d) ks 0
+    → Extended y d m (unchanged 0 a hint d) ks 0
 none-took y d m a hint ks e h = record {
   new = [];
   many = refl;
@@ -288,14 +288,14 @@ module _ (y : Layout) (d m : List ℕ) (w : Fits y d) (a : Allocation) (ks : Lis
   extend-seven = read-seven y d m w a n hint reads hint-in
 
   -- and where there are enough, n are taken after those that it has
-  pub extend-done : n ≤ count (isUsable y d m) 2 (y .count) → Took y d m (extendIn y d m a n hint) ks n
+  pub extend-done : n ≤ count (isUsable y d m) 2 (y .count) → Extended y d m (extendIn y d m a n hint) ks n
   extend-done h =
       elim (ℕ-discrete n 0) [
-        | yes z ↦ subst (λ (x : ℕ). Took y d m (extendIn y d m a n hint) ks x) (sym z)
-            (subst (λ (o : Outcome). Took y d m o ks 0) (sym (extend-none y d m a n hint hint-in z)) (none-took y d m a hint ks e hint-in))
+        | yes z ↦ subst (λ (x : ℕ). Extended y d m (extendIn y d m a n hint) ks x) (sym z)
+            (subst (λ (o : Outcome). Extended y d m o ks 0) (sym (extend-none y d m a n hint hint-in z)) (none-took y d m a hint ks e hint-in))
         | no z ↦ (elim (ℕ-discrete (a .count) 0) [
-          | yes c ↦ subst (λ (o : Outcome). Took y d m o ks n) (sym (grow-new y d m w a n hint reads hint-in c (omega arith) h)) (fresh-took c (omega arith))
-          | no c ↦ subst (λ (o : Outcome). Took y d m o ks n) (sym (grow-longer y d m w a n hint reads hint-in (omega arith) (omega arith) h)) (longer-took (omega arith) (omega arith))
+          | yes c ↦ subst (λ (o : Outcome). Extended y d m o ks n) (sym (grow-new y d m w a n hint reads hint-in c (omega arith) h)) (fresh-took c (omega arith))
+          | no c ↦ subst (λ (o : Outcome). Extended y d m o ks n) (sym (grow-longer y d m w a n hint reads hint-in (omega arith) (omega arith) h)) (longer-took (omega arith) (omega arith))
         ])
       ]
     where
@@ -303,7 +303,7 @@ module _ (y : Layout) (d m : List ℕ) (w : Fits y d) (a : Allocation) (ks : Lis
       nil [] q = refl
       nil (x ∷ xs) q = absurd (omega arith)
 
-      fresh-took : a .count ≡ 0 → 1 ≤ n → Took y d m (newStream y d m n hint hint) ks n
+      fresh-took : a .count ≡ 0 → 1 ≤ n → Extended y d m (newStream y d m n hint hint) ks n
       fresh-took c one = record {
         new = chosen (isUsable y d m) (y .count) n hint;
         many = new-length y d m w a n hint reads hint-in h;
@@ -314,7 +314,7 @@ module _ (y : Layout) (d m : List ℕ) (w : Fits y d) (a : Allocation) (ks : Lis
         hint = new-hint y d m w a n hint reads hint-in one h;
       }
 
-      longer-took : 1 ≤ a .count → 1 ≤ n → Took y d m (longer y d m a n) ks n
+      longer-took : 1 ≤ a .count → 1 ≤ n → Extended y d m (longer y d m a n) ks n
       longer-took some one = record {
         new = chosen (isUsable y d m) (y .count) n (wrap (y .count) (a .last + 1));
         many = length-more y d m w a n some one (grow-allowed y d m w a n hint reads hint-in h);

@@ -130,13 +130,13 @@ link-run y d a e = rw e refl
 
 -- ---- the end of a record that reads
 
-pub record Tail (y : Layout) (d : List ℕ) (a : Allocation) : Type 0 where
+pub record LastOf (y : Layout) (d : List ℕ) (a : Allocation) : Type 0 where
   pub heap : inHeap (y .count) (a .last) ≡ true
   pub mark : marked y d (a .last) ≡ true
   pub run-end : a .«no_fat_chain» ≡ true → a .first + a .count ≡ a .last + 1
   pub run-marks : a .«no_fat_chain» ≡ true → (j : ℕ) → a .first ≤ j → j < a .first + a .count → marked y d j ≡ true
 
-pub tail-of : (y : Layout) (d : List ℕ) (a : Allocation) → numberOf (streamOf y d a) ≡ 0 → 1 ≤ a .count → Tail y d a
+pub tail-of : (y : Layout) (d : List ℕ) (a : Allocation) → numberOf (streamOf y d a) ≡ 0 → 1 ≤ a .count → LastOf y d a
 tail-of y d a e h =
     let r = stream-read y d a e in
     let ks = clustersOf (streamOf y d a) in
@@ -168,7 +168,7 @@ module _ (y : Layout) (m : List ℕ) where
         r .1 ∙ mark-fat y d w k (k + 1) j (omega arith),
       )
 
-  module _ (d : List ℕ) (a : Allocation) (w : Fits y d) (t : Tail y d a) (some : 1 ≤ a .count) where
+  module _ (d : List ℕ) (a : Allocation) (w : Fits y d) (t : LastOf y d a) (some : 1 ≤ a .count) where
     last-small : a .last < y .count + 2
     last-small = in-heap (y .count) (a .last) (t .heap) .1
 
@@ -208,7 +208,7 @@ wrap-heap C k c l =
 
 module _ (y : Layout) (d m : List ℕ) (a : Allocation) (n : ℕ) (l : Laid y) (x : Apart y) (long : length d ≡ y .len) (some : 1 ≤ a .count) (one : 1 ≤ n)
     (ok : Allowed y d m a n) where
-  tail : Tail y d a
+  tail : LastOf y d a
   tail = tail-of y d a (ok .reads) some
 
   fits : Fits y d

@@ -44,7 +44,7 @@ use Rattle.choice.proofs.ChoiceLaws.{choose-after, chosen-run, length-chosen, f
 use Rattle.search.proofs.Lowest.{Whole, all-whole}
 use Rattle.write_alloc.proofs.TakeLaws.{Before, Inside, fits-linkRun, run-link, run-link-other, run-link-byte}
 use Rattle.write_alloc.proofs.AllocateLaws.{wrap-low}
-use Rattle.write_extend.proofs.ExtendLaws.{more-free, more-few, more-none, allowed-of, place-usable, place-facts, link-chain, link-run, Tail, tail-of, old-kept, length-old, start-in, longer-in, longer-out, given-done, given-refused, extend-hint, extend-none, extend-new, extend-longer, extend-refused}
+use Rattle.write_extend.proofs.ExtendLaws.{more-free, more-few, more-none, allowed-of, place-usable, place-facts, link-chain, link-run, LastOf, tail-of, old-kept, length-old, start-in, longer-in, longer-out, given-done, given-refused, extend-hint, extend-none, extend-new, extend-longer, extend-refused}
 use Rattle.write_alloc.proofs.GrowLaws.{Fresh, Grows, fresh-inside, fresh-unmarked, run-fresh, run-new, run-other, run-grown, sealed-long, sealed-mark, sealed-mark-other, sealed-fat, sealed-byte, sealed-count, sealed-end, sealed-links, sealed-first, chosen-fresh, allocate-kept}
 
 -- ---- lists
@@ -81,7 +81,7 @@ module _ (y : Layout) (d : List ℕ) (w : Fits y d) (a : Allocation) (some : 1 �
   read : Read (y .count) (fatEntry y d) (marked y d) a old
   read = stream-read y d a reads
 
-  tail : Tail y d a
+  tail : LastOf y d a
   tail = tail-of y d a reads some
 
   nonzero : a .count ≡ 0 → ⊥

@@ -160,7 +160,7 @@ fn extend_empty(vol: &mut [u8], map: &[u8], y: Layout, a: Allocation, n: u32, hi
 }
 
 // Extend on a volume that keeps the limits.
-pub fn extend_in(vol: &mut [u8], map: &[u8], y: Layout, a: Allocation, n: u32, hint: u32) -> Answer
+fn extend_in(vol: &mut [u8], map: &[u8], y: Layout, a: Allocation, n: u32, hint: u32) -> Answer
     requires { ⌜ Laid y × ((length (now vol) ≡ y .len) × ((y .count ≤ 8 * length (now map)) × Apart y)) ⌝ }
     ensures { λ r. ⌜ (r ≡ extendIn y (now (vol .entry)) (now (map .entry)) a n hint .answer) × (now (vol .exit) ≡ extendIn y (now (vol .entry)) (now (map .entry)) a n hint .volume) ⌝ }
 {

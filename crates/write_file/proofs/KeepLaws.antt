@@ -21,7 +21,7 @@ use Rattle.entry_set.specs.declared.stamp.Stamp.{Stamp}
 use Rattle.entry_set.specs.Fields.{validLength, dataLength}
 use Rattle.file.specs.Outcome.{carried}
 use Rattle.write_dir.specs.Open.{fileRecord}
-use Rattle.write_dir.specs.Place.{Grown, growBy}
+use Rattle.write_dir.specs.Place.{GrownDirectory, growBy}
 use Rattle.write_dir.proofs.AddedLaws.{grow-many, zeroed-clusters}
 use Rattle.write_dir.proofs.KeepLaws.{grow-on}
 use Rattle.write_file.specs.NewFile.{placed}
@@ -35,7 +35,7 @@ module _ (y : Layout) (P : ℕ → Type 0) (K : List ℕ → List ℕ → Type 0
   -- ---- a new file
 
   module _ (hint : ℕ) (hint-in : inHeap (y .count) hint ≡ true) (more : ℕ) (enough : more ≤ count (isUsable y d m) 2 (y .count)) where
-    abbrev v : Grown
+    abbrev v : GrownDirectory
     v = record { volume = d; directory = a; hint = hint }
 
     abbrev old : List ℕ

@@ -46,12 +46,12 @@ use Rattle.directory.proofs.DirectoryLaws.{clusters-length}
 use Rattle.write_dir.specs.declared.place.Spot.{Spot}
 use Rattle.write_dir.specs.declared.place.Added.{Added}
 use Rattle.file.specs.Outcome.{refuse, carried}
-use Rattle.write_dir.specs.Place.{Grown, Growable, standing, addedOf, growBy, spotOf, spotClusters}
+use Rattle.write_dir.specs.Place.{GrownDirectory, Growable, standing, addedOf, growBy, spotOf, spotClusters}
 use Rattle.write_dir.proofs.AddedLaws.{Zeroed, grow-many}
 use Rattle.write_dir.proofs.GrownLaws.{zeroed-in}
 use Rattle.write_dir.proofs.PlaceLaws.{spot-store}
 use Rattle.file.specs.Opens.{Stands}
-use Rattle.write_file.specs.NewFile.{Ready, newGrowth, newCause, placed, newFileIn, newFile}
+use Rattle.write_file.specs.NewFile.{Ready, newGrowth, newFileCause, placed, newFileIn, newFile}
 use Rattle.file.proofs.RefreshLaws.{stream-is}
 use Rattle.file.proofs.OpenLaws.{root-number, root-record}
 use Rattle.file.proofs.CallLaws.{mapped, directory-reads, directory-plain}
@@ -79,7 +79,7 @@ module _ (y : Layout) (d m : List ℕ) (a : Allocation) (hint : ℕ) (r : Ready 
     abbrev bs : List ℕ
     bs = bytesIn y d a
 
-    abbrev w : Grown
+    abbrev w : GrownDirectory
     w = growBy y m (room .clusters) (standing d a hint)
 
     grown : (new : List ℕ) × (length new ≡ room .clusters) × Zeroed y d m w (clustersIn y d a) new
@@ -140,7 +140,7 @@ module _ (y : Layout) (d m : List ℕ) (a : Allocation) (hint : ℕ) (r : Ready 
       same = λ z. record { volume = q z; directory = p z .allocation; hint = p z .hint }
 
       pub insert-stands : Stands y e (v .allocation) (room .slot) n
-      insert-stands = subst (λ (x : Grown). Stands y (x .volume) (x .directory) (room .slot) n) (sym same) grown-stands
+      insert-stands = subst (λ (x : GrownDirectory). Stands y (x .volume) (x .directory) (room .slot) n) (sym same) grown-stands
 
       pub insert-shown : (o : Spot) (s e′ : List ℕ) → o ≡ spotOf y e (v .allocation) (room .slot)
           → e′ ≡ storeAt y e (spotClusters o) (o .at) (take (32 * n) s)
@@ -156,8 +156,8 @@ module _ (y : Layout) (d m : List ℕ) (a : Allocation) (hint : ℕ) (r : Ready 
           ap (λ (x : Spot). storeAt y e (spotClusters x) (x .at) bs) f
           ∙ spot-store y e (v .allocation) (room .slot) (r .laid) e bs (omega arith) (omega (arith, h₁ .room, ap (λ (x : ℕ). x * y .size) c)) in
           let t : storeAt y e (clustersIn y e (v .allocation)) (32 * room .slot) bs ≡ storeAt y (w .volume) (clustersIn y (w .volume) (w .directory)) (32 * room .slot) bs =
-          ap (λ (x : Grown). storeAt y (x .volume) (clustersIn y (x .volume) (x .directory)) (32 * room .slot) bs) same in (
-            ap₂ (λ (i k : ℕ). record { number = 0; slot = i; hint = k }) (sym slot-there) (ap (λ (x : Grown). x .hint) same),
+          ap (λ (x : GrownDirectory). storeAt y (x .volume) (clustersIn y (x .volume) (x .directory)) (32 * room .slot) bs) same in (
+            ap₂ (λ (i k : ℕ). record { number = 0; slot = i; hint = k }) (sym slot-there) (ap (λ (x : GrownDirectory). x .hint) same),
             h ∙ b ∙ t ∙ ap (λ (i : ℕ). storeAt y (w .volume) (clustersIn y (w .volume) (w .directory)) (32 * i) bs) (sym slot-there),
           )
 
@@ -182,11 +182,11 @@ space-seven n k e = elim (decLt k n) [ yes h ↦ space-met n k h | no h ↦ absu
 -- ---- what refuses a new file
 
 module _ (y : Layout) (d m : List ℕ) (a : Allocation) (name : List ℕ) (attributes hash : ℕ) (t : Stamps) (hint : ℕ) where
-  refused-is : (n : ℕ) → newCause y d m a name attributes hint ≡ n → n ≢ 0 → newFileIn y d m a name attributes hash t hint ≡ refuse n hint d
+  refused-is : (n : ℕ) → newFileCause y d m a name attributes hint ≡ n → n ≢ 0 → newFileIn y d m a name attributes hash t hint ≡ refuse n hint d
   unfolding newFileIn
   refused-is n e z = rw (e, ne-eqb n 0 z) refl
 
-  done-is : newCause y d m a name attributes hint ≡ 0
+  done-is : newFileCause y d m a name attributes hint ≡ 0
       → newFileIn y d m a name attributes hash t hint
       ≡ placed y (growBy y m (newGrowth y d a (length name)) (standing d a hint)) (newEntries (length name)) (newSet name attributes hash t)
   unfolding newFileIn
@@ -199,18 +199,18 @@ module _ (y : Layout) (d m : List ℕ) (a : Allocation) (name : List ℕ) (attri
   pub new-hint : inHeap (y .count) hint ≡ false → newFileIn y d m a name attributes hash t hint ≡ refuse 2 hint d
   new-hint e =
       let h = heap-met (y .count) hint e in
-      refused-is 2 (unfold newCause in (cause-met (heapCause (y .count) hint) (directoryCause y d a ∷ later) (λ z. omega arith) ∙ h)) (λ z. omega arith)
+      refused-is 2 (unfold newFileCause in (cause-met (heapCause (y .count) hint) (directoryCause y d a ∷ later) (λ z. omega arith) ∙ h)) (λ z. omega arith)
 
   module _ (h : inHeap (y .count) hint ≡ true) where
-    past-hint : newCause y d m a name attributes hint ≡ firstCause (directoryCause y d a ∷ later)
-    unfolding newCause
+    past-hint : newFileCause y d m a name attributes hint ≡ firstCause (directoryCause y d a ∷ later)
+    unfolding newFileCause
     past-hint = cause-skip (heapCause (y .count) hint) (directoryCause y d a ∷ later) (heap-kept (y .count) hint h)
 
     pub new-directory : (n : ℕ) → n ≡ directoryCause y d a → n ≢ 0 → newFileIn y d m a name attributes hash t hint ≡ refuse n hint d
     new-directory n e z = refused-is n (past-hint ∙ cause-met (directoryCause y d a) later (λ q. z (e ∙ q)) ∙ sym e) z
 
   module _ (r : Ready y d m a hint) where
-    cause-is : newCause y d m a name attributes hint ≡ firstCause later
+    cause-is : newFileCause y d m a name attributes hint ≡ firstCause later
     cause-is = past-hint (r .hint-in) ∙ cause-skip (directoryCause y d a) later (r .directory)
 
     pub new-name : nameOk name ≡ false → newFileIn y d m a name attributes hash t hint ≡ refuse 12 hint d
@@ -219,7 +219,7 @@ module _ (y : Layout) (d m : List ℕ) (a : Allocation) (name : List ℕ) (attri
         refused-is 12 (cause-is ∙ cause-met (nameCause name) _ (λ z. omega arith) ∙ q) (λ z. omega arith)
 
     module _ (n : nameOk name ≡ true) where
-      past-name : newCause y d m a name attributes hint
+      past-name : newFileCause y d m a name attributes hint
           ≡ firstCause (attributeCause attributes ∷ spaceCause (newGrowth y d a (length name)) (count (isUsable y d m) 2 (y .count)) ∷ [])
       past-name = cause-is ∙ cause-skip (nameCause name) _ (unfold nameCause in (rw n refl))
 
@@ -233,7 +233,7 @@ module _ (y : Layout) (d m : List ℕ) (a : Allocation) (name : List ℕ) (attri
         unfolding newGrowth roomFor
         growth-is = ap (λ (x : Room). x .clusters) at ∙ ap (growth (y .size) (bytesIn y d a)) en
 
-        last-cause : newCause y d m a name attributes hint ≡ spaceCause (room .clusters) (count (isUsable y d m) 2 (y .count))
+        last-cause : newFileCause y d m a name attributes hint ≡ spaceCause (room .clusters) (count (isUsable y d m) 2 (y .count))
         last-cause =
             past-name ∙ cause-skip (attributeCause attributes) _ (unfold attributeCause in (rw b refl)) ∙ cause-last _
             ∙ ap (λ (x : ℕ). spaceCause x (count (isUsable y d m) 2 (y .count))) (sym growth-is)
@@ -245,7 +245,7 @@ module _ (y : Layout) (d m : List ℕ) (a : Allocation) (name : List ℕ) (attri
         pub new-done : (c : ℕ) → c ≡ spaceCause (room .clusters) (count (isUsable y d m) 2 (y .count)) → c ≡ 0 → (s : List ℕ) → s ≡ newSet name attributes hash t
             → newFileIn y d m a name attributes hash t hint ≡ placed y (growBy y m (room .clusters) (standing d a hint)) k s
         new-done c e z s f =
-            let q : newCause y d m a name attributes hint ≡ 0 = last-cause ∙ sym e ∙ z in
+            let q : newFileCause y d m a name attributes hint ≡ 0 = last-cause ∙ sym e ∙ z in
             done-is q ∙ ap (λ (x : ℕ). placed y (growBy y m x (standing d a hint)) (newEntries (length name)) (newSet name attributes hash t)) (sym growth-is)
             ∙ ap₂ (λ (x : ℕ) (l : List ℕ). placed y (growBy y m (room .clusters) (standing d a hint)) x l) (sym en) (sym f)
 

@@ -22,15 +22,15 @@ use Rattle.directory.specs.Directory.{rootRecord, directoryCause}
 use Rattle.stream.specs.Stream.{clustersIn}
 use Rattle.directory.specs.Room.{freeRun, slotOf, growth}
 use Rattle.file.specs.Outcome.{Outcome, refuse, carried}
-use Rattle.write_dir.specs.Place.{Grown, growBy}
+use Rattle.write_dir.specs.Place.{GrownDirectory, growBy}
 
 -- the zeroed clusters that directory a must add for the set of a name of n units
 unfoldable pub newGrowth : Layout → List ℕ → Allocation → ℕ → ℕ
 newGrowth y d a n = growth (y .size) (bytesIn y d a) (newEntries n)
 
 -- what refuses a new file in directory a, in this order: the hint, the directory's, 12, 13, 7
-unfoldable pub newCause : Layout → List ℕ → List ℕ → Allocation → List ℕ → ℕ → ℕ → ℕ
-newCause y d m a name attributes hint =
+unfoldable pub newFileCause : Layout → List ℕ → List ℕ → Allocation → List ℕ → ℕ → ℕ → ℕ
+newFileCause y d m a name attributes hint =
     firstCause
     (heapCause (y .count) hint
     ∷ directoryCause y d a
@@ -40,7 +40,7 @@ newCause y d m a name attributes hint =
     ∷ [])
 
 -- the set stored at the lowest slot that has room in a directory
-unfoldable pub placed : Layout → Grown → ℕ → List ℕ → Outcome
+unfoldable pub placed : Layout → GrownDirectory → ℕ → List ℕ → Outcome
 placed y w n s =
     let slot = slotOf (freeRun (bytesIn y (w .volume) (w .directory)) n) in
     carried slot (w .hint) (storeAt y (w .volume) (clustersIn y (w .volume) (w .directory)) (32 * slot) (take (32 * n) s))
@@ -48,7 +48,7 @@ placed y w n s =
 -- a new file in directory a
 unfoldable pub newFileIn : Layout → List ℕ → List ℕ → Allocation → List ℕ → ℕ → ℕ → Stamps → ℕ → Outcome
 newFileIn y d m a name attributes hash t hint =
-    let number = newCause y d m a name attributes hint in
+    let number = newFileCause y d m a name attributes hint in
     cond (eqb number 0)
     (placed y (growBy y m (newGrowth y d a (length name)) (record { volume = d; directory = a; hint = hint })) (newEntries (length name))
     (newSet name attributes hash t))

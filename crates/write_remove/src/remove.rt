@@ -21,7 +21,7 @@ fn unset(vol: &mut [u8], y: Layout, dir: Allocation, slot: u32, set: [u8; 608])
 {
     let spot = write_dir::place::locate(vol, y, dir, slot);
     let n = file::refresh::entries_of(&set);
-    let out = entry_set::set::unset(set, n);
+    let out = entry_set::set::cleared(set, n);
     write_dir::place::write_set(vol, y, spot, &out, n);
 }
 

@@ -78,7 +78,7 @@ fn end_kept(vol: &mut [u8], y: Layout, a: Allocation, keep: u32, last: u32)
 }
 
 // Frees n clusters of a stream: the next one is read before a cluster's FAT entry becomes 0.
-fn free_clusters(vol: &mut [u8], y: Layout, run: bool, first: u32, n: u32)
+fn free_from(vol: &mut [u8], y: Layout, run: bool, first: u32, n: u32)
     requires { ⌜ Laid y × ((length (now vol) ≡ y .len) × (Apart y × ((every (inHeap (y .count)) (along (fatEntry y (now vol)) run first n) ≡ true) × Distinct (along (fatEntry y (now vol)) run first n)))) ⌝ }
     ensures { λ _. ⌜ now (vol .exit) ≡ freeAll y (now (vol .entry)) (along (fatEntry y (now (vol .entry))) run first n) ⌝ }
 {
@@ -135,7 +135,7 @@ fn shrink_read(vol: &mut [u8], map: &[u8], y: Layout, a: Allocation, keep: u32, 
         };
     }
     end_kept(vol, y, a, keep, part.last);
-    free_clusters(vol, y, a.no_fat_chain, part.next, a.count - keep);
+    free_from(vol, y, a.no_fat_chain, part.next, a.count - keep);
     Answer {
         number: 0,
         allocation: kept_record(a.first, keep, part),

@@ -32,26 +32,26 @@ seek-requires c κs =
     let s = slot-inside (a .y) (a .vol .now) (a .dir) (a .slot) (p .0) (p .1 .1 .0) (p .1 .1 .1) in
     (p .0, (p .1 .0, s .before))
 
-next-of-requires : tie.Need-next-of-requires
-next-of-requires c κs =
+cluster-after-requires : tie.Need-cluster-after-requires
+cluster-after-requires c κs =
     let a = c .before .before .before .before .args in
     let p = c .before .before .before .before .pre in
     let s = slot-inside (a .y) (a .vol .now) (a .dir) (a .slot) (p .0) (p .1 .1 .0) (p .1 .1 .1) in
     (p .0, (p .1 .0, rw (c .seek .ensures) (s .heap)))
 
-sub-next-of : tie.Need-sub-next-of
-sub-next-of c =
+sub-cluster-after : tie.Need-sub-cluster-after
+sub-cluster-after c =
     let a = c .before .before .before .before .before .args in
     let p = c .before .before .before .before .before .pre in
     let s = slot-inside (a .y) (a .vol .now) (a .dir) (a .slot) (p .0) (p .1 .1 .0) (p .1 .1 .1) in
     omega (arith, s .steps)
 
-next-of-requires-2 : tie.Need-next-of-requires-2
-next-of-requires-2 c κs =
+cluster-after-requires-2 : tie.Need-cluster-after-requires-2
+cluster-after-requires-2 c κs =
     let a = c .before .before .before .before .before .args in
     let p = c .before .before .before .before .before .pre in
     let s = slot-inside (a .y) (a .vol .now) (a .dir) (a .slot) (p .0) (p .1 .1 .0) (p .1 .1 .1) in
-    (p .0, (p .1 .0, second-heap _ _ _ _ _ _ (omega (arith, s .steps)) (c .next-of .ensures) (rw (c .before .seek .ensures) (s .heap))))
+    (p .0, (p .1 .0, second-heap _ _ _ _ _ _ (omega (arith, s .steps)) (c .cluster-after .ensures) (rw (c .before .seek .ensures) (s .heap))))
 
 rem-t11 : tie.Need-rem-t11
 rem-t11 c = search needs
@@ -60,7 +60,7 @@ returns : tie.Need-returns
 returns c =
     let a = c .before .before .before .before .before .before .before .args in
     let p = c .before .before .before .before .before .before .before .pre in
-    spot-found (a .y) (a .vol .now) (a .dir) (a .slot) (p .0) (p .1 .1 .0) (p .1 .1 .1) _ _ _ _ refl (c .before .before .before .seek .ensures) (c .before .before .next-of .ensures) (c .before .next-of2 .ensures)
+    spot-found (a .y) (a .vol .now) (a .dir) (a .slot) (p .0) (p .1 .1 .0) (p .1 .1 .1) _ _ _ _ refl (c .before .before .before .seek .ensures) (c .before .before .cluster-after .ensures) (c .before .cluster-after2 .ensures)
 
 pub locate-spec : {M : Type 1} → statement M
 locate-spec =
@@ -71,8 +71,8 @@ locate-spec =
     cast-steps
     sub-left
     seek-requires
-    next-of-requires
-    sub-next-of
-    next-of-requires-2
+    cluster-after-requires
+    sub-cluster-after
+    cluster-after-requires-2
     rem-t11
     returns)

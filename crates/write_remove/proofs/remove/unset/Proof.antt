@@ -17,8 +17,8 @@ locate-requires c κs =
 entries-of-requires : tie.Need-entries-of-requires
 entries-of-requires c κs = search needs
 
-unset-requires : tie.Need-unset-requires
-unset-requires c κs = search needs
+cleared-requires : tie.Need-cleared-requires
+cleared-requires c κs = search needs
 
 write-set-requires : tie.Need-write-set-requires
 write-set-requires c κs =
@@ -34,7 +34,7 @@ returns : tie.Need-returns
 returns c =
     let a = c .before .before .before .before .before .before .before .before .before .before .before .args in
     let p = c .before .before .before .before .before .before .before .before .before .before .before .pre in
-    unlinked-spot (a .y) (a .vol .now) (a .dir) (a .slot) (p .0) (a .t5) _ _ _ _ (p .1 .1) (c .before .before .before .before .before .before .before .before .locate .ensures) (c .before .before .before .before .before .before .entries-of .ensures .0) (c .before .before .before .before .before .unset .ensures) (c .before .before .write-set .ensures)
+    unlinked-spot (a .y) (a .vol .now) (a .dir) (a .slot) (p .0) (a .t5) _ _ _ _ (p .1 .1) (c .before .before .before .before .before .before .before .before .locate .ensures) (c .before .before .before .before .before .before .entries-of .ensures .0) (c .before .before .before .before .before .cleared .ensures) (c .before .before .write-set .ensures)
 
 pub unset-spec : {M : Type 1} → statement M
 unset-spec =
@@ -42,7 +42,7 @@ unset-spec =
     (tie.spec
     locate-requires
     entries-of-requires
-    unset-requires
+    cleared-requires
     write-set-requires
     same-length
     returns)

@@ -38,11 +38,11 @@ end-kept-requires c κs =
     let p = c .before .before .before .before .before .before .before .before .before .pre in
     (p .0, (p .1 .0, (part-last _ _ _ _ _ (c .before .before .before .before .before .kept-part .ensures), kept-heap _ _ _ _ (p .0) (p .1 .1 .1 .1 .0) (p .1 .1 .1 .1 .1 .1))))
 
-sub-free-clusters : tie.Need-sub-free-clusters
-sub-free-clusters c = search needs
+sub-free-from : tie.Need-sub-free-from
+sub-free-from c = search needs
 
-free-clusters-requires : tie.Need-free-clusters-requires
-free-clusters-requires c κs =
+free-from-requires : tie.Need-free-from-requires
+free-from-requires c κs =
     let p = c .before .before .before .before .before .before .before .before .before .before .before .before .before .before .pre in
     let n = part-next _ _ _ _ _ (c .before .before .before .before .before .before .before .before .before .before .kept-part .ensures) in
     let q = c .before .before .before .before .end-kept .ensures in
@@ -83,7 +83,7 @@ returns-2 c =
     ∙ sym (c .before .before .before .before .before .before .before .before .before .before .before .system-cause .ensures) ∙ (omega arith) in
     let d = shrink-done (a .y) (a .vol .now) (a .map .now) (a .a) (a .keep) (a .hint) (p .1 .1 .1 .1 .1 .0) l (p .0) e s in
     let f = left-same (a .y) (a .vol .now) (a .a) (a .keep) (p .0) l e z (p .1 .0) _ q _ n in
-    ((cc) ∙ d .0, (c .before .before .before .free-clusters .ensures ∙ ap (freeAll (a .y) _) f ∙ ap (λ (x : List ℕ). freeAll (a .y) x (freedOf (a .y) (a .vol .now) (a .a) (a .keep))) q) ∙ d .1)
+    ((cc) ∙ d .0, (c .before .before .before .free-from .ensures ∙ ap (freeAll (a .y) _) f ∙ ap (λ (x : List ℕ). freeAll (a .y) x (freedOf (a .y) (a .vol .now) (a .a) (a .keep))) q) ∙ d .1)
 
 pub shrink-read-spec : {M : Type 1} → statement M
 shrink-read-spec =
@@ -95,8 +95,8 @@ shrink-read-spec =
     same-length
     returns
     end-kept-requires
-    sub-free-clusters
-    free-clusters-requires
+    sub-free-from
+    free-from-requires
     kept-record-requires
     same-length-2
     returns-2)

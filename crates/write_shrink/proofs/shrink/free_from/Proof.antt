@@ -11,8 +11,8 @@ use Rattle.stream.specs.Along.{along}
 use Rattle.stream.proofs.StreamLaws.{along-head}
 use Rattle.write_shrink.specs.Shrink.{freeAll}
 use Rattle.write_shrink.proofs.Cutting.{freeOne, free-none, free-step, free-heap, free-distinct}
-use Rattle.write_shrink.proofs.shrink.free_clusters.Statement.{statement}
-use Rattle.write_shrink.proofs.shrink.free_clusters.Tie as tie
+use Rattle.write_shrink.proofs.shrink.free_from.Statement.{statement}
+use Rattle.write_shrink.proofs.shrink.free_from.Tie as tie
 
 abbrev Inv-loop : tie.InvT-loop
 Inv-loop vol₀ y run first n k₀ left₀ vol k left = (length vol ≡ length vol₀) × ((every (inHeap (y .count)) (along (fatEntry y vol) run k left) ≡ true) × (Distinct (along (fatEntry y vol) run k left) × (freeAll y vol (along (fatEntry y vol) run k left) ≡ freeAll y vol₀ (along (fatEntry y vol₀) run first n))))
@@ -68,8 +68,8 @@ same-length c = search needs
 returns : tie.Need-returns Inv-loop μ-loop
 returns c = sym (free-none _ _ _ _ _ _ (omega arith)) ∙ c .before .loop .inv .1 .1 .1
 
-pub free-clusters-spec : {M : Type 1} → statement M
-free-clusters-spec =
+pub free-from-spec : {M : Type 1} → statement M
+free-from-spec =
     tie.close
     (tie.spec
     Inv-loop

@@ -4,8 +4,8 @@ use Rattle.boot.proofs.Apart.{in-heap}
 use Rattle.metadata.specs.Fat.{fatEntry}
 use Rattle.stream.proofs.StreamLaws.{along-head}
 use Rattle.write_dir.proofs.PlaceLaws.{second-of, second-none}
-use Rattle.write_dir.proofs.place.next_of.Statement.{statement}
-use Rattle.write_dir.proofs.place.next_of.Tie as tie
+use Rattle.write_dir.proofs.place.cluster_after.Statement.{statement}
+use Rattle.write_dir.proofs.place.cluster_after.Tie as tie
 
 next-cluster-requires : tie.Need-next-cluster-requires
 next-cluster-requires c κs =
@@ -23,5 +23,5 @@ returns-2 c =
     let a = c .before .before .args in
     sym (second-none (fatEntry (a .y) (a .vol .now)) (a .run) (a .k) (a .left) (omega arith))
 
-pub next-of-spec : {M : Type 1} → statement M
-next-of-spec = tie.close (tie.spec next-cluster-requires returns returns-2)
+pub cluster-after-spec : {M : Type 1} → statement M
+cluster-after-spec = tie.close (tie.spec next-cluster-requires returns returns-2)

@@ -5,8 +5,8 @@ use native.Mathlib.Omega.{arith}
 use borrow.Author.Needs.{needs}
 use lib.ListN.{length, length-set}
 use Rattle.entry_set.specs.Put.{cleared}
-use Rattle.entry_set.proofs.set.unset.Statement.{statement}
-use Rattle.entry_set.proofs.set.unset.Tie as tie
+use Rattle.entry_set.proofs.set.cleared.Statement.{statement}
+use Rattle.entry_set.proofs.set.cleared.Tie as tie
 
 abbrev Inv-loop : tie.InvT-loop
 Inv-loop n set out₀ i₀ out i = (i ≤ n) × (length out ≡ 608) × (out ≡ cleared set i)
@@ -48,8 +48,8 @@ returns c =
     let e : c .before .loop .i ≡ c .before .before .args .n = omega arith in
     cc
 
-pub unset-spec : {M : Type 1} → statement M
-unset-spec =
+pub cleared-spec : {M : Type 1} → statement M
+cleared-spec =
     tie.close
     (tie.spec
     Inv-loop
