@@ -11,7 +11,7 @@ use borrow.Author.Tests.{leb-true, eqb-true, ne-eqb}
 use Rattle.boot.specs.declared.geometry.Geometry.{Geometry}
 use Rattle.boot.specs.Geometry.{numberOfFats, clusterCount, bitmap0, bitmap1, bitmapBytes, bitmapClusters}
 use Rattle.boot.specs.Limits.{all, shapeTests, roomTests, mapTests, allInMap, runInMap, apart, secondBitmap, limits}
-use Rattle.boot.specs.Facts.{Shape, RoomFacts, Bitmaps, Accepted}
+use Rattle.boot.specs.Internal.{Shape, RoomFacts, Bitmaps, Accepted}
 use Rattle.tables.proofs.Cases.{and-left, and-right}
 use Rattle.boot.proofs.Tests.{each-of}
 use Rattle.boot.proofs.Limits.{shape-of, room-of}

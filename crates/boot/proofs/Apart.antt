@@ -12,8 +12,8 @@ use Rattle.tables.proofs.Cases.{not-so, bool-ext, and-left, and-right, and-both
 use Rattle.boot.specs.declared.geometry.Geometry.{Geometry}
 use Rattle.boot.specs.declared.layout.Layout.{Layout}
 use Rattle.boot.specs.Geometry.{numberOfFats, activeFat, clusterCount, bitmap0, bitmap1, clusterSize, bitmapBytes, bitmapClusters}
-use Rattle.boot.specs.Facts.{Shape, Bitmaps, Accepted}
-use Rattle.boot.specs.Layout.{fatStart, clusterStart, bitmapFirst, layoutOf, clusterAt, inHeap, inRun, isBitmapCluster, Laid, Apart}
+use Rattle.boot.specs.Internal.{Shape, Bitmaps, Accepted, Laid, Apart}
+use Rattle.boot.specs.Layout.{fatStart, clusterStart, bitmapFirst, layoutOf, clusterAt, inHeap, inRun, isBitmapCluster}
 use Rattle.boot.proofs.Clusters.{mul-step}
 use Rattle.boot.proofs.Places.{first-zero, first-suc, first-low, first-high, fat-heap, fat-fat, bytes-le}
 

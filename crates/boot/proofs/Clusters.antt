@@ -3,7 +3,8 @@ use Prim.Native.Nat.{ℕ, zero, suc, _+_, _-_, _*_, _≤_, _<_}
 use native.Mathlib.Omega.{arith}
 use native.Mathlib.Nat.{suc-mul, mul-le-mul-right}
 use Rattle.boot.specs.declared.layout.Layout.{Layout}
-use Rattle.boot.specs.Layout.{clusterAt, Laid}
+use Rattle.boot.specs.Layout.{clusterAt}
+use Rattle.boot.specs.Internal.{Laid}
 
 -- rows of s do not overlap
 pub mul-step : (a b s : ℕ) → a < b → a * s + s ≤ b * s

@@ -8,7 +8,7 @@ use borrow.Author.Tests.{lt-ltb, le-leb, lt-leb, ltb-true, leb-true, eqb-true, e
 use Rattle.boot.specs.declared.geometry.Geometry.{Geometry}
 use Rattle.boot.specs.Geometry.{sectorShift, clusterShift, fatOffset, fatLength, numberOfFats, activeFat, clusterHeapOffset, clusterCount, bitmap0, bitmap1, sectorSize, clusterSize, bitmapBytes, bitmapClusters}
 use Rattle.boot.specs.Limits.{all, shapeTests, roomTests, mapTests, inMap, allInMap, runInMap, apart, secondBitmap, limits}
-use Rattle.boot.specs.Facts.{Shape, RoomFacts}
+use Rattle.boot.specs.Internal.{Shape, RoomFacts}
 use Rattle.tables.proofs.Cases.{not-so, and-true}
 use native.Mathlib.Numerals.{sub-one}
 use lib.ListN.{length}

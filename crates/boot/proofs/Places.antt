@@ -11,8 +11,8 @@ use borrow.Author.Tests.{eqb-true, eq-eqb, ne-eqb}
 use Rattle.boot.specs.declared.geometry.Geometry.{Geometry}
 use Rattle.boot.specs.declared.layout.Layout.{Layout}
 use Rattle.boot.specs.Geometry.{sectorShift, clusterShift, fatOffset, fatLength, numberOfFats, activeFat, clusterHeapOffset, clusterCount, bitmap0, bitmap1, sectorSize, clusterSize, bitmapBytes, bitmapClusters}
-use Rattle.boot.specs.Facts.{Shape, RoomFacts, Bitmaps, Accepted}
-use Rattle.boot.specs.Layout.{fatStart, clusterStart, bitmapFirst, layoutOf, clusterAt, Laid}
+use Rattle.boot.specs.Internal.{Shape, RoomFacts, Bitmaps, Accepted, Laid}
+use Rattle.boot.specs.Layout.{fatStart, clusterStart, bitmapFirst, layoutOf, clusterAt}
 
 size-pos : (g : Geometry) → 1 ≤ clusterSize g
 unfolding clusterSize

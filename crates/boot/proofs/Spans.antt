@@ -5,7 +5,8 @@ use mathlib.Core.Bool.{true, false}
 use Prim.Native.Nat.{ℕ, _+_, _*_, _≤_, _<_}
 use native.Mathlib.Omega.{arith}
 use Rattle.boot.specs.declared.layout.Layout.{Layout}
-use Rattle.boot.specs.Layout.{clusterAt, inHeap, inRun, isBitmapCluster, Laid, Apart}
+use Rattle.boot.specs.Layout.{clusterAt, inHeap, inRun, isBitmapCluster}
+use Rattle.boot.specs.Internal.{Laid, Apart}
 use Rattle.boot.proofs.Apart.{run-out, or-left, or-right, in-heap, cluster-apart, run-before}
 
 module _ (y : Layout) (l : Laid y) (a : Apart y) where

@@ -1,5 +1,5 @@
 pub mod Geometry
 pub mod Limits
-pub mod Facts
 pub mod Layout
 pub mod Causes
+pub mod Internal

@@ -5,7 +5,7 @@ ghost use Prim.Native.Nat.{_+_, _-_, _*_, _/_, _^_, _≤_, _<_};
 ghost use lib.ListN.{length};
 ghost use Rattle.boot.specs.Geometry.{geometryOf, sectorSize, clusterSize, bitmapBytes, bitmapClusters};
 ghost use Rattle.boot.specs.Limits.{all, shapeTests, roomTests, mapTests, inMap, allInMap, runInMap, apart, secondBitmap, limits};
-ghost use Rattle.boot.specs.Facts.{Shape};
+ghost use Rattle.boot.specs.Internal.{Shape};
 
 // The boot sector's fields, and the first cluster of one bitmap per FAT. Offsets and lengths are in sectors.
 pub struct Geometry {

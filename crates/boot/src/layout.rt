@@ -1,8 +1,8 @@
 // Where the parts of a volume lie, in bytes: computed once from a geometry that keeps the limits.
 ghost use mathlib.Core.Path.{_≡_};
 ghost use Prim.Native.Nat.{_+_, _-_, _*_, _^_, _≤_, _<_};
-ghost use Rattle.boot.specs.Facts.{Shape, Accepted};
-ghost use Rattle.boot.specs.Layout.{fatStart, clusterStart, bitmapFirst, layoutOf, Laid, clusterAt, inHeap, inRun, isBitmapCluster};
+ghost use Rattle.boot.specs.Internal.{Shape, Accepted, Laid};
+ghost use Rattle.boot.specs.Layout.{fatStart, clusterStart, bitmapFirst, layoutOf, clusterAt, inHeap, inRun, isBitmapCluster};
 use crate::geometry;
 use crate::geometry::Geometry;
 

@@ -13,7 +13,8 @@ use Rattle.search.specs.declared.found.Found.the-variants.{At, Nothing}
 use Rattle.choice.specs.declared.choice.Choice.{Choice}
 use Rattle.choice.specs.declared.choice.Choice.the-variants.{Run, Scattered, TooFew}
 use Rattle.search.specs.Search.{runFrom}
-use Rattle.choice.specs.Choice.{choose, around, firstUsable}
+use Rattle.choice.specs.Choice.{choose, around}
+use Rattle.choice.specs.Internal.{firstUsable}
 use Rattle.search.proofs.Lowest.{Whole, Lowest, run-nothing}
 use Rattle.choice.proofs.ChoiceLaws.{choose-case, choose-run}
 

@@ -3,7 +3,7 @@ use mathlib.Core.Bool.{Bool, cond}
 use mathlib.Core.List.{List, _++_}
 use Prim.Native.Nat.{ℕ, _+_, _-_}
 use lib.Dec.{ltb}
-use lib.ListN.{take, getD}
+use lib.ListN.{take}
 use Rattle.tables.specs.Count.{count, keep}
 use Rattle.search.specs.declared.found.Found.{Found}
 use Rattle.search.specs.declared.found.Found.the-variants.{At, Nothing}
@@ -35,7 +35,3 @@ beginOf TooFew start = start
 -- the n clusters that are taken
 unfoldable pub chosen : (ℕ → Bool) → ℕ → ℕ → ℕ → List ℕ
 chosen u C n start = take n (around u C (beginOf (choose u C n start) start))
-
--- the first usable cluster from start on, then from 2; 0 where there is none
-unfoldable pub firstUsable : (ℕ → Bool) → ℕ → ℕ → ℕ
-firstUsable u C start = getD (around u C start) 0 0

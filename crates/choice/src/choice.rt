@@ -5,12 +5,14 @@ ghost use Prim.Native.Nat.{_+_, _-_, _*_, _≤_, _<_};
 ghost use lib.Dec.{leb};
 ghost use lib.ListN.{length};
 ghost use Rattle.tables.specs.Count.{count};
-ghost use Rattle.boot.specs.Layout.{Laid};
+ghost use Rattle.boot.specs.Internal.{Laid};
 ghost use Rattle.search.specs.declared.found.Found.the-variants.{Nothing};
 ghost use Rattle.metadata.specs.Marks.{marked};
 ghost use Rattle.metadata.specs.Usable.{isUsable};
-ghost use Rattle.search.specs.Search.{allFrom, pastFailing, runFrom};
-ghost use Rattle.choice.specs.Choice.{choose, firstUsable};
+ghost use Rattle.search.specs.Search.{allFrom, runFrom};
+ghost use Rattle.search.specs.Internal.{pastFailing};
+ghost use Rattle.choice.specs.Choice.{choose};
+ghost use Rattle.choice.specs.Internal.{firstUsable};
 use boot::layout::Layout;
 use search::found::Found;
 

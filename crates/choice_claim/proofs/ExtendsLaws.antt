@@ -40,7 +40,8 @@ use Rattle.write_alloc.proofs.AllocateLaws.{wrap-low}
 use Rattle.write_alloc.proofs.GrowLaws.{Fresh, Grows, fresh-inside, chosen-fresh}
 use Rattle.choice_claim.proofs.KeptLaws.{fat-off, link-off, run-off, take-off, entries-kept}
 use Rattle.choice_claim.proofs.AddsLaws.{fits-limits, InHeap, in-allocates}
-use Rattle.write_extend.specs.Extend.{moreCause, Allowed, inPlace, linkOld, longerRun, longerChain, longer, extendIn, extendClusters}
+use Rattle.write_extend.specs.Extend.{moreCause, inPlace, linkOld, longerRun, longerChain, longer, extendIn, extendClusters}
+use Rattle.write_extend.specs.Internal.{Allowed}
 use Rattle.choice_claim.specs.Extends.{Extends}
 use Rattle.write_extend.proofs.ExtendLaws.{allowed-of, place-usable, link-chain, link-run, LastOf, tail-of, start-in, place-facts, longer-in, longer-out, extend-hint, extend-longer, extend-refused, extend-is, extend-limits}
 use Rattle.write_extend.proofs.KeepLaws.{longer-on}

@@ -20,8 +20,8 @@ use Rattle.metadata.specs.Marks.{marked}
 use Rattle.metadata.specs.Cluster.{clusterByte}
 use Rattle.metadata.proofs.Frame.{Fits, small}
 use Rattle.stream.specs.declared.allocation.Allocation.{Allocation}
-use Rattle.stream.specs.Along.{after, along}
-use Rattle.stream.specs.Bytes.{clusterBytes, bytesOf, reached, bytesIn}
+use Rattle.stream.specs.Internal.{after, along, reached}
+use Rattle.stream.specs.Bytes.{clusterBytes, bytesOf, bytesIn}
 use Rattle.stream.specs.Stream.{numberOf, streamOf, clustersOf}
 use Rattle.stream.proofs.StreamLaws.{length-along, along-head}
 use Rattle.stream.proofs.BytesSteps.{every-from}
@@ -30,7 +30,7 @@ use Rattle.stream.proofs.ListingLaws.{stream-read, along-heap}
 use Rattle.stream.proofs.Distinct.{few, read-length, read-distinct}
 use Rattle.directory.specs.declared.entries.Cursor.{Cursor}
 use Rattle.directory.specs.Entries.{entryCount, typeAt, inUse}
-use Rattle.directory.specs.Cursor.{nextEntry, entryAt}
+use Rattle.directory.specs.Internal.{nextEntry, entryAt}
 use Rattle.directory.proofs.DirectoryLaws.{clusters-along}
 
 -- ---- going along

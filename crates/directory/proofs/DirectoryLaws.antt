@@ -17,15 +17,16 @@ use Rattle.metadata.specs.Fat.{fatEntry}
 use Rattle.metadata.specs.Marks.{marked}
 use Rattle.stream.specs.declared.allocation.Allocation.{Allocation}
 use Rattle.stream.specs.declared.walk.Walked.{Walked}
-use Rattle.stream.specs.Along.{after, along}
+use Rattle.stream.specs.Internal.{after, along, walked}
 use Rattle.stream.specs.Chain.{Clusters, listed, refused, readChain}
-use Rattle.stream.specs.Stream.{numberOf, streamOf, checkChain, walked, clustersOf, empty, clustersIn}
+use Rattle.stream.specs.Stream.{numberOf, streamOf, checkChain, clustersOf, empty, clustersIn}
 use Rattle.stream.proofs.ChainLaws.{chain-out, stream-chain, stream-not-zero}
 use Rattle.stream.proofs.StreamLaws.{read-chain-facts}
 use Rattle.stream.proofs.ListingLaws.{stream-read}
 use Rattle.stream.proofs.Distinct.{read-length}
 use Rattle.directory.specs.declared.directory.Directory.{Directory}
-use Rattle.directory.specs.Directory.{chainRecord, rootRecord, bitmapCause, directoryCause, openRoot}
+use Rattle.directory.specs.Directory.{chainRecord, rootRecord, bitmapCause, directoryCause}
+use Rattle.directory.specs.Internal.{openRoot}
 
 -- ---- the clusters of a directory
 

@@ -16,7 +16,7 @@ use Rattle.boot.specs.Layout.{inHeap}
 use Rattle.metadata.specs.Fat.{fatEntry}
 use Rattle.metadata.proofs.Frame.{Fits}
 use Rattle.stream.specs.declared.allocation.Allocation.{Allocation}
-use Rattle.stream.specs.Along.{after, along}
+use Rattle.stream.specs.Internal.{after, along}
 use Rattle.stream.specs.Bytes.{clusterBytes, bytesOf, bytesIn}
 use Rattle.stream.specs.Stream.{numberOf, streamOf}
 use Rattle.stream.proofs.StreamLaws.{along-step, along-head, along-rest}

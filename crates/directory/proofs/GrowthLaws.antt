@@ -20,7 +20,8 @@ use Rattle.search.specs.declared.found.Found.the-variants.{At, Nothing}
 use Rattle.search.specs.Search.{allFrom, runFrom, fewest}
 use Rattle.search.proofs.Runs.{run-hit}
 use Rattle.search.proofs.Lowest.{Whole, Lowest, all-whole, whole-all, all-cong, run-at, run-nothing, run-cong}
-use Rattle.directory.specs.Entries.{entryCount, typeAt, inUse, beforeEnd, isFile, entriesAt, setAt, sets}
+use Rattle.directory.specs.Entries.{entryCount, typeAt, inUse, beforeEnd, isFile, entriesAt, setAt}
+use Rattle.directory.specs.Internal.{sets}
 use Rattle.directory.specs.Room.{Row, freeRun, isAt, slotOf, withZeros, growth}
 use Rattle.directory.proofs.EntryLaws.{unused-zero, used-same, sound-formed, sound-of, set-is}
 use Rattle.directory.proofs.OrderedLaws.{Ordered, file-room, file-few, file-fit, file-byte}

@@ -9,10 +9,12 @@ use lib.ListN.{length}
 use borrow.Author.Tests.{not-false}
 use Rattle.entry_set.specs.Fields.{clustersFor}
 use Rattle.search.specs.declared.found.Found.the-variants.{At}
-use Rattle.search.specs.Search.{allFrom, pastFailing, runFrom}
+use Rattle.search.specs.Search.{allFrom, runFrom}
+use Rattle.search.specs.Internal.{pastFailing}
 use Rattle.search.proofs.Runs.{tail-pass, tail-fail, tail-bounds, tail-rest, tail-last, run-skip}
 use Rattle.directory.specs.Entries.{entryCount, inUse}
-use Rattle.directory.specs.Room.{freeRun, slotOf, withZeros, growth, roomFor}
+use Rattle.directory.specs.Room.{freeRun, slotOf, withZeros, growth}
+use Rattle.directory.specs.Internal.{roomFor}
 use Rattle.directory.proofs.GrowthLaws.{place-end, place-hit, growth-is, grown-at, growth-zero}
 
 -- every start before base meets an entry in use

@@ -21,7 +21,8 @@ use Rattle.entry_set.specs.Fields.{entryType, secondaryCount}
 use Rattle.entry_set.specs.Sound.{wellFormed}
 use Rattle.search.specs.declared.found.Found.the-variants.{At}
 use Rattle.search.proofs.Lowest.{Lowest, run-at}
-use Rattle.directory.specs.Entries.{entryCount, typeAt, inUse, beforeEnd, isFile, entriesAt, setAt, isSound, sets}
+use Rattle.directory.specs.Entries.{entryCount, typeAt, inUse, beforeEnd, isFile, entriesAt, setAt, isSound}
+use Rattle.directory.specs.Internal.{sets}
 use Rattle.directory.specs.Room.{freeRun}
 use Rattle.directory.proofs.EntryLaws.{used-file, unused-zero, used-same, before-at, before-of, file-before, file-type, file-of, sound-formed, sound-of, set-is}
 use Rattle.directory.proofs.FitLaws.{Fit, fit-low, fit-high, fit-first, fit-next, fit-used, used-type}

@@ -16,14 +16,14 @@ use Rattle.metadata.specs.Fat.{fatEntry}
 use Rattle.metadata.specs.Cluster.{clusterByte}
 use Rattle.metadata.proofs.Frame.{Fits}
 use Rattle.stream.specs.declared.allocation.Allocation.{Allocation}
-use Rattle.stream.specs.Along.{after}
-use Rattle.stream.specs.Bytes.{clusterBytes, reached, bytesIn}
+use Rattle.stream.specs.Internal.{after, reached}
+use Rattle.stream.specs.Bytes.{clusterBytes, bytesIn}
 use Rattle.stream.specs.Stream.{numberOf, streamOf}
 use Rattle.stream.proofs.BytesSteps.{length-cluster}
 use Rattle.stream.proofs.BytesLaws.{cluster-at}
 use Rattle.directory.specs.declared.entries.Cursor.{Cursor}
 use Rattle.directory.specs.Entries.{entryCount, typeAt, inUse}
-use Rattle.directory.specs.Cursor.{entryAt, pastWindows, pastUsed}
+use Rattle.directory.specs.Internal.{entryAt, pastWindows, pastUsed}
 use Rattle.directory.proofs.EntryLaws.{unused-zero}
 use Rattle.directory.proofs.CursorLaws.{entries-is, split, rest, inside, there-is, entry-place, cursor-in, cursor-use, Counted, counted-start, counted-next, counted-end}
 use Rattle.directory.proofs.RoomLaws.{Passed, passed-used}

@@ -2,7 +2,6 @@
 use mathlib.Core.Bool.{false, not, cond}
 use mathlib.Core.List.{List, [], _∷_}
 use Prim.Native.Nat.{ℕ}
-use lib.Dec.{eqb}
 use lib.ListN.{length}
 use Rattle.tables.specs.Lists.{every, lastOr}
 use Rattle.boot.specs.declared.layout.Layout.{Layout}
@@ -11,8 +10,7 @@ use Rattle.boot.specs.Causes.{firstCause}
 use Rattle.metadata.specs.Fat.{fatEntry}
 use Rattle.stream.specs.declared.allocation.Allocation.{Allocation}
 use Rattle.stream.specs.Chain.{Clusters, listed, refused, readChain}
-use Rattle.stream.specs.Stream.{numberOf, streamOf, clustersOf, empty}
-use Rattle.directory.specs.declared.directory.Directory.{Directory}
+use Rattle.stream.specs.Stream.{numberOf, streamOf, clustersOf}
 
 -- the record of a chain that is walked whole; of one that is refused, a record that is refused with the same number
 unfoldable pub chainRecord : ℕ → Clusters → Allocation
@@ -30,10 +28,3 @@ bitmapCause y ks = cond (every (λ k. not (isBitmapCluster y k)) ks) 0 9
 -- what refuses a directory, in this order: its record's causes (for the root 2, 3, 4 and 6), then 9
 unfoldable pub directoryCause : Layout → List ℕ → Allocation → ℕ
 directoryCause y d a = firstCause (numberOf (streamOf y d a) ∷ bitmapCause y (clustersOf (streamOf y d a)) ∷ [])
-
--- the root opened: its record, or the number with the empty record
-unfoldable pub openRoot : Layout → List ℕ → ℕ → Directory
-openRoot y d root =
-    let a = rootRecord y d root in
-    let n = directoryCause y d a in
-    cond (eqb n 0) (record { number = 0; allocation = a }) (record { number = n; allocation = empty })

@@ -1,7 +1,6 @@
 -- The entries of a directory, bs being its bytes: 32 bytes each, slots numbered from 0 (01, "Entries and files").
-use mathlib.Core.Bool.{Bool, not, _&&_, cond}
+use mathlib.Core.Bool.{Bool, not, _&&_}
 use mathlib.Core.List.{List}
-use mathlib.Core.Option.{Option, none, some}
 use Prim.Native.Nat.{ℕ, _+_, _*_, _/_}
 use lib.Dec.{eqb, leb}
 use lib.ListN.{length, getD, take, drop, replicate}
@@ -34,11 +33,6 @@ isFile bs i = beforeEnd bs i && eqb (typeAt bs i) 0x85
 unfoldable pub entriesAt : List ℕ → ℕ → ℕ
 entriesAt bs i = 1 + getD bs (32 * i + 1) 0
 
--- the same where slot i has a file entry and its set has at most 19 entries and fits the directory; else 0
-unfoldable pub wholeSet : List ℕ → ℕ → ℕ
-wholeSet bs i =
-    cond (isFile bs i && (leb (entriesAt bs i) 19 && leb (i + entriesAt bs i) (entryCount bs))) (entriesAt bs i) 0
-
 -- the set at slot i, copied into 608 bytes
 unfoldable pub setAt : List ℕ → ℕ → List ℕ
 setAt bs i = splice (replicate 608 0) 0 (take (32 * entriesAt bs i) (drop (32 * i) bs))
@@ -48,7 +42,3 @@ setAt bs i = splice (replicate 608 0) 0 (take (32 * entriesAt bs i) (drop (32 * 
 unfoldable pub isSound : ℕ → ℕ → List ℕ → ℕ → Bool
 isSound C size bs i =
     isFile bs i && (leb (entriesAt bs i) 19 && (leb (i + entriesAt bs i) (entryCount bs) && wellFormed C size (setAt bs i)))
-
--- the set at each slot that has a file entry
-unfoldable pub sets : List ℕ → ℕ → Option (List ℕ)
-sets bs i = cond (isFile bs i) (some (setAt bs i)) none

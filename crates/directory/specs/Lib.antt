@@ -1,4 +1,4 @@
 pub mod Directory
 pub mod Entries
-pub mod Cursor
 pub mod Room
+pub mod Internal

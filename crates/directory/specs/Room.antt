@@ -7,7 +7,6 @@ use lib.ListN.{replicate}
 use Rattle.search.specs.declared.found.Found.{Found}
 use Rattle.search.specs.declared.found.Found.the-variants.{At, Nothing}
 use Rattle.search.specs.Search.{runFrom, fewest}
-use Rattle.directory.specs.declared.entries.Room.{Room}
 use Rattle.directory.specs.Entries.{entryCount, inUse}
 
 -- slot i begins n entries in a row with type bit 0x80 clear
@@ -35,9 +34,3 @@ withZeros bs n = bs ++ replicate n 0
 -- the fewest zeroed clusters that give the directory n such entries in a row: n clusters always do
 unfoldable pub growth : ℕ → List ℕ → ℕ → ℕ
 growth size bs n = fewest (λ g. isAt (freeRun (withZeros bs (g * size)) n)) n 0
-
--- where a set of n entries goes: its slot, and the clusters that the directory grows by for it
-unfoldable pub roomFor : ℕ → List ℕ → ℕ → Room
-roomFor size bs n =
-    let g = growth size bs n in
-    record { slot = slotOf (freeRun (withZeros bs (g * size)) n); clusters = g }

@@ -5,15 +5,14 @@ ghost use Prim.Native.Nat.{_+_, _-_, _*_, _/_, _≤_, _<_};
 ghost use lib.Dec.{eqb};
 ghost use lib.ListN.{length};
 ghost use Rattle.primitives.specs.Bits.{bitOf};
-ghost use Rattle.boot.specs.Layout.{Laid, Apart};
+ghost use Rattle.boot.specs.Internal.{Laid, Apart};
 ghost use Rattle.metadata.specs.Fat.{fatEntry};
 ghost use Rattle.metadata.specs.Cluster.{clusterByte};
 ghost use Rattle.stream.specs.Bytes.{clusterBytes, bytesIn};
 ghost use Rattle.stream.specs.Stream.{numberOf, streamOf};
-ghost use Rattle.search.specs.Search.{pastFailing};
+ghost use Rattle.search.specs.Internal.{pastFailing};
 ghost use Rattle.directory.specs.Entries.{entryCount, inUse, beforeEnd};
-ghost use Rattle.directory.specs.Cursor.{nextEntry, entryAt, pastUsed};
-ghost use Rattle.directory.specs.Room.{roomFor};
+ghost use Rattle.directory.specs.Internal.{nextEntry, entryAt, pastUsed, roomFor};
 use boot::layout::Layout;
 use stream::allocation::Allocation;
 

@@ -9,7 +9,8 @@ use lib.Dec.{eqb}
 use lib.ListN.{length, take}
 use borrow.Author.Tests.{ne-eqb, eqb-true}
 use Rattle.boot.specs.declared.layout.Layout.{Layout}
-use Rattle.boot.specs.Layout.{Laid, inHeap}
+use Rattle.boot.specs.Internal.{Laid}
+use Rattle.boot.specs.Layout.{inHeap}
 use Rattle.boot.specs.Causes.{firstCause, heapCause}
 use Rattle.boot.proofs.CauseLaws.{cause-skip, cause-met, cause-last, heap-met, heap-kept, cause-none}
 use Rattle.metadata.proofs.Frame.{Fits}
@@ -24,19 +25,20 @@ use Rattle.entry_set.proofs.SetLaws.{formed-lengths}
 use Rattle.file.specs.declared.answer.FileAnswer.{FileAnswer}
 use Rattle.file.specs.Outcome.{Outcome, refuse, carried}
 use Rattle.directory.specs.declared.directory.Directory.{Directory}
-use Rattle.directory.specs.Directory.{rootRecord, openRoot, bitmapCause, directoryCause}
+use Rattle.directory.specs.Directory.{rootRecord, bitmapCause, directoryCause}
+use Rattle.directory.specs.Internal.{openRoot}
 use Rattle.directory.proofs.DirectoryLaws.{clusters-length}
 use Rattle.directory.specs.Entries.{entryCount, entriesAt, setAt, isSound}
 use Rattle.directory.proofs.EntryLaws.{sound-few, sound-room, sound-formed, set-count}
 use Rattle.directory.proofs.CursorLaws.{length-in, count-few}
 use Rattle.write_dir.specs.declared.«open_file».Opened.{Opened}
 use Rattle.write_dir.specs.declared.place.Spot.{Spot}
-use Rattle.write_dir.specs.Place.{spotOf, spotClusters, Reaches}
+use Rattle.write_dir.specs.Internal.{spotOf, spotClusters, Reaches, opened, openFile}
 use Rattle.write_dir.proofs.PlaceLaws.{spot-reaches, spot-store}
-use Rattle.write_dir.specs.Open.{fileRecord, entryCause, directoryAttributeCause, streamCause, setIn, fileCause, opened, openFile}
+use Rattle.write_dir.specs.Open.{fileRecord, entryCause, directoryAttributeCause, streamCause, setIn, fileCause}
 use Rattle.file.specs.Refresh.{entriesOf, recorded, stored, openCause}
 use Rattle.file.specs.declared.target.Target.{Target}
-use Rattle.file.specs.Opens.{Opens, Stands, target}
+use Rattle.file.specs.Internal.{Opens, Stands, target}
 
 -- ---- a file that opens
 

@@ -13,7 +13,8 @@ use Rattle.tables.specs.Lists.{every, lastOr}
 use Rattle.tables.specs.Count.{count}
 use Rattle.tables.proofs.CountLaws.{count-le}
 use Rattle.boot.specs.declared.layout.Layout.{Layout}
-use Rattle.boot.specs.Layout.{Laid, inHeap}
+use Rattle.boot.specs.Internal.{Laid}
+use Rattle.boot.specs.Layout.{inHeap}
 use Rattle.metadata.specs.Fat.{fatEntry}
 use Rattle.metadata.specs.Marks.{marked}
 use Rattle.metadata.specs.Usable.{isUsable}
@@ -22,8 +23,8 @@ use Rattle.stream.specs.declared.allocation.Allocation.{Allocation}
 use Rattle.stream.specs.declared.bytes.Place.{Place}
 use Rattle.stream.specs.Chain.{listed}
 use Rattle.stream.specs.Stream.{clustersOf, numberOf, streamOf, clustersIn}
-use Rattle.stream.specs.Along.{along}
-use Rattle.stream.specs.Bytes.{storeAt, Known}
+use Rattle.stream.specs.Internal.{along, Known}
+use Rattle.stream.specs.Bytes.{storeAt}
 use Rattle.stream.proofs.BytesSteps.{store-nothing, reach-last, take-along, known-first, known-same}
 use Rattle.stream.proofs.ListingLaws.{stream-read, along-heap}
 use Rattle.stream.proofs.ChainLaws.{stream-listed}
@@ -39,7 +40,8 @@ use Rattle.write_extend.proofs.EnoughLaws.{Extended, extend-done}
 use Rattle.write_alloc.proofs.AllocateLaws.{space-met, space-kept}
 use Rattle.directory.proofs.DirectoryLaws.{clusters-along}
 use Rattle.write_dir.specs.Open.{fileRecord}
-use Rattle.file.specs.Refresh.{entriesOf, stored, refreshedOnly, missing, lengthCause, knownPlace}
+use Rattle.file.specs.Refresh.{entriesOf, stored, refreshedOnly, missing, lengthCause}
+use Rattle.file.specs.Internal.{knownPlace}
 use Rattle.file.proofs.OpenLaws.{carried-shown}
 
 module _ (y : Layout) (b : Allocation) (len : ℕ) where

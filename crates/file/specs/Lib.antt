@@ -1,3 +1,3 @@
 pub mod Outcome
 pub mod Refresh
-pub mod Opens
+pub mod Internal

@@ -1,15 +1,12 @@
 -- The entry set of a file stored anew (Rust: `record`), and the clusters that a new length needs.
-use mathlib.Core.Bool.{Bool, cond}
 use mathlib.Core.List.{List, [], _∷_}
 use Prim.Native.Nat.{ℕ, _+_, _-_, _*_}
-use lib.Dec.{eqb}
 use lib.ListN.{take}
 use Rattle.tables.specs.Count.{count}
 use Rattle.boot.specs.declared.layout.Layout.{Layout}
 use Rattle.boot.specs.Causes.{firstCause, heapCause, spaceCause}
 use Rattle.metadata.specs.Usable.{isUsable}
 use Rattle.stream.specs.declared.allocation.Allocation.{Allocation}
-use Rattle.stream.specs.declared.bytes.Place.{Place}
 use Rattle.stream.specs.Stream.{clustersIn}
 use Rattle.stream.specs.Bytes.{storeAt}
 use Rattle.entry_set.specs.declared.stamp.Stamp.{Stamp}
@@ -44,11 +41,6 @@ missing y b len = clustersFor (y .size) len - b .count
 -- 7: they are more than the usable ones
 unfoldable pub lengthCause : Layout → List ℕ → List ℕ → Allocation → ℕ → ℕ
 lengthCause y d m b len = spaceCause (missing y b len) (count (isUsable y d m) 2 (y .count))
-
--- the place that is known in stream a, grown from stream b: b's last cluster, or a's first one where b is empty
-unfoldable pub knownPlace : Allocation → Allocation → Place
-knownPlace b a =
-    cond (eqb (b .count) 0) (record { cluster = a .first; steps = 0 }) (record { cluster = b .last; steps = b .count - 1 })
 
 -- what refuses any call on the file at a slot of directory a, in this order: the hint, the directory's, 10, 11, the stream's
 unfoldable pub openCause : Layout → List ℕ → List ℕ → Allocation → ℕ → ℕ → ℕ

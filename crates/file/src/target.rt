@@ -2,10 +2,10 @@
 ghost use mathlib.Core.Path.{_≡_};
 ghost use Prim.Native.Nat.{_+_, _*_, _≤_};
 ghost use lib.ListN.{length};
-ghost use Rattle.boot.specs.Layout.{Laid, Apart};
+ghost use Rattle.boot.specs.Internal.{Laid, Apart};
 ghost use Rattle.stream.specs.Stream.{empty};
 ghost use Rattle.directory.specs.Directory.{rootRecord};
-ghost use Rattle.file.specs.Opens.{target};
+ghost use Rattle.file.specs.Internal.{target};
 use crate::answer::FileAnswer;
 use boot::layout::Layout;
 use stream::allocation::Allocation;

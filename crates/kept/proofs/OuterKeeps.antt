@@ -12,7 +12,8 @@ use Rattle.primitives.proofs.SpliceLaws.{splice-off}
 use Rattle.boot.specs.declared.geometry.Geometry.{Geometry}
 use Rattle.boot.specs.declared.layout.Layout.{Layout}
 use Rattle.boot.specs.Geometry.{fatOffset, fatLength, numberOfFats, sectorSize, bitmapBytes}
-use Rattle.boot.specs.Layout.{fatStart, layoutOf, clusterAt, inHeap, Apart}
+use Rattle.boot.specs.Layout.{fatStart, layoutOf, clusterAt, inHeap}
+use Rattle.boot.specs.Internal.{Apart}
 use Rattle.boot.proofs.Apart.{in-heap, cluster-start}
 use Rattle.metadata.specs.Fat.{setFat}
 use Rattle.metadata.specs.Marks.{markByte, putByte, setMark}

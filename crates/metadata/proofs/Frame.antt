@@ -19,7 +19,8 @@ use Rattle.primitives.proofs.WordLaws.{length-put, put-off, get-same, get-put, 
 use Rattle.primitives.proofs.SpliceLaws.{length-splice, splice-in, splice-off}
 use Rattle.boot.specs.declared.layout.Layout.{Layout}
 use Rattle.boot.specs.Geometry.{bitmapBytes}
-use Rattle.boot.specs.Layout.{Laid, clusterAt, inHeap, isBitmapCluster, Apart}
+use Rattle.boot.specs.Internal.{Laid, Apart}
+use Rattle.boot.specs.Layout.{clusterAt, inHeap, isBitmapCluster}
 use Rattle.boot.proofs.Apart.{in-heap, cluster-start, cluster-end, cluster-cluster, bitmap0-cluster, bitmap1-cluster, bitmap-bitmap, fat-bitmap}
 use Rattle.metadata.specs.Fat.{END, fatEntry, setFat}
 use Rattle.metadata.specs.Marks.{markByte, marked, putByte, setMark}

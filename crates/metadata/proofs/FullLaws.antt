@@ -6,10 +6,12 @@ use Prim.Native.Nat.{ℕ, _+_, _-_, _*_, _/_, _%_, _≤_, _<_}
 use native.Mathlib.Omega.{arith}
 use lib.ListN.{getD, take, drop}
 use lib.Seq.{getD-drop}
-use Rattle.primitives.specs.Bits.{bitOf, pastBytes}
+use Rattle.primitives.specs.Bits.{bitOf}
+use Rattle.primitives.specs.Internal.{pastBytes}
 use Rattle.primitives.proofs.ByteLaws.{past-bounds, past-each, past-take, full-byte}
 use Rattle.boot.specs.declared.layout.Layout.{Layout}
-use Rattle.metadata.specs.Marks.{markByte, marked, pastFull}
+use Rattle.metadata.specs.Marks.{markByte, marked}
+use Rattle.metadata.specs.Internal.{pastFull}
 use Rattle.metadata.specs.Usable.{isUsable}
 use Rattle.metadata.proofs.Stores.{free-marked, usable-not-free}
 

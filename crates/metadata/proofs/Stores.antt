@@ -19,9 +19,10 @@ use Rattle.boot.specs.Layout.{layoutOf}
 use Rattle.search.specs.declared.found.Found.{Found}
 use Rattle.search.specs.declared.found.Found.the-variants.{At, Nothing}
 use Rattle.metadata.specs.declared.free.FreeCount.{FreeCount}
-use Rattle.metadata.specs.Fat.{BAD, entryOf, fatEntry, setFat}
+use Rattle.metadata.specs.Fat.{BAD, fatEntry, setFat}
+use Rattle.metadata.specs.Internal.{entryOf, firstBad}
 use Rattle.metadata.specs.Marks.{marked, putByte, allocatedCount, freeCount}
-use Rattle.metadata.specs.Usable.{firstBad, isFree, isUsable}
+use Rattle.metadata.specs.Usable.{isFree, isUsable}
 use Rattle.metadata.specs.Free.{freeClusters}
 
 -- ---- stores to one copy or two

@@ -10,7 +10,8 @@ use native.Mathlib.Omega.{arith}
 use lib.Dec.{ltb}
 use lib.ListN.{length, getD}
 use borrow.Author.Tests.{ltb-true, lt-ltb, not-true}
-use Rattle.tables.specs.Table.{upd, updFrom, only}
+use Rattle.tables.specs.Table.{upd}
+use Rattle.tables.specs.Internal.{updFrom, only}
 use Rattle.tables.proofs.TableLaws.{only-in, only-cong, only-upd, from-other, from-same}
 use Rattle.boot.specs.declared.layout.Layout.{Layout}
 use Rattle.boot.specs.Layout.{inHeap, isBitmapCluster}

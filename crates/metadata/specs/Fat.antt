@@ -13,10 +13,6 @@ END = 4294967295
 abbrev pub BAD : ℕ
 BAD = 4294967287
 
--- entry k of a FAT's bytes
-unfoldable pub entryOf : List ℕ → ℕ → ℕ
-entryOf l k = getLe 4 l (4 * k)
-
 -- entry k of the active FAT
 unfoldable pub fatEntry : Layout → List ℕ → ℕ → ℕ
 fatEntry y d k = getLe 4 d (y .fat + 4 * k)

@@ -3,3 +3,4 @@ pub mod Marks
 pub mod Usable
 pub mod Free
 pub mod Cluster
+pub mod Internal

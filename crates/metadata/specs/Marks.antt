@@ -4,7 +4,7 @@ use mathlib.Core.List.{List}
 use Prim.Native.Nat.{ℕ, _+_, _-_, _/_, _%_}
 use lib.Dec.{eqb}
 use lib.ListN.{getD, set, drop}
-use Rattle.primitives.specs.Bits.{bitOf, putBit, countBits, pastBytes}
+use Rattle.primitives.specs.Bits.{bitOf, putBit, countBits}
 use Rattle.boot.specs.declared.layout.Layout.{Layout}
 
 -- cluster k's byte in the active FAT's bitmap: byte (k - 2) / 8
@@ -32,7 +32,3 @@ allocatedCount y d = countBits (drop (y .bitmap) d) (y .count)
 -- the free count: C less those ones
 unfoldable pub freeCount : Layout → List ℕ → ℕ
 freeCount y d = y .count - allocatedCount y d
-
--- the first of the n clusters from k whose byte has an unmarked cluster; k + n where there is none
-unfoldable pub pastFull : Layout → List ℕ → ℕ → ℕ → ℕ
-pastFull y d k n = pastBytes (drop (y .bitmap) d) 255 (k - 2) n + 2

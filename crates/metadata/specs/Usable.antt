@@ -1,19 +1,12 @@
 -- Which clusters may be taken (01: usable).
-use mathlib.Core.Bool.{Bool, _&&_, not, cond}
+use mathlib.Core.Bool.{Bool, _&&_, not}
 use mathlib.Core.List.{List}
-use Prim.Native.Nat.{ℕ, zero, suc, _+_}
+use Prim.Native.Nat.{ℕ}
 use lib.Dec.{eqb}
 use Rattle.boot.specs.declared.layout.Layout.{Layout}
 use Rattle.boot.specs.Limits.{inMap}
-use Rattle.search.specs.declared.found.Found.{Found}
-use Rattle.search.specs.declared.found.Found.the-variants.{At, Nothing}
 use Rattle.metadata.specs.Fat.{BAD, fatEntry}
 use Rattle.metadata.specs.Marks.{marked}
-
--- the first of the n clusters from k whose FAT entry is bad
-unfoldable pub firstBad : (ℕ → ℕ) → ℕ → ℕ → Found
-firstBad fat k zero = Nothing
-firstBad fat k (suc n) = cond (eqb (fat k) BAD) (At k) (firstBad fat (k + 1) n)
 
 -- unmarked, and not in the system map
 unfoldable pub isFree : Layout → List ℕ → List ℕ → ℕ → Bool

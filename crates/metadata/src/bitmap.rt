@@ -3,8 +3,9 @@ ghost use mathlib.Core.Path.{_≡_};
 ghost use Prim.Native.Nat.{_+_, _≤_, _<_};
 ghost use lib.ListN.{length};
 ghost use Rattle.boot.specs.Geometry.{bitmapBytes};
-ghost use Rattle.boot.specs.Layout.{Laid};
-ghost use Rattle.metadata.specs.Marks.{marked, putByte, setMark, allocatedCount, freeCount, pastFull};
+ghost use Rattle.boot.specs.Internal.{Laid};
+ghost use Rattle.metadata.specs.Marks.{marked, putByte, setMark, allocatedCount, freeCount};
+ghost use Rattle.metadata.specs.Internal.{pastFull};
 use boot::layout::Layout;
 
 // Whether cluster k is marked.

@@ -2,7 +2,7 @@
 ghost use mathlib.Core.Path.{_≡_};
 ghost use Prim.Native.Nat.{_+_, _<_};
 ghost use lib.ListN.{length};
-ghost use Rattle.boot.specs.Layout.{Laid};
+ghost use Rattle.boot.specs.Internal.{Laid};
 ghost use Rattle.metadata.specs.Fat.{fatEntry, setFat};
 use boot::layout::Layout;
 

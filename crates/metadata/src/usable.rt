@@ -2,9 +2,10 @@
 ghost use mathlib.Core.Path.{_≡_};
 ghost use Prim.Native.Nat.{_+_, _*_, _≤_, _<_};
 ghost use lib.ListN.{length};
-ghost use Rattle.boot.specs.Layout.{Laid};
-ghost use Rattle.metadata.specs.Fat.{fatEntry, entryOf};
-ghost use Rattle.metadata.specs.Usable.{firstBad, isFree, isUsable};
+ghost use Rattle.boot.specs.Internal.{Laid};
+ghost use Rattle.metadata.specs.Fat.{fatEntry};
+ghost use Rattle.metadata.specs.Internal.{entryOf, firstBad};
+ghost use Rattle.metadata.specs.Usable.{isFree, isUsable};
 use boot::layout::Layout;
 use search::found::Found;
 

@@ -10,7 +10,8 @@ use lib.Dec.{eqb, ltb, eqb→eq}
 use lib.ListN.{getD, take}
 use lib.Seq.{getD-take}
 use borrow.Author.Tests.{eq-eqb, ne-eqb, lt-ltb, le-ltb}
-use Rattle.primitives.specs.Bits.{bitOf, sameBytes, pastBytes}
+use Rattle.primitives.specs.Bits.{bitOf}
+use Rattle.primitives.specs.Internal.{sameBytes, pastBytes}
 use Rattle.primitives.proofs.Every.{at}
 
 module _ (l : List ℕ) (b : ℕ) where

@@ -1,8 +1,7 @@
 -- The bits of a byte and of a bitmap, as arithmetic. Bit 0 is the lowest.
-use mathlib.Core.Bool.{Bool, true, cond, _&&_}
+use mathlib.Core.Bool.{Bool, cond}
 use mathlib.Core.List.{List}
 use Prim.Native.Nat.{ℕ, zero, suc, _+_, _-_, _*_, _/_, _%_, _^_}
-use lib.Dec.{eqb}
 use lib.ListN.{getD}
 
 -- bit j of b, 0 or 1
@@ -29,13 +28,3 @@ bitAt l i = bitOf (getD l (i / 8) 0) (i % 8)
 unfoldable pub countBits : List ℕ → ℕ → ℕ
 countBits l zero = 0
 countBits l (suc i) = countBits l i + bitAt l i
-
--- the n bytes of a list from i on are all b
-unfoldable pub sameBytes : List ℕ → ℕ → ℕ → ℕ → Bool
-sameBytes l b i zero = true
-sameBytes l b i (suc n) = eqb (getD l (i + n) 0) b && sameBytes l b i n
-
--- the first of the n bit numbers from k whose byte of a bitmap is not b; k + n where there is none
-unfoldable pub pastBytes : List ℕ → ℕ → ℕ → ℕ → ℕ
-pastBytes l b k zero = k
-pastBytes l b k (suc n) = cond (eqb (getD l (k / 8) 0) b) (pastBytes l b (k + 1) n) k

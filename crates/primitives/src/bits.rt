@@ -4,7 +4,8 @@ ghost use mathlib.Core.Bool.{_&&_};
 ghost use Prim.Native.Nat.{_+_, _*_, _≤_, _<_};
 ghost use lib.Dec.{eqb};
 ghost use lib.ListN.{length};
-ghost use Rattle.primitives.specs.Bits.{bitOf, setBit, clearBit, putBit, sameBytes, pastBytes};
+ghost use Rattle.primitives.specs.Bits.{bitOf, setBit, clearBit, putBit};
+ghost use Rattle.primitives.specs.Internal.{sameBytes, pastBytes};
 
 // Whether bit j of b is set.
 pub fn bit_test(b: u8, j: u8) -> bool

@@ -9,7 +9,8 @@ use native.Mathlib.Omega.{arith}
 use Rattle.tables.specs.Count.{one}
 use Rattle.tables.proofs.Cases.{and-both}
 use Rattle.search.specs.declared.found.Found.the-variants.{At, Nothing}
-use Rattle.search.specs.Search.{allFrom, pastFailing, firstRun, runFrom}
+use Rattle.search.specs.Search.{allFrom, firstRun, runFrom}
+use Rattle.search.specs.Internal.{pastFailing}
 
 lesser-left : (a b : ℕ) → a ≤ b → a - (a - b) ≡ a
 lesser-left a b h = omega arith

@@ -9,11 +9,6 @@ unfoldable pub allFrom : (ℕ → Bool) → ℕ → ℕ → Bool
 allFrom u k zero = true
 allFrom u k (suc n) = allFrom u k n && u (k + n)
 
--- one past the last of the n numbers from low that fails; low where none does
-unfoldable pub pastFailing : (ℕ → Bool) → ℕ → ℕ → ℕ
-pastFailing u low zero = low
-pastFailing u low (suc n) = cond (u (low + n)) (pastFailing u low n) (low + n + 1)
-
 -- the lowest of the starts s, .. , s + tries - 1 from which n numbers pass
 unfoldable pub firstRun : (ℕ → Bool) → ℕ → ℕ → ℕ → Found
 firstRun u n zero s = Nothing

@@ -13,7 +13,7 @@ use lib.Seq.{take-append-seam, drop-append-seam, length-take-le, take-all, take-
 use borrow.Author.Tests.{ltb-true}
 use Rattle.primitives.specs.Splice.{splice}
 use Rattle.primitives.proofs.SpliceLaws.{splice-nil, length-splice, splice-join}
-use Rattle.tables.specs.Table.{only}
+use Rattle.tables.specs.Internal.{only}
 use Rattle.tables.specs.Lists.{Mem, here, there, Distinct, more, every}
 use Rattle.tables.proofs.ListLaws.{every-head, every-tail, every-mem, mem-every}
 use Rattle.tables.proofs.TableLaws.{only-in, only-cong}
@@ -25,7 +25,7 @@ use Rattle.metadata.specs.Marks.{marked, setMark}
 use Rattle.metadata.specs.Cluster.{clusterByte, putBytes}
 use Rattle.metadata.proofs.Frame.{Fits, fits-kept, length-fat, length-mark, length-bytes, cluster-fat, cluster-mark, bytes-other, fat-bytes, mark-bytes}
 use Rattle.metadata.proofs.View.{plain, plain-heap, plain-off, view, view-byte-at}
-use Rattle.stream.specs.Along.{along}
+use Rattle.stream.specs.Internal.{along}
 use Rattle.stream.specs.Bytes.{clusterBytes, bytesOf, storeAt}
 use Rattle.stream.proofs.BytesSteps.{every-take, along-same, store-past, store-here, store-nothing, store-over, length-cluster, bytes-over}
 

@@ -17,7 +17,8 @@ use Rattle.tables.specs.Lists.{every, lastOr}
 use Rattle.tables.proofs.Cases.{cond-case}
 use Rattle.tables.proofs.ListLaws.{every-cons, every-head, every-tail}
 use Rattle.boot.specs.declared.layout.Layout.{Layout}
-use Rattle.boot.specs.Layout.{Laid, clusterAt, inHeap}
+use Rattle.boot.specs.Internal.{Laid}
+use Rattle.boot.specs.Layout.{clusterAt, inHeap}
 use Rattle.boot.proofs.Apart.{in-heap}
 use Rattle.boot.proofs.Clusters.{cluster-in}
 use Rattle.metadata.specs.Fat.{fatEntry}
@@ -25,8 +26,8 @@ use Rattle.metadata.specs.Cluster.{putBytes}
 use Rattle.metadata.proofs.Frame.{Fits, fat-bytes}
 use Rattle.stream.specs.declared.allocation.Allocation.{Allocation}
 use Rattle.stream.specs.declared.bytes.Place.{Place}
-use Rattle.stream.specs.Along.{after, along}
-use Rattle.stream.specs.Bytes.{clusterBytes, bytesOf, storeAt, reached, Known}
+use Rattle.stream.specs.Internal.{after, along, reached, Known}
+use Rattle.stream.specs.Bytes.{clusterBytes, bytesOf, storeAt}
 use Rattle.stream.proofs.StreamLaws.{along-step, along-head, along-rest, length-along}
 
 -- ---- parts of lists

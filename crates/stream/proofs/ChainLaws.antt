@@ -17,7 +17,8 @@ use Rattle.stream.specs.declared.walk.Next.the-variants.{End, More, Wron
 use Rattle.stream.specs.declared.allocation.Allocation.{Allocation}
 use Rattle.stream.specs.declared.walk.Walked.{Walked}
 use Rattle.stream.specs.Chain.{Clusters, listed, refused, nextOf, byNext, withFirst, chainFrom, readChain}
-use Rattle.stream.specs.Stream.{numberOf, runCause, readRun, checkChain, readStream, walked, walkCause}
+use Rattle.stream.specs.Stream.{numberOf, runCause, readRun, checkChain, readStream}
+use Rattle.stream.specs.Internal.{walked, walkCause}
 
 pub next-end : (C v : ℕ) → v ≡ END → nextOf C v ≡ End
 unfolding nextOf

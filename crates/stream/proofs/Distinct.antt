@@ -10,7 +10,7 @@ use native.Mathlib.Omega.{arith}
 use lib.Dec.{eqb}
 use lib.ListN.{length}
 use borrow.Author.Tests.{eq-eqb, eqb-true, eqb-false}
-use Rattle.tables.specs.Table.{updAll}
+use Rattle.tables.specs.Internal.{updAll}
 use Rattle.tables.specs.Lists.{Mem, here, there, Distinct, none, more, every, lastOr, consec}
 use Rattle.tables.proofs.ListLaws.{last-in, every-cons, every-head, every-tail, every-mem, mem-every, consec-distinct}
 use Rattle.tables.proofs.CountLaws.{count-le, count-all}
@@ -20,7 +20,7 @@ use Rattle.metadata.specs.Fat.{END}
 use Rattle.stream.specs.declared.allocation.Allocation.{Allocation}
 use Rattle.stream.specs.Chain.{listed, chainFrom, readChain}
 use Rattle.stream.specs.Stream.{runCause, readRun, checkChain, readStream}
-use Rattle.stream.specs.Along.{after, along}
+use Rattle.stream.specs.Internal.{after, along}
 use Rattle.stream.proofs.ChainLaws.{next-end, next-more, run-none, run-step, stream-empty, stream-run, stream-chain}
 use Rattle.stream.proofs.StreamLaws.{length-along, consec-along, read-chain-facts, last-consec, Read, read-facts}
 

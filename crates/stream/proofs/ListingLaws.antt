@@ -20,7 +20,7 @@ use Rattle.metadata.specs.Marks.{marked}
 use Rattle.stream.specs.declared.allocation.Allocation.{Allocation}
 use Rattle.stream.specs.Chain.{listed}
 use Rattle.stream.specs.Stream.{numberOf, streamOf, readStream, clustersOf}
-use Rattle.stream.specs.Along.{along}
+use Rattle.stream.specs.Internal.{along}
 use Rattle.stream.specs.Listing.{roomCause, listedNumber, listedList, listingNumber, listingList}
 use Rattle.stream.proofs.ChainLaws.{stream-listed}
 use Rattle.stream.proofs.StreamLaws.{Read, read-facts}

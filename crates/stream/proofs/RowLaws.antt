@@ -18,7 +18,7 @@ use Rattle.boot.proofs.Apart.{in-heap, cluster-end}
 use Rattle.metadata.specs.Fat.{fatEntry}
 use Rattle.metadata.specs.Cluster.{putBytes}
 use Rattle.metadata.proofs.Frame.{Fits}
-use Rattle.stream.specs.Along.{along}
+use Rattle.stream.specs.Internal.{along}
 use Rattle.stream.specs.Bytes.{storeAt}
 use Rattle.stream.proofs.StreamLaws.{along-head, consec-along}
 use Rattle.stream.proofs.BytesSteps.{some-left, store-here}

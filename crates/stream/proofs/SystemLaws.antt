@@ -7,13 +7,14 @@ use native.Mathlib.Numerals.{sub-one}
 use native.Mathlib.Omega.{arith}
 use lib.Dec.{eqb, eqb→eq}
 use lib.ListN.{getD}
-use Rattle.primitives.specs.Bits.{bitOf, bitAt, pastBytes}
+use Rattle.primitives.specs.Bits.{bitOf, bitAt}
+use Rattle.primitives.specs.Internal.{pastBytes}
 use Rattle.primitives.proofs.Every.{at}
 use Rattle.primitives.proofs.ByteLaws.{past-bounds, past-each}
 use Rattle.tables.specs.Lists.{every, consec}
 use Rattle.boot.specs.Limits.{inMap}
 use Rattle.stream.specs.Stream.{systemCause}
-use Rattle.stream.specs.Along.{after, along}
+use Rattle.stream.specs.Internal.{after, along}
 
 zero-byte : (j : ℕ) → j < 8 → bitOf 0 j ≡ 0
 unfolding bitOf

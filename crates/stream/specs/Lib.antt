@@ -1,5 +1,5 @@
 pub mod Chain
 pub mod Stream
-pub mod Along
 pub mod Listing
 pub mod Bytes
+pub mod Internal

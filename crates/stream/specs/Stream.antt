@@ -1,5 +1,5 @@
 -- A stream record read as its clusters, or the number of what refuses it (01, "Streams").
-use mathlib.Core.Bool.{Bool, true, false, _&&_, not, cond}
+use mathlib.Core.Bool.{Bool, false, _&&_, not, cond}
 use mathlib.Core.List.{List, []}
 use Prim.Native.Nat.{ℕ, zero, suc, _+_}
 use lib.Dec.{eqb}
@@ -11,7 +11,6 @@ use Rattle.boot.specs.Layout.{inHeap}
 use Rattle.metadata.specs.Fat.{fatEntry}
 use Rattle.metadata.specs.Marks.{marked}
 use Rattle.stream.specs.declared.allocation.Allocation.{Allocation}
-use Rattle.stream.specs.declared.walk.Walked.{Walked}
 use Rattle.stream.specs.Chain.{Clusters, listed, refused, readChain}
 
 -- the number of a refusal, 0 for a list
@@ -64,13 +63,3 @@ empty = record { first = 0; last = 0; count = 0; «no_fat_chain» = false }
 -- 9: a system cluster among those of a list
 unfoldable pub systemCause : List ℕ → List ℕ → ℕ
 systemCause m ks = cond (every (λ k. not (inMap m k)) ks) 0 9
-
--- what a walk of a chain answers
-unfoldable pub walked : (ℕ → Bool) → Clusters → Walked
-walked mark (listed ks) = record { number = 0; last = lastOr 0 ks; count = length ks; marked = every mark ks }
-walked mark (refused n) = record { number = n; last = 0; count = 0; marked = false }
-
--- the number of a walk under a record: the walk's, then 5, then 6
-unfoldable pub walkCause : Walked → ℕ → ℕ → ℕ
-walkCause w last count =
-    cond (eqb (w .number) 0) (cond (eqb (w .count) count && eqb (w .last) last) (cond (w .marked) 0 6) 5) (w .number)

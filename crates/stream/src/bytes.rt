@@ -5,11 +5,12 @@ ghost use Prim.Native.Nat.{_+_, _-_, _*_, _≤_, _<_};
 ghost use lib.ListN.{length, take, drop, replicate};
 ghost use Rattle.primitives.specs.Splice.{splice};
 ghost use Rattle.tables.specs.Lists.{every};
-ghost use Rattle.boot.specs.Layout.{Laid, clusterAt, inHeap, Apart};
+ghost use Rattle.boot.specs.Internal.{Laid, Apart};
+ghost use Rattle.boot.specs.Layout.{clusterAt, inHeap};
 ghost use Rattle.metadata.specs.Fat.{fatEntry};
 ghost use Rattle.metadata.specs.Cluster.{putBytes};
-ghost use Rattle.stream.specs.Along.{after, along};
-ghost use Rattle.stream.specs.Bytes.{clusterBytes, bytesOf, storeAt, reached, Known};
+ghost use Rattle.stream.specs.Internal.{after, along, reached, Known};
+ghost use Rattle.stream.specs.Bytes.{clusterBytes, bytesOf, storeAt};
 use crate::allocation::Allocation;
 use boot::layout::Layout;
 

@@ -4,9 +4,10 @@ ghost use mathlib.Core.Bool.{true};
 ghost use Prim.Native.Nat.{_+_, _*_, _≤_};
 ghost use lib.ListN.{length};
 ghost use Rattle.tables.specs.Lists.{every, consec};
-ghost use Rattle.boot.specs.Layout.{Laid, inHeap};
+ghost use Rattle.boot.specs.Internal.{Laid};
+ghost use Rattle.boot.specs.Layout.{inHeap};
 ghost use Rattle.metadata.specs.Fat.{fatEntry};
-ghost use Rattle.stream.specs.Along.{along};
+ghost use Rattle.stream.specs.Internal.{along};
 ghost use Rattle.stream.specs.Stream.{systemCause};
 use boot::layout::Layout;
 

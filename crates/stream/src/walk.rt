@@ -3,12 +3,14 @@ ghost use mathlib.Core.Path.{_≡_};
 ghost use mathlib.Core.Bool.{_&&_};
 ghost use Prim.Native.Nat.{_+_, _-_, _≤_, _<_};
 ghost use lib.ListN.{length};
-ghost use Rattle.boot.specs.Layout.{Laid, inHeap};
+ghost use Rattle.boot.specs.Internal.{Laid};
+ghost use Rattle.boot.specs.Layout.{inHeap};
 ghost use Rattle.metadata.specs.Fat.{fatEntry};
-ghost use Rattle.metadata.specs.Marks.{marked, pastFull};
+ghost use Rattle.metadata.specs.Marks.{marked};
+ghost use Rattle.metadata.specs.Internal.{pastFull};
 ghost use Rattle.stream.specs.Chain.{nextOf, readChain};
-ghost use Rattle.stream.specs.Along.{after};
-ghost use Rattle.stream.specs.Stream.{runCause, readRun, checkChain, streamOf, numberOf, walked, walkCause};
+ghost use Rattle.stream.specs.Internal.{after, walked, walkCause};
+ghost use Rattle.stream.specs.Stream.{runCause, readRun, checkChain, streamOf, numberOf};
 use crate::allocation::Allocation;
 use boot::layout::Layout;
 

@@ -8,7 +8,8 @@ use native.Mathlib.Decide.{ℕ-discrete}
 use native.Mathlib.Omega.{arith}
 use native.Mathlib.Numerals.{add-one}
 use lib.ListN.{length, take}
-use Rattle.tables.specs.Table.{upd, updAll}
+use Rattle.tables.specs.Table.{upd}
+use Rattle.tables.specs.Internal.{updAll}
 use Rattle.tables.specs.Lists.{Mem, here, there, Distinct, none, more, consec}
 use Rattle.tables.specs.Count.{one, count, keep}
 use Rattle.tables.proofs.Cases.{cond-case}

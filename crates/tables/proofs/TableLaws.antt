@@ -9,7 +9,8 @@ use native.Mathlib.Omega.{arith}
 use lib.ListN.{length, getD}
 use lib.Dec.{eqb}
 use borrow.Author.Tests.{eq-eqb, ne-eqb}
-use Rattle.tables.specs.Table.{upd, updAll, updFrom, only}
+use Rattle.tables.specs.Table.{upd}
+use Rattle.tables.specs.Internal.{updAll, updFrom, only}
 use Rattle.tables.specs.Lists.{Mem, here, there}
 
 -- ---- one entry

@@ -26,7 +26,8 @@ use Rattle.stream.specs.Stream.{streamOf, clustersOf, clustersIn}
 use Rattle.entry_set.specs.Fields.{isDirectory, validLength, dataLength, clustersFor}
 use Rattle.directory.specs.Directory.{rootRecord}
 use Rattle.stream.specs.Bytes.{bytesIn}
-use Rattle.directory.specs.Entries.{entryCount, isFile, entriesAt, setAt, isSound, sets}
+use Rattle.directory.specs.Entries.{entryCount, isFile, entriesAt, setAt, isSound}
+use Rattle.directory.specs.Internal.{sets}
 use Rattle.directory.specs.Room.{withZeros}
 use Rattle.directory.proofs.EntryLaws.{sound-file}
 use Rattle.directory.proofs.FitLaws.{fit-low}

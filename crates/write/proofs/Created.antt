@@ -30,7 +30,8 @@ use Rattle.entry_set.specs.New.{newEntries, newSet}
 use Rattle.entry_set.proofs.SetLaws.{new-length, new-zero, new-entries, new-valid, new-data, new-directory, new-few, new-formed}
 use Rattle.entry_set.proofs.LengthLaws.{clusters-none}
 use Rattle.directory.specs.Directory.{rootRecord}
-use Rattle.directory.specs.Entries.{entryCount, sets}
+use Rattle.directory.specs.Entries.{entryCount}
+use Rattle.directory.specs.Internal.{sets}
 use Rattle.directory.specs.Room.{freeRun, slotOf, withZeros, growth}
 use Rattle.directory.proofs.FitLaws.{Fit}
 use Rattle.directory.proofs.DirectoryLaws.{clusters-length}

@@ -21,7 +21,8 @@ use Rattle.stream.specs.Stream.{streamOf, clustersIn}
 use Rattle.stream.specs.Bytes.{storeAt, bytesIn}
 use Rattle.entry_set.specs.Fields.{dataLength, clustersFor}
 use Rattle.write_shrink.specs.Shrink.{keptRecord, shrinkIn}
-use Rattle.directory.specs.Entries.{entriesAt, sets}
+use Rattle.directory.specs.Entries.{entriesAt}
+use Rattle.directory.specs.Internal.{sets}
 use Rattle.directory.proofs.FitLaws.{Fit, fit-high}
 use Rattle.directory.proofs.OrderedLaws.{Ordered, file-room}
 use Rattle.directory.proofs.StoreLaws.{sets-some}

@@ -21,7 +21,7 @@ use Rattle.stream.specs.declared.allocation.Allocation.{Allocation}
 use Rattle.stream.specs.Stream.{streamOf, clustersIn}
 use Rattle.directory.specs.Directory.{rootRecord}
 use Rattle.stream.specs.Bytes.{bytesIn}
-use Rattle.directory.specs.Entries.{sets}
+use Rattle.directory.specs.Internal.{sets}
 use Rattle.directory.specs.Room.{withZeros}
 use Rattle.directory.proofs.GrowthLaws.{zeros-none}
 use Rattle.directory.proofs.OrderedLaws.{Ordered}

@@ -10,7 +10,8 @@ use Rattle.boot.specs.Layout.{inHeap}
 use Rattle.boot.specs.Causes.{heapCause}
 use Rattle.boot.proofs.CauseLaws.{cause-none}
 use Rattle.entry_set.specs.Fields.{isDirectory}
-use Rattle.directory.specs.Entries.{isSound, sets}
+use Rattle.directory.specs.Entries.{isSound}
+use Rattle.directory.specs.Internal.{sets}
 use Rattle.directory.proofs.EntryLaws.{sound-file}
 use Rattle.directory.proofs.StoreLaws.{sets-file}
 use Rattle.write_dir.specs.Open.{entryCause, directoryAttributeCause, setIn, fileCause}

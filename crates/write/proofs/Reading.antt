@@ -22,7 +22,7 @@ use Rattle.metadata.proofs.Frame.{Fits, small}
 use Rattle.stream.specs.declared.allocation.Allocation.{Allocation}
 use Rattle.stream.specs.Chain.{Clusters, listed, refused, readChain}
 use Rattle.stream.specs.Stream.{numberOf, streamOf, checkChain, clustersOf, empty, clustersIn}
-use Rattle.stream.specs.Along.{after, along}
+use Rattle.stream.specs.Internal.{after, along}
 use Rattle.stream.proofs.ChainLaws.{stream-empty, stream-chain}
 use Rattle.stream.proofs.StreamLaws.{Read, read-facts, along-step, last-consec}
 use Rattle.stream.proofs.Distinct.{read-length, read-run, read-distinct}

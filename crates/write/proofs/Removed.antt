@@ -19,7 +19,8 @@ use Rattle.entry_set.specs.Put.{cleared}
 use Rattle.entry_set.proofs.SetLaws.{cleared-length, cleared-unused, cleared-not-end}
 use Rattle.write_shrink.specs.Shrink.{shrinkIn}
 use Rattle.stream.specs.Stream.{clustersIn}
-use Rattle.directory.specs.Entries.{entriesAt, sets}
+use Rattle.directory.specs.Entries.{entriesAt}
+use Rattle.directory.specs.Internal.{sets}
 use Rattle.directory.proofs.FitLaws.{Fit, fit-high}
 use Rattle.directory.proofs.StoreLaws.{sets-some, removed-ordered, removed-sets}
 use Rattle.file.specs.Outcome.{carried}

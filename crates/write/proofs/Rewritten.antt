@@ -28,7 +28,8 @@ use Rattle.entry_set.specs.declared.stamp.Stamp.{Stamp}
 use Rattle.entry_set.specs.Fields.{isDirectory, validLength, dataLength, clustersFor}
 use Rattle.entry_set.proofs.LengthLaws.{clusters-hold, clusters-mono}
 use Rattle.write_extend.specs.Extend.{extendIn}
-use Rattle.directory.specs.Entries.{isFile, entriesAt, sets}
+use Rattle.directory.specs.Entries.{isFile, entriesAt}
+use Rattle.directory.specs.Internal.{sets}
 use Rattle.directory.proofs.DirectoryLaws.{clusters-length}
 use Rattle.directory.proofs.FitLaws.{Fit}
 use Rattle.directory.proofs.OrderedLaws.{file-room}

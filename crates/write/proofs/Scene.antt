@@ -36,7 +36,8 @@ use Rattle.stream.proofs.BytesLaws.{length-of}
 use Rattle.entry_set.specs.Fields.{dataLength, clustersFor}
 use Rattle.directory.specs.Directory.{chainRecord, rootRecord, bitmapCause, directoryCause}
 use Rattle.stream.specs.Bytes.{bytesIn}
-use Rattle.directory.specs.Entries.{entryCount, entriesAt, sets}
+use Rattle.directory.specs.Entries.{entryCount, entriesAt}
+use Rattle.directory.specs.Internal.{sets}
 use Rattle.directory.proofs.FitLaws.{Fit}
 use Rattle.directory.proofs.OrderedLaws.{Ordered, file-fit}
 use Rattle.directory.proofs.StoreLaws.{sets-some}

@@ -23,7 +23,8 @@ use Rattle.entry_set.specs.Fields.{isDirectory, validLength, dataLength, cluste
 use Rattle.entry_set.proofs.SetLaws.{formed-lengths}
 use Rattle.entry_set.proofs.LengthLaws.{clusters-hold, clusters-mono}
 use Rattle.write_shrink.specs.Shrink.{keptRecord, shrinkIn}
-use Rattle.directory.specs.Entries.{entriesAt, sets}
+use Rattle.directory.specs.Entries.{entriesAt}
+use Rattle.directory.specs.Internal.{sets}
 use Rattle.directory.proofs.FitLaws.{Fit}
 use Rattle.directory.proofs.StoreLaws.{sets-some, replaced-ordered, replaced-sets}
 use Rattle.directory.proofs.DirectoryLaws.{clusters-length}

@@ -18,7 +18,7 @@ use Rattle.metadata.specs.Marks.{allocatedCount}
 use Rattle.kept.specs.Kept.{Intact}
 use Rattle.kept.proofs.IntactKeeps.{intact-same, intact-again}
 use Rattle.stream.proofs.BytesLaws.{cluster-cong}
-use Rattle.directory.specs.Entries.{sets}
+use Rattle.directory.specs.Internal.{sets}
 use Rattle.file.specs.Outcome.{Outcome, carried}
 use Rattle.write.specs.Calls.{Call, New, Write, SetLength, Remove, step, run, answers}
 use Rattle.write.specs.Consistent.{Consistent, lay, rootBytes, fileAt, setOf, fileClusters, fileBytes}

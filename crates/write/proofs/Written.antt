@@ -30,7 +30,7 @@ use Rattle.boot.specs.Causes.{wrap}
 use Rattle.write_extend.specs.Extend.{extendIn}
 use Rattle.write_extend.proofs.ExtendLaws.{extend-none}
 use Rattle.stream.specs.Stream.{clustersIn}
-use Rattle.directory.specs.Entries.{sets}
+use Rattle.directory.specs.Internal.{sets}
 use Rattle.file.specs.Outcome.{carried}
 use Rattle.write_dir.specs.Open.{fileRecord, setIn}
 use Rattle.file.specs.Refresh.{recorded, stored, missing, lengthCause, openCause, refreshedOnly}

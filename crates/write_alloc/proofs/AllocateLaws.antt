@@ -15,7 +15,8 @@ use Rattle.tables.specs.Count.{count}
 use Rattle.tables.proofs.Cases.{or-true, and-left, and-right}
 use Rattle.tables.proofs.ListLaws.{mem-take, last-of}
 use Rattle.boot.specs.declared.layout.Layout.{Layout}
-use Rattle.boot.specs.Layout.{Laid, Apart, inHeap, layoutOf}
+use Rattle.boot.specs.Internal.{Laid, Apart}
+use Rattle.boot.specs.Layout.{inHeap, layoutOf}
 use Rattle.boot.proofs.Apart.{in-heap, heap-in}
 use Rattle.tables.proofs.CountLaws.{in-keep}
 use Rattle.boot.specs.declared.geometry.Geometry.{Geometry}
@@ -26,8 +27,10 @@ use Rattle.metadata.specs.Marks.{marked, freeCount}
 use Rattle.metadata.specs.Fat.{END, setFat}
 use Rattle.metadata.specs.Usable.{isUsable}
 use Rattle.metadata.proofs.Frame.{Fits}
-use Rattle.choice.specs.Choice.{choose, around, firstUsable}
-use Rattle.write_alloc.specs.Take.{takeAll, prevTaken, prevOk, takenFrom, takenOf}
+use Rattle.choice.specs.Choice.{choose, around}
+use Rattle.choice.specs.Internal.{firstUsable}
+use Rattle.write_alloc.specs.Take.{takeAll}
+use Rattle.write_alloc.specs.Internal.{prevTaken, prevOk, takenFrom, takenOf}
 use Rattle.write_alloc.specs.declared.answer.Answer.{Answer}
 use Rattle.choice.specs.declared.choice.Choice.the-variants.{Run, Scattered, TooFew}
 use Rattle.write_alloc.specs.Outcome.{Outcome, unchanged}

@@ -8,7 +8,8 @@ use native.Mathlib.Decide.{ℕ-discrete}
 use native.Mathlib.Omega.{arith}
 use lib.ListN.{length, take}
 use borrow.Author.Tests.{eq-eqb, ne-eqb}
-use Rattle.tables.specs.Table.{upd, updAll}
+use Rattle.tables.specs.Table.{upd}
+use Rattle.tables.specs.Internal.{updAll}
 use Rattle.tables.specs.Lists.{Mem, here, there, Distinct, lastOr, consec}
 use Rattle.tables.specs.Count.{keep}
 use Rattle.tables.proofs.TableLaws.{upd-same, upd-other, all-same, all-other, all-upd}
@@ -25,7 +26,8 @@ use Rattle.metadata.proofs.Frame.{Fits, fits-kept, length-fat, length-mark}
 use Rattle.metadata.proofs.View.{Tables, plain, view, withFat, withMark, view-fat-at, view-mark-at, view-byte-at, view-setFat, view-setMark}
 use Rattle.metadata.proofs.Counting.{markedCount, free-is-unmarked}
 use Rattle.choice.specs.Choice.{around}
-use Rattle.write_alloc.specs.Take.{markRun, linkRun, takeOne, takeAll, prevTaken, takenFrom}
+use Rattle.write_alloc.specs.Take.{markRun, linkRun, takeOne, takeAll}
+use Rattle.write_alloc.specs.Internal.{prevTaken, takenFrom}
 use Rattle.write_alloc.proofs.Links.{last-append, linkOne, linkAll, Linked, one-is, link-other, link-last, link-linked, link-list, link-cong, linked-cong, link-consec, link-consec-other}
 use Rattle.write_alloc.proofs.Taking.{one-first, one-more, one-usable, one-taken, taken-cong}
 

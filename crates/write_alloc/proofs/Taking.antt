@@ -13,7 +13,8 @@ use borrow.Author.Tests.{eq-eqb, ne-eqb}
 use Rattle.tables.specs.Count.{keep}
 use Rattle.tables.proofs.CountLaws.{keep-cong}
 use Rattle.boot.specs.declared.layout.Layout.{Layout}
-use Rattle.boot.specs.Layout.{Laid, inHeap, Apart}
+use Rattle.boot.specs.Internal.{Laid, Apart}
+use Rattle.boot.specs.Layout.{inHeap}
 use Rattle.boot.proofs.Apart.{in-heap, heap-in}
 use Rattle.metadata.specs.Fat.{setFat}
 use Rattle.metadata.specs.Marks.{marked, setMark}
@@ -22,7 +23,8 @@ use Rattle.metadata.proofs.Frame.{Fits, fits-kept, length-mark, mark-mark-same,
 use Rattle.metadata.proofs.Counting.{usable-mark-other, usable-fat-marked, usable-fat-other}
 use Rattle.write_alloc.specs.declared.take.Taken.{Taken}
 use Rattle.tables.specs.Lists.{lastOr}
-use Rattle.write_alloc.specs.Take.{markRun, linkRun, takeOne, takeAll, prevTaken, takenFrom, takenOf}
+use Rattle.write_alloc.specs.Take.{markRun, linkRun, takeOne, takeAll}
+use Rattle.write_alloc.specs.Internal.{prevTaken, takenFrom, takenOf}
 
 module _ (y : Layout) (d : List ℕ) where
   pub mark-none : (k n : ℕ) → n ≤ 0 → markRun y d k n ≡ d

@@ -1,3 +1,4 @@
 pub mod Take
 pub mod Outcome
 pub mod Allocate
+pub mod Internal

@@ -1,17 +1,11 @@
 -- Clusters taken: marked, and linked where they are to be a chain. Stores stand in the order of the code.
-use mathlib.Core.Bool.{Bool, true, cond, _&&_, _||_}
+use mathlib.Core.Bool.{true, cond}
 use mathlib.Core.List.{List, [], _∷_}
-use Prim.Native.Nat.{ℕ, zero, suc, _+_, _-_}
+use Prim.Native.Nat.{ℕ, zero, suc, _+_}
 use lib.Dec.{eqb}
-use lib.ListN.{length, take}
-use Rattle.tables.specs.Count.{keep}
-use Rattle.tables.specs.Lists.{lastOr}
 use Rattle.boot.specs.declared.layout.Layout.{Layout}
-use Rattle.boot.specs.Layout.{inHeap}
 use Rattle.metadata.specs.Fat.{setFat}
-use Rattle.metadata.specs.Marks.{marked, setMark}
-use Rattle.metadata.specs.Usable.{isUsable}
-use Rattle.write_alloc.specs.declared.take.Taken.{Taken}
+use Rattle.metadata.specs.Marks.{setMark}
 
 -- the n clusters from k marked
 unfoldable pub markRun : Layout → List ℕ → ℕ → ℕ → List ℕ
@@ -31,19 +25,3 @@ takeOne y d prev k = cond (eqb prev 0) (setMark y d k true) (setFat y (setMark y
 unfoldable pub takeAll : Layout → List ℕ → ℕ → List ℕ → List ℕ
 takeAll y d prev [] = d
 takeAll y d prev (k ∷ ks) = takeAll y (takeOne y d prev k) k ks
-
--- the one before is none, or a cluster that is taken already
-unfoldable pub prevTaken : Layout → List ℕ → ℕ → Bool
-prevTaken y d prev = eqb prev 0 || marked y d prev
-
--- the first n usable clusters from `from` on, below end
-unfoldable pub takenFrom : Layout → List ℕ → List ℕ → ℕ → ℕ → ℕ → List ℕ
-takenFrom y d m from end n = take n (keep (isUsable y d m) from (end - from))
-
--- where taking the clusters of a list leads
-abbrev pub takenOf : Taken → List ℕ → Taken
-takenOf t ks = record { prev = lastOr (t .prev) ks; left = t .left - length ks }
-
--- the one before is none, or a cluster of the heap that is taken already
-unfoldable pub prevOk : Layout → List ℕ → ℕ → Bool
-prevOk y d prev = eqb prev 0 || (inHeap (y .count) prev && marked y d prev)

@@ -3,8 +3,9 @@ ghost use mathlib.Core.Path.{_≡_};
 ghost use mathlib.Core.Bool.{true};
 ghost use Prim.Native.Nat.{_+_, _-_, _*_, _≤_, _<_};
 ghost use lib.ListN.{length};
-ghost use Rattle.boot.specs.Layout.{Laid, Apart};
-ghost use Rattle.write_alloc.specs.Take.{markRun, linkRun, takeAll, takeOne, prevTaken, takenFrom, takenOf};
+ghost use Rattle.boot.specs.Internal.{Laid, Apart};
+ghost use Rattle.write_alloc.specs.Take.{markRun, linkRun, takeAll, takeOne};
+ghost use Rattle.write_alloc.specs.Internal.{prevTaken, takenFrom, takenOf};
 use boot::layout::Layout;
 
 // The cluster reached, 0 before the first, and how many are still to be taken.

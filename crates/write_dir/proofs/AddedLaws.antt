@@ -39,7 +39,8 @@ use Rattle.write_extend.specs.Extend.{extendIn}
 use Rattle.write_alloc.proofs.GrowLaws.{fresh-unmarked}
 use Rattle.write_extend.proofs.EnoughLaws.{Extended, extend-done, usable-grown}
 use Rattle.write_dir.specs.declared.place.Added.{Added}
-use Rattle.write_dir.specs.Place.{GrownDirectory, standing, addedOf, growOne, growBy, Growable}
+use Rattle.write_dir.specs.Place.{GrownDirectory, growOne, growBy}
+use Rattle.write_dir.specs.Internal.{standing, addedOf, Growable}
 
 -- ---- lists
 

@@ -11,7 +11,8 @@ use lib.ListN.{take}
 use Rattle.primitives.specs.Splice.{splice}
 use Rattle.tables.specs.Table.{upd}
 use Rattle.search.specs.declared.found.Found.the-variants.{At}
-use Rattle.directory.specs.Entries.{entryCount, sets}
+use Rattle.directory.specs.Entries.{entryCount}
+use Rattle.directory.specs.Internal.{sets}
 use Rattle.directory.specs.Room.{freeRun, slotOf, withZeros, growth}
 use Rattle.directory.proofs.FitLaws.{Fit}
 use Rattle.directory.proofs.OrderedLaws.{Ordered}

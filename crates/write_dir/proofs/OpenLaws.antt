@@ -24,10 +24,10 @@ use Rattle.metadata.specs.Cluster.{clusterByte}
 use Rattle.metadata.proofs.Frame.{Fits}
 use Rattle.stream.specs.declared.allocation.Allocation.{Allocation}
 use Rattle.stream.specs.declared.walk.Walked.{Walked}
-use Rattle.stream.specs.Along.{along}
-use Rattle.stream.specs.Bytes.{bytesOf, reached, bytesIn}
+use Rattle.stream.specs.Internal.{along, reached, walked, walkCause}
+use Rattle.stream.specs.Bytes.{bytesOf, bytesIn}
 use Rattle.stream.specs.Chain.{Clusters, listed, refused, readChain}
-use Rattle.stream.specs.Stream.{numberOf, streamOf, checkChain, walked, walkCause, clustersOf, empty, systemCause, clustersIn}
+use Rattle.stream.specs.Stream.{numberOf, streamOf, checkChain, clustersOf, empty, systemCause, clustersIn}
 use Rattle.stream.proofs.StreamLaws.{length-along, along-head}
 use Rattle.stream.proofs.ChainLaws.{chain-number, stream-empty, stream-chain, stream-not-zero}
 use Rattle.stream.proofs.ListingLaws.{stream-read}
@@ -35,13 +35,14 @@ use Rattle.stream.proofs.BytesSteps.{some-left, drop-along, Sought, sought}
 use Rattle.stream.proofs.BytesLaws.{byte-of}
 use Rattle.entry_set.specs.Fields.{noFatChain, firstCluster, dataLength, clustersFor, isDirectory}
 use Rattle.entry_set.specs.Sound.{wellFormed}
-use Rattle.directory.specs.Entries.{entryCount, typeAt, isFile, entriesAt, wholeSet, setAt, isSound}
+use Rattle.directory.specs.Entries.{entryCount, typeAt, isFile, entriesAt, setAt, isSound}
+use Rattle.directory.specs.Internal.{wholeSet}
 use Rattle.directory.proofs.EntryLaws.{sound-file, sound-few, sound-room, sound-formed, sound-of}
 use Rattle.directory.proofs.CursorLaws.{bytes-along, dir-heap, slot-bytes, along-at}
 use Rattle.directory.proofs.DirectoryLaws.{clusters-along}
 use Rattle.write_dir.specs.declared.place.Spot.{Spot}
-use Rattle.write_dir.specs.Place.{spotOf}
-use Rattle.write_dir.specs.Open.{fileRecord, entryCause, directoryAttributeCause, streamCause, setIn, fileCause, opened, openedStream, openFile}
+use Rattle.write_dir.specs.Internal.{spotOf, opened, openedStream, openFile}
+use Rattle.write_dir.specs.Open.{fileRecord, entryCause, directoryAttributeCause, streamCause, setIn, fileCause}
 
 -- ---- choices
 

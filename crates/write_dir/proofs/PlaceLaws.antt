@@ -11,19 +11,20 @@ use lib.Seq.{length-take-le, take-take, drop-drop, getD-drop}
 use Rattle.tables.specs.Lists.{every}
 use Rattle.tables.proofs.ListLaws.{every-head, every-tail}
 use Rattle.boot.specs.declared.layout.Layout.{Layout}
-use Rattle.boot.specs.Layout.{Laid, inHeap}
+use Rattle.boot.specs.Internal.{Laid}
+use Rattle.boot.specs.Layout.{inHeap}
 use Rattle.metadata.specs.Fat.{fatEntry}
 use Rattle.metadata.specs.Cluster.{putBytes}
 use Rattle.stream.specs.declared.allocation.Allocation.{Allocation}
 use Rattle.stream.specs.Stream.{numberOf, streamOf, clustersIn}
-use Rattle.stream.specs.Along.{after, along}
-use Rattle.stream.specs.Bytes.{storeAt, reached}
+use Rattle.stream.specs.Internal.{after, along, reached}
+use Rattle.stream.specs.Bytes.{storeAt}
 use Rattle.stream.proofs.ListingLaws.{along-heap}
 use Rattle.stream.proofs.BytesSteps.{take-lesser, splice-none, every-drop, drop-along, every-before, every-from, place-is, place-low, place-count, place-room, store-here, store-empty, store-over, drop-take}
 use Rattle.stream.proofs.BytesLaws.{store-front}
 use Rattle.directory.proofs.DirectoryLaws.{clusters-along, clusters-heap, clusters-length}
 use Rattle.write_dir.specs.declared.place.Spot.{Spot}
-use Rattle.write_dir.specs.Place.{spotOf, spotClusters, Reaches}
+use Rattle.write_dir.specs.Internal.{spotOf, spotClusters, Reaches}
 
 -- ---- a spot located
 

@@ -13,7 +13,6 @@ use Rattle.stream.specs.Stream.{numberOf, streamOf, clustersOf, empty, systemCa
 use Rattle.entry_set.specs.Fields.{isDirectory, noFatChain, firstCluster, dataLength, clustersFor}
 use Rattle.stream.specs.Bytes.{bytesIn}
 use Rattle.directory.specs.Entries.{setAt, isSound}
-use Rattle.write_dir.specs.declared.open_file.Opened.{Opened}
 
 -- the record of the stream of set s: the clusters that its length takes, from its first cluster; a chain's last is the walk's
 unfoldable pub fileRecord : Layout → List ℕ → List ℕ → Allocation
@@ -49,15 +48,3 @@ unfoldable pub fileCause : Layout → List ℕ → List ℕ → Allocation → �
 fileCause y d m a slot =
     let s = setIn y d a slot in
     firstCause (entryCause y (bytesIn y d a) slot ∷ directoryAttributeCause s ∷ streamCause y d m (fileRecord y d s) ∷ [])
-
--- a number with a record, which is empty beside a refusal
-unfoldable pub opened : ℕ → Allocation → Opened
-opened n a = cond (eqb n 0) (record { number = 0; allocation = a }) (record { number = n; allocation = empty })
-
--- a stream's record, or the number of what refuses it
-abbrev pub openedStream : Layout → List ℕ → List ℕ → Allocation → Opened
-openedStream y d m a = opened (streamCause y d m a) a
-
--- the file at a slot of directory a opened: its record, or the number
-unfoldable pub openFile : Layout → List ℕ → List ℕ → Allocation → ℕ → Opened
-openFile y d m a slot = opened (fileCause y d m a slot) (fileRecord y d (setIn y d a slot))

@@ -4,13 +4,15 @@ ghost use mathlib.Core.Bool.{true};
 ghost use Prim.Native.Nat.{_+_, _-_, _*_, _≤_, _<_};
 ghost use lib.ListN.{length, getD, take, drop};
 ghost use Rattle.tables.specs.Lists.{every};
-ghost use Rattle.boot.specs.Layout.{Laid, Apart, inHeap};
+ghost use Rattle.boot.specs.Internal.{Laid, Apart};
+ghost use Rattle.boot.specs.Layout.{inHeap};
 ghost use Rattle.metadata.specs.Fat.{fatEntry};
 ghost use Rattle.metadata.specs.Cluster.{putBytes};
 ghost use Rattle.stream.specs.Stream.{numberOf, streamOf};
-ghost use Rattle.stream.specs.Along.{along};
+ghost use Rattle.stream.specs.Internal.{along};
 ghost use Rattle.stream.specs.Bytes.{storeAt};
-ghost use Rattle.write_dir.specs.Place.{spotOf, spotClusters, Reaches, Growable, standing, addedOf, growOne, growBy};
+ghost use Rattle.write_dir.specs.Internal.{spotOf, spotClusters, Reaches, Growable, standing, addedOf};
+ghost use Rattle.write_dir.specs.Place.{growOne, growBy};
 use boot::layout::Layout;
 use stream::allocation::Allocation;
 

@@ -7,7 +7,7 @@ use Prim.Native.Nat.{ℕ, _+_, _≤_, _<_}
 use native.Mathlib.Decide.{ℕ-discrete, decLt}
 use native.Mathlib.Omega.{arith}
 use lib.ListN.{length}
-use Rattle.tables.specs.Table.{updAll}
+use Rattle.tables.specs.Internal.{updAll}
 use Rattle.tables.specs.Lists.{Mem, here, there, Distinct, none, every, lastOr}
 use Rattle.tables.specs.Count.{count}
 use Rattle.tables.proofs.TableLaws.{all-same, all-other}
@@ -33,7 +33,8 @@ use Rattle.choice.specs.Choice.{choose, chosen}
 use Rattle.write_alloc.specs.Outcome.{Outcome, unchanged}
 use Rattle.boot.specs.Causes.{wrap, spaceCause}
 use Rattle.write_alloc.specs.Allocate.{newRun, newChain, newStream, allocateIn}
-use Rattle.write_extend.specs.Extend.{Allowed, inPlace, longerRun, longerChain, longer, extendIn}
+use Rattle.write_extend.specs.Internal.{Allowed}
+use Rattle.write_extend.specs.Extend.{inPlace, longerRun, longerChain, longer, extendIn}
 use Rattle.choice.proofs.ChoiceLaws.{choose-inside, chosen-scattered, length-chosen, few-count}
 use Rattle.write_alloc.proofs.AllocateLaws.{near-none, space-met, space-kept, stream-run, stream-chain, in-new}
 use Rattle.write_extend.proofs.ExtendLaws.{more-heap, more-none, tail-of, wrap-heap, longer-in, longer-out, given-done, given-refused, extend-none, extend-new, extend-longer, extend-refused}

@@ -15,7 +15,8 @@ use Rattle.tables.proofs.ListLaws.{every-mem, consec-in, last-of}
 use Rattle.boot.specs.declared.geometry.Geometry.{Geometry}
 use Rattle.boot.specs.declared.layout.Layout.{Layout}
 use Rattle.boot.specs.Limits.{limits}
-use Rattle.boot.specs.Layout.{Laid, Apart, inHeap, layoutOf}
+use Rattle.boot.specs.Internal.{Laid, Apart}
+use Rattle.boot.specs.Layout.{inHeap, layoutOf}
 use Rattle.boot.specs.Causes.{firstCause, heapCause, wrap, spaceCause}
 use Rattle.boot.proofs.CauseLaws.{cause-skip, cause-met, cause-last, heap-met, heap-kept}
 use Rattle.boot.proofs.Apart.{in-heap, heap-in}
@@ -26,7 +27,7 @@ use Rattle.metadata.specs.Marks.{marked, freeCount}
 use Rattle.metadata.specs.Usable.{isUsable}
 use Rattle.stream.specs.declared.allocation.Allocation.{Allocation}
 use Rattle.stream.specs.Stream.{numberOf, streamOf, clustersOf}
-use Rattle.stream.specs.Along.{along}
+use Rattle.stream.specs.Internal.{along}
 use Rattle.stream.proofs.StreamLaws.{length-along, consec-along, last-consec}
 use Rattle.stream.proofs.ListingLaws.{stream-read}
 use Rattle.metadata.proofs.Frame.{Fits, fits-kept, length-fat, mark-fat}
@@ -35,10 +36,12 @@ use Rattle.choice.specs.declared.choice.Choice.{Choice}
 use Rattle.choice.specs.declared.choice.Choice.the-variants.{Run, Scattered, TooFew}
 use Rattle.search.specs.Search.{allFrom}
 use Rattle.choice.specs.Choice.{choose, around, beginOf, chosen}
-use Rattle.write_alloc.specs.Take.{linkRun, takeAll, prevOk}
+use Rattle.write_alloc.specs.Take.{linkRun, takeAll}
+use Rattle.write_alloc.specs.Internal.{prevOk}
 use Rattle.write_alloc.specs.Outcome.{Outcome, unchanged}
 use Rattle.write_alloc.specs.Allocate.{allocateIn}
-use Rattle.write_extend.specs.Extend.{moreCause, inPlace, linkOld, longerRun, longerChain, longer, orGiven, extendIn, extendClusters, Allowed}
+use Rattle.write_extend.specs.Extend.{moreCause, inPlace, linkOld, longerRun, longerChain, longer, orGiven, extendIn, extendClusters}
+use Rattle.write_extend.specs.Internal.{Allowed}
 use Rattle.write_alloc.proofs.AllocateLaws.{space-met, space-kept, wrap-low, wrap-high, prev-heap, Shown}
 use Rattle.choice.proofs.ChoiceLaws.{few-count, choose-inside, around-cong, length-chosen}
 use Rattle.write_alloc.proofs.TakeLaws.{length-linkRun}

@@ -37,7 +37,8 @@ use Rattle.write_alloc.specs.Take.{markRun, linkRun, takeAll}
 use Rattle.write_alloc.specs.Outcome.{Outcome, unchanged}
 use Rattle.boot.specs.Causes.{wrap}
 use Rattle.write_alloc.specs.Allocate.{allocateIn}
-use Rattle.write_extend.specs.Extend.{moreCause, Allowed, inPlace, linkOld, longerRun, longerChain, longer, extendIn}
+use Rattle.write_extend.specs.Extend.{moreCause, inPlace, linkOld, longerRun, longerChain, longer, extendIn}
+use Rattle.write_extend.specs.Internal.{Allowed}
 use Rattle.write_alloc.proofs.Links.{last-append}
 use Rattle.search.proofs.Runs.{run-hit}
 use Rattle.choice.proofs.ChoiceLaws.{choose-after, chosen-run, length-chosen, few-count}

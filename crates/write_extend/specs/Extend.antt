@@ -1,9 +1,8 @@
 -- Extend (01, "Extend"; Rust: `extend_clusters`).
-use mathlib.Core.Path.{_≡_}
 use mathlib.Core.Bool.{Bool, true, false, _&&_, cond}
 use mathlib.Core.List.{List, [], _∷_}
-use Prim.Native.Nat.{ℕ, _+_, _-_, _≤_}
-use lib.Dec.{eqb, leb, ltb}
+use Prim.Native.Nat.{ℕ, _+_, _-_}
+use lib.Dec.{eqb, leb}
 use lib.ListN.{length}
 use Rattle.tables.specs.Count.{count}
 use Rattle.tables.specs.Lists.{lastOr}
@@ -33,12 +32,6 @@ moreCause y d m a n =
     ∷ numberOf (streamOf y d a)
     ∷ spaceCause n (count (isUsable y d m) 2 (y .count))
     ∷ [])
-
--- where nothing does: what internal functions require
-pub record Allowed (y : Layout) (d m : List ℕ) (a : Allocation) (n : ℕ) : Type 0 where
-  pub room : a .count + n ≤ y .count
-  pub reads : numberOf (streamOf y d a) ≡ 0
-  pub enough : n ≤ count (isUsable y d m) 2 (y .count)
 
 -- a run whose next n clusters are usable
 unfoldable pub inPlace : Layout → List ℕ → List ℕ → Allocation → ℕ → Bool

@@ -1,2 +1,3 @@
 pub mod NewFile
 pub mod Write
+pub mod Internal

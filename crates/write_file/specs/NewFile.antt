@@ -1,16 +1,15 @@
 -- New file (01, "New file"; Rust: `make_in`, no directory).
-use mathlib.Core.Path.{_≡_}
-use mathlib.Core.Bool.{true, cond}
+use mathlib.Core.Bool.{cond}
 use mathlib.Core.List.{List, [], _∷_}
-use Prim.Native.Nat.{ℕ, _*_, _≤_}
+use Prim.Native.Nat.{ℕ, _*_}
 use lib.Dec.{eqb}
 use lib.ListN.{length, take}
 use Rattle.tables.specs.Count.{count}
 use Rattle.boot.specs.declared.geometry.Geometry.{Geometry}
 use Rattle.boot.specs.declared.layout.Layout.{Layout}
 use Rattle.boot.specs.Geometry.{rootCluster}
-use Rattle.boot.specs.Limits.{inMap, limits}
-use Rattle.boot.specs.Layout.{Laid, Apart, inHeap, isBitmapCluster, layoutOf}
+use Rattle.boot.specs.Limits.{limits}
+use Rattle.boot.specs.Layout.{layoutOf}
 use Rattle.boot.specs.Causes.{firstCause, heapCause, spaceCause}
 use Rattle.metadata.specs.Usable.{isUsable}
 use Rattle.stream.specs.declared.allocation.Allocation.{Allocation}
@@ -59,13 +58,3 @@ unfoldable pub newFile : Geometry → List ℕ → List ℕ → List ℕ → ℕ
 newFile g d m name attributes hash t hint =
     let y = layoutOf g (length d) in
     cond (limits g (length d) m) (newFileIn y d m (rootRecord y d (rootCluster g)) name attributes hash t hint) (refuse 1 hint d)
-
--- what internal functions require: a volume in the limits, a directory that opens, and a hint in the heap
-pub record Ready (y : Layout) (d m : List ℕ) (a : Allocation) (hint : ℕ) : Type 0 where
-  pub laid : Laid y
-  pub apart : Apart y
-  pub long : length d ≡ y .len
-  pub map : y .count ≤ 8 * length m
-  pub mapped : (k : ℕ) → isBitmapCluster y k ≡ true → inMap m k ≡ true
-  pub directory : directoryCause y d a ≡ 0
-  pub hint-in : inHeap (y .count) hint ≡ true

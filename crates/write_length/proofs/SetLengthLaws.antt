@@ -17,7 +17,7 @@ use Rattle.boot.proofs.CauseLaws.{cause-skip, cause-met, cause-last}
 use Rattle.metadata.specs.Fat.{fatEntry}
 use Rattle.stream.specs.declared.allocation.Allocation.{Allocation}
 use Rattle.stream.specs.Stream.{numberOf, streamOf, clustersIn}
-use Rattle.stream.specs.Along.{along}
+use Rattle.stream.specs.Internal.{along}
 use Rattle.stream.specs.Bytes.{storeAt}
 use Rattle.stream.proofs.BytesSteps.{take-along, every-take}
 use Rattle.stream.proofs.ListingLaws.{along-heap}
@@ -29,7 +29,7 @@ use Rattle.write_alloc.specs.Outcome as Alloc
 use Rattle.write_extend.specs.Extend.{extendIn}
 use Rattle.write_shrink.specs.declared.shrink.Kept.{Kept}
 use Rattle.write_shrink.specs.Shrink.{keptRecord, shrinkIn}
-use Rattle.write_shrink.specs.Kept.{keptPart, partRecord}
+use Rattle.write_shrink.specs.Internal.{keptPart, partRecord}
 use Rattle.write_shrink.proofs.Cutting.{part-record}
 use Rattle.directory.specs.Directory.{rootRecord}
 use Rattle.directory.proofs.DirectoryLaws.{clusters-along}

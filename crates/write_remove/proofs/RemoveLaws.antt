@@ -11,7 +11,8 @@ use Rattle.boot.specs.declared.geometry.Geometry.{Geometry}
 use Rattle.boot.specs.declared.layout.Layout.{Layout}
 use Rattle.boot.specs.Geometry.{rootCluster}
 use Rattle.boot.specs.Limits.{limits}
-use Rattle.boot.specs.Layout.{Laid, layoutOf}
+use Rattle.boot.specs.Internal.{Laid}
+use Rattle.boot.specs.Layout.{layoutOf}
 use Rattle.stream.specs.declared.allocation.Allocation.{Allocation}
 use Rattle.stream.specs.Bytes.{storeAt}
 use Rattle.entry_set.specs.Put.{cleared}
@@ -22,10 +23,10 @@ use Rattle.directory.proofs.DirectoryLaws.{clusters-length}
 use Rattle.file.specs.Outcome.{refuse, carried}
 use Rattle.write_dir.specs.Open.{fileRecord, setIn}
 use Rattle.write_dir.specs.declared.place.Spot.{Spot}
-use Rattle.write_dir.specs.Place.{spotOf, spotClusters}
+use Rattle.write_dir.specs.Internal.{spotOf, spotClusters}
 use Rattle.write_dir.proofs.PlaceLaws.{spot-store}
 use Rattle.file.specs.Refresh.{entriesOf, openCause}
-use Rattle.file.specs.Opens.{Stands}
+use Rattle.file.specs.Internal.{Stands}
 use Rattle.file.proofs.OpenLaws.{shown-as, carried-shown}
 use Rattle.write_remove.specs.Remove.{unlinked, removeIn, remove}
 

@@ -2,12 +2,12 @@
 ghost use mathlib.Core.Path.{_≡_};
 ghost use Prim.Native.Nat.{_*_, _≤_};
 ghost use lib.ListN.{length};
-ghost use Rattle.boot.specs.Layout.{Laid, Apart};
+ghost use Rattle.boot.specs.Internal.{Laid, Apart};
 ghost use Rattle.directory.specs.Directory.{rootRecord};
 ghost use Rattle.stream.specs.Stream.{clustersIn};
 ghost use Rattle.write_dir.specs.Open.{setIn};
 ghost use Rattle.file.specs.Refresh.{entriesOf};
-ghost use Rattle.file.specs.Opens.{Stands, Opens};
+ghost use Rattle.file.specs.Internal.{Stands, Opens};
 ghost use Rattle.write_remove.specs.Remove.{unlinked, removeIn, remove};
 use boot::geometry::Geometry;
 use boot::layout::Layout;

@@ -16,7 +16,8 @@ use Rattle.tables.proofs.ListLaws.{mem-left, mem-right, every-mem, mem-every, l
 use Rattle.boot.specs.declared.geometry.Geometry.{Geometry}
 use Rattle.boot.specs.declared.layout.Layout.{Layout}
 use Rattle.boot.specs.Limits.{limits}
-use Rattle.boot.specs.Layout.{Laid, Apart, inHeap, layoutOf}
+use Rattle.boot.specs.Internal.{Laid, Apart}
+use Rattle.boot.specs.Layout.{inHeap, layoutOf}
 use Rattle.boot.specs.Causes.{firstCause, heapCause}
 use Rattle.boot.proofs.CauseLaws.{cause-skip, cause-met, cause-last, heap-met, heap-kept}
 use Rattle.boot.proofs.Apart.{in-heap}
@@ -25,7 +26,7 @@ use Rattle.metadata.specs.Marks.{marked, setMark}
 use Rattle.metadata.proofs.Frame.{Fits, fits-kept, length-fat, length-mark, fat-fat-other, fat-mark}
 use Rattle.stream.specs.declared.allocation.Allocation.{Allocation}
 use Rattle.stream.specs.Stream.{numberOf, streamOf, clustersOf, systemCause}
-use Rattle.stream.specs.Along.{after, along}
+use Rattle.stream.specs.Internal.{after, along, reached}
 use Rattle.stream.proofs.StreamLaws.{along-step, length-along, along-head, along-rest}
 use Rattle.stream.proofs.ListingLaws.{stream-read}
 use Rattle.stream.proofs.Distinct.{along-cong, read-distinct}
@@ -33,8 +34,7 @@ use Rattle.write_alloc.specs.declared.answer.Answer.{Answer}
 use Rattle.write_shrink.specs.declared.shrink.Kept.{Kept}
 use Rattle.write_alloc.specs.Outcome.{Outcome, unchanged}
 use Rattle.write_alloc.proofs.AllocateLaws.{Shown}
-use Rattle.stream.specs.Bytes.{reached}
-use Rattle.write_shrink.specs.Kept.{keptPart, partRecord}
+use Rattle.write_shrink.specs.Internal.{keptPart, partRecord}
 use Rattle.write_shrink.specs.Shrink.{freeAll, keptRecord, endKept, shrinkCause, cut, shrinkIn, shrinkClusters}
 
 -- ---- lists put together

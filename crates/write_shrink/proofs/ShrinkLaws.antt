@@ -9,7 +9,8 @@ use lib.Dec.{eqb}
 use lib.ListN.{length, take, drop, take-append-drop}
 use lib.Seq.{take-append-seam}
 use borrow.Author.Tests.{eqb-true, eqb-false, lt-leb, not-true}
-use Rattle.tables.specs.Table.{upd, updAll}
+use Rattle.tables.specs.Table.{upd}
+use Rattle.tables.specs.Internal.{updAll}
 use Rattle.tables.specs.Lists.{Mem, here, there, Distinct, every, lastOr, consec, risingFrom, rising}
 use Rattle.tables.proofs.Cases.{clash, and-left, and-right}
 use Rattle.tables.proofs.TableLaws.{all-same, all-other, all-upd}

@@ -1,2 +1,2 @@
 pub mod Shrink
-pub mod Kept
+pub mod Internal

@@ -4,7 +4,7 @@ use mathlib.Core.Bool.{Bool, true, false, not}
 use native.Mathlib.Omega.{arith}
 use borrow.Author.Needs.{needs}
 use Rattle.metadata.specs.Marks.{marked}
-use Rattle.search.specs.Search.{pastFailing}
+use Rattle.search.specs.Internal.{pastFailing}
 use Rattle.search.proofs.Runs.{tail-none, tail-whole, tail-pass, tail-fail}
 use Rattle.choice.proofs.choice.unmarked_tail.Statement.{statement}
 use Rattle.choice.proofs.choice.unmarked_tail.Tie as tie

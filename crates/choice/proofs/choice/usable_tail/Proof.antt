@@ -3,7 +3,7 @@ use mathlib.Core.Path.{_≡_, sym, _∙_}
 use native.Mathlib.Omega.{arith}
 use borrow.Author.Needs.{needs}
 use Rattle.metadata.specs.Usable.{isUsable}
-use Rattle.search.specs.Search.{pastFailing}
+use Rattle.search.specs.Internal.{pastFailing}
 use Rattle.search.proofs.Runs.{tail-none, tail-whole, tail-pass, tail-fail}
 use Rattle.choice.proofs.choice.usable_tail.Statement.{statement}
 use Rattle.choice.proofs.choice.usable_tail.Tie as tie

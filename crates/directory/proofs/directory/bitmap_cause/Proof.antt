@@ -6,7 +6,7 @@ use Rattle.tables.specs.Lists.{every}
 use Rattle.boot.specs.Layout.{inHeap}
 use Rattle.boot.proofs.Apart.{in-heap}
 use Rattle.metadata.specs.Fat.{fatEntry}
-use Rattle.stream.specs.Along.{along}
+use Rattle.stream.specs.Internal.{along}
 use Rattle.stream.proofs.StreamLaws.{along-head, along-rest}
 use Rattle.directory.specs.Directory.{bitmapCause}
 use Rattle.directory.proofs.DirectoryLaws.{bitmap-none, bitmap-hit, bitmap-step}

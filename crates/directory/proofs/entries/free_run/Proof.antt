@@ -11,7 +11,7 @@ use Rattle.entry_set.specs.Fields.{clustersFor}
 use Rattle.search.specs.Search.{allFrom}
 use Rattle.stream.specs.Bytes.{bytesIn}
 use Rattle.directory.specs.Entries.{entryCount, inUse}
-use Rattle.directory.specs.Cursor.{entryAt}
+use Rattle.directory.specs.Internal.{entryAt}
 use Rattle.directory.proofs.CursorLaws.{entry-first, length-entries, entries-is}
 use Rattle.directory.proofs.RoomLaws.{Passed, window-in, window-rest, window-whole, window-passed, room-here, room-past}
 use Rattle.directory.proofs.WindowLaws.{slot-in, slot-passed}

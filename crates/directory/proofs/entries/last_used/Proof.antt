@@ -5,11 +5,11 @@ use native.Mathlib.Omega.{arith}
 use borrow.Author.Needs.{needs}
 use Rattle.metadata.specs.Fat.{fatEntry}
 use Rattle.metadata.proofs.Frame.{Fits}
-use Rattle.search.specs.Search.{pastFailing}
+use Rattle.search.specs.Internal.{pastFailing}
 use Rattle.search.proofs.Runs.{tail-none}
 use Rattle.stream.specs.Bytes.{bytesIn}
 use Rattle.directory.specs.Entries.{inUse}
-use Rattle.directory.specs.Cursor.{entryAt}
+use Rattle.directory.specs.Internal.{entryAt}
 use Rattle.directory.proofs.CursorLaws.{entry-next, cursor-in, cursor-use, entries-small, entries-is}
 use Rattle.directory.proofs.RoomLaws.{tail-used, tail-free}
 use Rattle.directory.proofs.entries.last_used.Statement.{statement}

@@ -6,7 +6,7 @@ use Rattle.metadata.specs.Fat.{fatEntry}
 use Rattle.metadata.proofs.Frame.{Fits}
 use Rattle.stream.specs.Bytes.{bytesIn}
 use Rattle.directory.specs.Entries.{inUse}
-use Rattle.directory.specs.Cursor.{nextEntry, entryAt}
+use Rattle.directory.specs.Internal.{nextEntry, entryAt}
 use Rattle.directory.proofs.CursorLaws.{entry-next, cursor-in, cursor-use, entries-small, entries-is}
 use Rattle.directory.proofs.RoomLaws.{window-used, window-free}
 use borrow.Author.Needs.{needs}

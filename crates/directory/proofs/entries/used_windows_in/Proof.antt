@@ -4,7 +4,7 @@ use mathlib.Core.Path.{_∙_, ap}
 use native.Mathlib.Omega.{arith}
 use lib.ListN.{length-take, length-drop}
 use borrow.Author.Needs.{needs}
-use Rattle.directory.specs.Cursor.{pastUsed}
+use Rattle.directory.specs.Internal.{pastUsed}
 use Rattle.directory.proofs.CursorLaws.{cluster-part}
 use Rattle.directory.proofs.entries.used_windows_in.Statement.{statement}
 use Rattle.directory.proofs.entries.used_windows_in.Tie as tie

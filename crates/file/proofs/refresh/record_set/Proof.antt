@@ -1,5 +1,5 @@
 use mathlib.Core.Path.{sym, subst}
-use Rattle.write_dir.specs.Place.{Reaches}
+use Rattle.write_dir.specs.Internal.{Reaches}
 use Rattle.file.specs.Refresh.{recorded}
 use borrow.Author.Needs.{needs}
 use Rattle.file.proofs.refresh.record_set.Statement.{statement}

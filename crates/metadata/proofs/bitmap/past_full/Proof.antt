@@ -3,9 +3,9 @@ use mathlib.Core.Path.{_≡_, _∙_, ap}
 use native.Mathlib.Omega.{arith}
 use borrow.Author.Needs.{needs}
 use lib.ListN.{take, drop}
-use Rattle.primitives.specs.Bits.{pastBytes}
+use Rattle.primitives.specs.Internal.{pastBytes}
 use Rattle.primitives.proofs.ByteLaws.{past-bounds}
-use Rattle.metadata.specs.Marks.{pastFull}
+use Rattle.metadata.specs.Internal.{pastFull}
 use Rattle.metadata.proofs.FullLaws.{full-part, full-bounds}
 use borrow.Author.Needs.{needs}
 use Rattle.metadata.proofs.bitmap.past_full.Statement.{statement}

@@ -1,8 +1,7 @@
 use Prim.Native.Nat.{_+_}
 use mathlib.Core.Path.{_≡_, refl, sym, _∙_}
 use native.Mathlib.Omega.{arith}
-use Rattle.metadata.specs.Fat.{entryOf}
-use Rattle.metadata.specs.Usable.{firstBad}
+use Rattle.metadata.specs.Internal.{entryOf, firstBad}
 use Rattle.metadata.proofs.Stores.{bad-none, bad-hit, bad-step}
 use Rattle.metadata.proofs.usable.first_bad.Statement.{statement}
 use Rattle.metadata.proofs.usable.first_bad.Tie as tie

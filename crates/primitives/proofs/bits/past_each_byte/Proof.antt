@@ -2,7 +2,7 @@ use Prim.Native.Nat.{_+_, _-_, _≤_}
 use mathlib.Core.Path.{_≡_, sym, _∙_}
 use native.Mathlib.Omega.{arith}
 use borrow.Author.Needs.{needs}
-use Rattle.primitives.specs.Bits.{pastBytes}
+use Rattle.primitives.specs.Internal.{pastBytes}
 use Rattle.primitives.proofs.ByteLaws.{pastTo, to-all, to-stop, to-byte, to-end}
 use Rattle.primitives.proofs.bits.past_each_byte.Statement.{statement}
 use Rattle.primitives.proofs.bits.past_each_byte.Tie as tie

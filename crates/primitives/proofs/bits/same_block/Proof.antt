@@ -2,7 +2,7 @@ use Prim.Native.Nat.{_+_, _-_, _≤_}
 use mathlib.Core.Path.{_≡_, refl, sym, _∙_, ap}
 use native.Mathlib.Omega.{arith}
 use borrow.Author.Needs.{needs}
-use Rattle.primitives.specs.Bits.{sameBytes}
+use Rattle.primitives.specs.Internal.{sameBytes}
 use Rattle.primitives.proofs.ByteLaws.{same-none, same-next}
 use Rattle.primitives.proofs.bits.same_block.Statement.{statement}
 use Rattle.primitives.proofs.bits.same_block.Tie as tie

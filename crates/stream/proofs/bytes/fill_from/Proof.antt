@@ -10,7 +10,7 @@ use Rattle.boot.proofs.Apart.{in-heap}
 use Rattle.metadata.specs.Fat.{fatEntry}
 use Rattle.metadata.specs.Cluster.{putBytes}
 use Rattle.metadata.proofs.Frame.{Fits}
-use Rattle.stream.specs.Along.{along}
+use Rattle.stream.specs.Internal.{along}
 use Rattle.stream.specs.Bytes.{storeAt}
 use Rattle.stream.proofs.StreamLaws.{along-head}
 use Rattle.stream.proofs.BytesSteps.{some-left, left-after, store-next, store-empty, take-zeros, drop-zeros}

@@ -9,7 +9,7 @@ use Rattle.tables.specs.Lists.{every}
 use Rattle.boot.specs.Layout.{inHeap}
 use Rattle.boot.proofs.Apart.{in-heap}
 use Rattle.metadata.specs.Fat.{fatEntry}
-use Rattle.stream.specs.Along.{along}
+use Rattle.stream.specs.Internal.{along}
 use Rattle.stream.specs.Bytes.{bytesOf}
 use Rattle.stream.proofs.StreamLaws.{along-head}
 use Rattle.stream.proofs.BytesSteps.{some-left, left-after, splice-none, read-next}

@@ -8,8 +8,7 @@ use Rattle.tables.specs.Lists.{every}
 use Rattle.boot.specs.Layout.{inHeap}
 use Rattle.boot.proofs.Apart.{in-heap}
 use Rattle.metadata.specs.Fat.{fatEntry}
-use Rattle.stream.specs.Along.{along}
-use Rattle.stream.specs.Bytes.{reached}
+use Rattle.stream.specs.Internal.{along, reached}
 use Rattle.stream.proofs.StreamLaws.{after-chain, along-head, along-rest}
 use Rattle.stream.proofs.BytesSteps.{reach-none, reach-step, reach-run, run-end}
 use Rattle.stream.proofs.bytes.seek.Statement.{statement}

@@ -2,7 +2,7 @@ use mathlib.Core.Path.{_∙_, ap}
 use Prim.Native.Nat.{ℕ, _-_, _/_, _%_}
 use lib.ListN.{length}
 use Rattle.metadata.specs.Fat.{fatEntry}
-use Rattle.stream.specs.Along.{along}
+use Rattle.stream.specs.Internal.{along}
 use Rattle.stream.specs.Bytes.{storeAt}
 use Rattle.stream.proofs.BytesSteps.{sought}
 use borrow.Author.Needs.{needs}

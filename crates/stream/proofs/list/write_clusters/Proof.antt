@@ -11,7 +11,7 @@ use Rattle.tables.specs.Lists.{every}
 use Rattle.boot.specs.Layout.{inHeap}
 use Rattle.boot.proofs.Apart.{in-heap}
 use Rattle.metadata.specs.Fat.{fatEntry}
-use Rattle.stream.specs.Along.{after, along}
+use Rattle.stream.specs.Internal.{after, along}
 use Rattle.stream.proofs.StreamLaws.{along-step, along-head, along-rest, drop-turn, list-turn, length-along}
 use Rattle.stream.proofs.list.write_clusters.Statement.{statement}
 use Rattle.stream.proofs.list.write_clusters.Tie as tie

@@ -6,7 +6,7 @@ use Rattle.boot.proofs.Apart.{in-heap, heap-in}
 use Rattle.metadata.specs.Fat.{fatEntry}
 use Rattle.metadata.specs.Marks.{marked}
 use Rattle.stream.specs.Chain.{chainFrom, readChain}
-use Rattle.stream.specs.Stream.{walked}
+use Rattle.stream.specs.Internal.{walked}
 use Rattle.stream.proofs.ChainLaws.{walkAt, walk-end, walk-wrong, walk-over, walk-more, walk-start, more-in}
 use Rattle.stream.proofs.walk.fat_chain.Statement.{statement}
 use Rattle.stream.proofs.walk.fat_chain.Tie as tie

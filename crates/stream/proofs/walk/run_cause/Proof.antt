@@ -7,7 +7,8 @@ use borrow.Author.Needs.{needs}
 use Rattle.boot.specs.declared.layout.Layout.{Layout}
 use Rattle.boot.specs.Layout.{inHeap}
 use Rattle.boot.proofs.Apart.{in-heap, heap-in}
-use Rattle.metadata.specs.Marks.{marked, pastFull}
+use Rattle.metadata.specs.Marks.{marked}
+use Rattle.metadata.specs.Internal.{pastFull}
 use Rattle.metadata.proofs.FullLaws.{full-marked, full-bounds}
 use Rattle.stream.specs.Stream.{runCause}
 use Rattle.stream.proofs.ChainLaws.{run-none, run-outside, run-unmarked, run-step, run-jump}

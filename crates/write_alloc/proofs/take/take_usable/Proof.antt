@@ -4,7 +4,7 @@ use mathlib.Core.Bool.{true}
 use native.Mathlib.Omega.{arith}
 use borrow.Author.Needs.{needs}
 use lib.ListN.{length}
-use Rattle.write_alloc.specs.Take.{prevTaken}
+use Rattle.write_alloc.specs.Internal.{prevTaken}
 use Rattle.write_alloc.proofs.Taking.{takes, takes-end, takes-done, takes-no, takes-yes, took, one-taken}
 use Rattle.write_alloc.proofs.take.take_usable.Statement.{statement}
 use Rattle.write_alloc.proofs.take.take_usable.Tie as tie

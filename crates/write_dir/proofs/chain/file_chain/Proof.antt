@@ -8,7 +8,7 @@ use Rattle.boot.proofs.Apart.{in-heap, heap-in}
 use Rattle.metadata.specs.Fat.{fatEntry}
 use Rattle.metadata.specs.Marks.{marked}
 use Rattle.stream.specs.Chain.{chainFrom, readChain}
-use Rattle.stream.specs.Stream.{walked}
+use Rattle.stream.specs.Internal.{walked}
 use Rattle.stream.specs.declared.walk.Walked.{Walked}
 use Rattle.write_dir.specs.declared.chain.FileChain.{FileChain}
 use Rattle.stream.proofs.ChainLaws.{next-end, next-more, next-wrong, walkAt, walk-end, walk-wrong, walk-over, walk-more, walk-start}

@@ -6,7 +6,8 @@ use Rattle.boot.specs.Layout.{inHeap}
 use Rattle.stream.specs.declared.allocation.Allocation.{Allocation}
 use Rattle.entry_set.specs.Fields.{dataLength, clustersFor}
 use Rattle.entry_set.proofs.SoundLaws.{formed-of}
-use Rattle.write_dir.specs.Open.{fileRecord, openedStream}
+use Rattle.write_dir.specs.Open.{fileRecord}
+use Rattle.write_dir.specs.Internal.{openedStream}
 use Rattle.write_dir.proofs.OpenLaws.{takes-none, takes-some, record-none, record-run, record-chain, stream-none}
 use borrow.Author.Needs.{needs}
 use Rattle.write_dir.proofs.open_file.open_stream.Statement.{statement}

@@ -3,7 +3,8 @@ use native.Mathlib.Omega.{arith}
 use borrow.Author.Needs.{needs}
 use lib.ListN.{length}
 use Rattle.metadata.proofs.Frame.{Fits}
-use Rattle.write_dir.specs.Place.{Growable, standing, growBy}
+use Rattle.write_dir.specs.Internal.{Growable, standing}
+use Rattle.write_dir.specs.Place.{growBy}
 use Rattle.write_dir.proofs.AddedLaws.{growable-one, grow-turn, grow-end}
 use Rattle.write_dir.proofs.place.grow_by.Statement.{statement}
 use Rattle.write_dir.proofs.place.grow_by.Tie as tie

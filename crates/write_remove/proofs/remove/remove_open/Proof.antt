@@ -3,7 +3,7 @@ use mathlib.Core.Path.{sym, subst}
 use Prim.Native.Nat.{ℕ}
 use native.Mathlib.Omega.{arith}
 use Rattle.file.specs.Refresh.{entriesOf}
-use Rattle.file.specs.Opens.{Stands}
+use Rattle.file.specs.Internal.{Stands}
 use Rattle.file.proofs.OpenLaws.{open-directory, open-sound, open-stands, opens-none}
 use Rattle.write_remove.proofs.RemoveLaws.{remove-done}
 use borrow.Author.Needs.{needs}

@@ -1,7 +1,7 @@
 use Rattle.file.specs.Refresh.{entriesOf}
 use Rattle.file.proofs.RefreshLaws.{entries-some}
 use Rattle.file.proofs.OpenLaws.{stands-inside, stands-reaches}
-use Rattle.write_dir.specs.Place.{Reaches}
+use Rattle.write_dir.specs.Internal.{Reaches}
 use Rattle.write_remove.proofs.RemoveLaws.{unlinked-spot}
 use mathlib.Core.Path.{sym, subst}
 use borrow.Author.Needs.{needs}

@@ -7,7 +7,7 @@ use Rattle.tables.specs.Lists.{every, Distinct}
 use Rattle.boot.specs.Layout.{inHeap}
 use Rattle.boot.proofs.Apart.{in-heap}
 use Rattle.metadata.specs.Fat.{fatEntry}
-use Rattle.stream.specs.Along.{along}
+use Rattle.stream.specs.Internal.{along}
 use Rattle.stream.proofs.StreamLaws.{along-head}
 use Rattle.write_shrink.specs.Shrink.{freeAll}
 use Rattle.write_shrink.proofs.Cutting.{freeOne, free-none, free-step, free-heap, free-distinct}

@@ -7,9 +7,9 @@ use Rattle.tables.specs.Lists.{every}
 use Rattle.boot.specs.Layout.{inHeap}
 use Rattle.boot.proofs.Apart.{in-heap}
 use Rattle.metadata.specs.Fat.{fatEntry}
-use Rattle.stream.specs.Along.{after, along}
+use Rattle.stream.specs.Internal.{after, along}
 use Rattle.stream.proofs.StreamLaws.{along-head, along-rest}
-use Rattle.write_shrink.specs.Kept.{keptPart}
+use Rattle.write_shrink.specs.Internal.{keptPart}
 use Rattle.write_shrink.proofs.Cutting.{walkKept, walk-none, walk-step, kept-none, kept-some}
 use Rattle.write_shrink.proofs.shrink.kept_part.Statement.{statement}
 use Rattle.write_shrink.proofs.shrink.kept_part.Tie as tie

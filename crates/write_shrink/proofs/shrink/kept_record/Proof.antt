@@ -1,7 +1,7 @@
 use mathlib.Core.Path.{refl}
 use native.Mathlib.Omega.{arith}
 use borrow.Author.Tests.{eq-eqb, ne-eqb}
-use Rattle.write_shrink.specs.Kept.{partRecord}
+use Rattle.write_shrink.specs.Internal.{partRecord}
 use Rattle.write_shrink.proofs.shrink.kept_record.Statement.{statement}
 use Rattle.write_shrink.proofs.shrink.kept_record.Tie as tie
 

@@ -1,12 +1,11 @@
--- The kept part of a stream that is cut, as code goes along it.
+-- What only contracts of inner functions, and proofs, speak of: no promise of a public call and no clause of the claim needs it.
 use mathlib.Core.Bool.{Bool, cond}
 use Prim.Native.Nat.{ℕ}
 use lib.Dec.{eqb}
 use Rattle.tables.specs.Lists.{lastOr, rising}
 use Rattle.stream.specs.declared.allocation.Allocation.{Allocation}
-use Rattle.stream.specs.Along.{along}
+use Rattle.stream.specs.Internal.{along, reached}
 use Rattle.stream.specs.Stream.{empty}
-use Rattle.stream.specs.Bytes.{reached}
 use Rattle.write_shrink.specs.declared.shrink.Kept.{Kept}
 
 -- n clusters from k on: the last one (0: none), whether their numbers rise by one, and the cluster after them

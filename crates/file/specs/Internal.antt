@@ -1,18 +1,20 @@
--- A file that opens: what internal functions require.
+-- What only contracts of inner functions, and proofs, speak of: no promise of a public call and no clause of the claim needs it.
 use mathlib.Core.Path.{_≡_}
 use mathlib.Core.Bool.{true, cond}
 use mathlib.Core.List.{List}
-use Prim.Native.Nat.{ℕ, _+_, _*_, _≤_}
+use Prim.Native.Nat.{ℕ, _+_, _*_, _≤_, _-_}
 use lib.Dec.{eqb}
 use lib.ListN.{length}
 use Rattle.boot.specs.declared.layout.Layout.{Layout}
-use Rattle.boot.specs.Layout.{Laid, Apart, inHeap}
+use Rattle.boot.specs.Internal.{Laid, Apart}
+use Rattle.boot.specs.Layout.{inHeap}
 use Rattle.stream.specs.declared.allocation.Allocation.{Allocation}
 use Rattle.stream.specs.Stream.{numberOf, streamOf, empty}
 use Rattle.directory.specs.Directory.{directoryCause}
 use Rattle.write_dir.specs.Open.{fileRecord, fileCause, setIn}
 use Rattle.file.specs.declared.target.Target.{Target}
 use Rattle.file.specs.Refresh.{openCause}
+use Rattle.stream.specs.declared.bytes.Place.{Place}
 
 -- n entries from a slot on, at most 19, stand in directory a, which reads
 pub record Stands (y : Layout) (d : List ℕ) (a : Allocation) (slot n : ℕ) : Type 0 where
@@ -38,3 +40,8 @@ target y d m a slot hint =
     let number = openCause y d m a slot hint in
     cond (eqb number 0) (record { number = 0; directory = a; stream = fileRecord y d (setIn y d a slot) })
     (record { number = number; directory = empty; stream = empty })
+
+-- the place that is known in stream a, grown from stream b: b's last cluster, or a's first one where b is empty
+unfoldable pub knownPlace : Allocation → Allocation → Place
+knownPlace b a =
+    cond (eqb (b .count) 0) (record { cluster = a .first; steps = 0 }) (record { cluster = b .last; steps = b .count - 1 })

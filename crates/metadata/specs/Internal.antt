@@ -1,0 +1,25 @@
+-- What only contracts of inner functions, and proofs, speak of: no promise of a public call and no clause of the claim needs it.
+use mathlib.Core.Bool.{cond}
+use mathlib.Core.List.{List}
+use Prim.Native.Nat.{ℕ, _+_, _*_, _-_, zero, suc}
+use lib.Dec.{eqb}
+use lib.ListN.{drop}
+use Rattle.primitives.specs.Words.{getLe}
+use Rattle.boot.specs.declared.layout.Layout.{Layout}
+use Rattle.primitives.specs.Internal.{pastBytes}
+use Rattle.search.specs.declared.found.Found.{Found}
+use Rattle.search.specs.declared.found.Found.the-variants.{At, Nothing}
+use Rattle.metadata.specs.Fat.{BAD}
+
+-- entry k of a FAT's bytes
+unfoldable pub entryOf : List ℕ → ℕ → ℕ
+entryOf l k = getLe 4 l (4 * k)
+
+-- the first of the n clusters from k whose byte has an unmarked cluster; k + n where there is none
+unfoldable pub pastFull : Layout → List ℕ → ℕ → ℕ → ℕ
+pastFull y d k n = pastBytes (drop (y .bitmap) d) 255 (k - 2) n + 2
+
+-- the first of the n clusters from k whose FAT entry is bad
+unfoldable pub firstBad : (ℕ → ℕ) → ℕ → ℕ → Found
+firstBad fat k zero = Nothing
+firstBad fat k (suc n) = cond (eqb (fat k) BAD) (At k) (firstBad fat (k + 1) n)

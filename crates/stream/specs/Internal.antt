@@ -1,0 +1,43 @@
+-- What only contracts of inner functions, and proofs, speak of: no promise of a public call and no clause of the claim needs it.
+use mathlib.Core.Bool.{Bool, cond, false, _&&_}
+use mathlib.Core.List.{List, [], _∷_}
+use Prim.Native.Nat.{ℕ, zero, suc, _+_, _-_, _≤_}
+use mathlib.Core.Path.{_≡_}
+use lib.Dec.{eqb}
+use lib.ListN.{length}
+use Rattle.boot.specs.declared.layout.Layout.{Layout}
+use Rattle.metadata.specs.Fat.{fatEntry}
+use Rattle.stream.specs.declared.allocation.Allocation.{Allocation}
+use Rattle.stream.specs.declared.bytes.Place.{Place}
+use Rattle.tables.specs.Lists.{every, lastOr}
+use Rattle.stream.specs.declared.walk.Walked.{Walked}
+use Rattle.stream.specs.Chain.{Clusters, listed, refused}
+
+-- the cluster after k: the next number in a run, what the FAT says in a chain
+unfoldable pub after : (ℕ → ℕ) → Bool → ℕ → ℕ
+after fat run k = cond run (k + 1) (fat k)
+
+-- n clusters from k on
+unfoldable pub along : (ℕ → ℕ) → Bool → ℕ → ℕ → List ℕ
+along fat run k zero = []
+along fat run k (suc n) = k ∷ along fat run (after fat run k) n
+
+-- the cluster that n steps along a stream lead to from k
+unfoldable pub reached : (ℕ → ℕ) → Bool → ℕ → ℕ → ℕ
+reached fat run k zero = k
+reached fat run k (suc n) = reached fat run (after fat run k) n
+
+-- place p is one of stream a: its steps lead to its cluster, and not past the last one
+pub record Known (y : Layout) (d : List ℕ) (a : Allocation) (p : Place) : Type 0 where
+  pub reaches : reached (fatEntry y d) (a .«no_fat_chain») (a .first) (p .steps) ≡ p .cluster
+  pub inside : p .steps ≤ a .count - 1
+
+-- what a walk of a chain answers
+unfoldable pub walked : (ℕ → Bool) → Clusters → Walked
+walked mark (listed ks) = record { number = 0; last = lastOr 0 ks; count = length ks; marked = every mark ks }
+walked mark (refused n) = record { number = n; last = 0; count = 0; marked = false }
+
+-- the number of a walk under a record: the walk's, then 5, then 6
+unfoldable pub walkCause : Walked → ℕ → ℕ → ℕ
+walkCause w last count =
+    cond (eqb (w .number) 0) (cond (eqb (w .count) count && eqb (w .last) last) (cond (w .marked) 0 6) 5) (w .number)
