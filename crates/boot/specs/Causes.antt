@@ -14,17 +14,17 @@ firstCause [] = 0
 firstCause (c ∷ cs) = cond (eqb c 0) (firstCause cs) c
 
 -- 1: geometry or a slice length breaks the limits
-unfoldable pub limitsCause : Geometry → List ℕ → List ℕ → ℕ
+unfoldable pub limitsCause : (g : Geometry) (d m : List ℕ) → ℕ
 limitsCause g d m = cond (limits g (length d) m) 0 1
 
 -- 2: a hint, a near or a root cluster outside 2..C+1
-unfoldable pub heapCause : ℕ → ℕ → ℕ
+unfoldable pub heapCause : (C k : ℕ) → ℕ
 heapCause C k = cond (inHeap C k) 0 2
 
 -- 7: more clusters are wanted than there are
-unfoldable pub spaceCause : ℕ → ℕ → ℕ
+unfoldable pub spaceCause : (wanted there : ℕ) → ℕ
 spaceCause wanted there = cond (ltb there wanted) 7 0
 
 -- the hint after cluster k - 1: k, or 2 after cluster C + 1
-unfoldable pub wrap : ℕ → ℕ → ℕ
+unfoldable pub wrap : (C k : ℕ) → ℕ
 wrap C k = cond (ltb k (C + 2)) k 2

@@ -44,11 +44,11 @@ unfoldable pub clusterAt : Layout → ℕ → ℕ
 clusterAt y k = y .heap + (k - 2) * y .size
 
 -- k is one of the n clusters from first
-unfoldable pub inRun : ℕ → ℕ → ℕ → Bool
+unfoldable pub inRun : (first n k : ℕ) → Bool
 inRun first n k = leb first k && ltb k (first + n)
 
 -- k is a cluster of a heap of count clusters (01: 2..C+1)
-unfoldable pub inHeap : ℕ → ℕ → Bool
+unfoldable pub inHeap : (count k : ℕ) → Bool
 inHeap count k = inRun 2 count k
 
 -- k is a cluster of a bitmap, of the active FAT's or of the other's

@@ -47,11 +47,11 @@ allInMap m k zero = true
 allInMap m k (suc n) = inMap m k && allInMap m (k + 1) n
 
 -- the n clusters from first lie in a heap of count clusters, 2..count + 1, and in the map
-unfoldable pub runInMap : List ℕ → ℕ → ℕ → ℕ → Bool
+unfoldable pub runInMap : (m : List ℕ) (count first n : ℕ) → Bool
 runInMap m count first n = leb 2 first && (leb (first + n) (count + 2) && allInMap m first n)
 
 -- the n clusters from a and the n from b share none
-unfoldable pub apart : ℕ → ℕ → ℕ → Bool
+unfoldable pub apart : (a b n : ℕ) → Bool
 apart a b n = leb (a + n) b || leb (b + n) a
 
 -- a second bitmap, where there is one, keeps the first one's limits and shares no cluster with it

@@ -17,13 +17,13 @@ orElse (At k) c = Run k
 orElse Nothing c = c
 
 -- the lowest run starting at or after start, else the lowest of all, else usable clusters one by one; too few
-unfoldable pub choose : (ℕ → Bool) → ℕ → ℕ → ℕ → Choice
+unfoldable pub choose : (u : ℕ → Bool) (C n start : ℕ) → Choice
 choose u C n start =
     orElse (runFrom u (C + 2) n start)
     (orElse (runFrom u (C + 2) n 2) (cond (ltb (count u 2 C) n) TooFew Scattered))
 
 -- the usable clusters from start to the end of the heap, then from 2
-unfoldable pub around : (ℕ → Bool) → ℕ → ℕ → List ℕ
+unfoldable pub around : (u : ℕ → Bool) (C start : ℕ) → List ℕ
 around u C start = keep u start (C + 2 - start) ++ keep u 2 (start - 2)
 
 -- where a choice begins: at its run, or at the search's start
@@ -33,5 +33,5 @@ beginOf Scattered start = start
 beginOf TooFew start = start
 
 -- the n clusters that are taken
-unfoldable pub chosen : (ℕ → Bool) → ℕ → ℕ → ℕ → List ℕ
+unfoldable pub chosen : (u : ℕ → Bool) (C n start : ℕ) → List ℕ
 chosen u C n start = take n (around u C (beginOf (choose u C n start) start))

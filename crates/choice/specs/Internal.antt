@@ -5,5 +5,5 @@ use lib.ListN.{getD}
 use Rattle.choice.specs.Choice.{around}
 
 -- the first usable cluster from start on, then from 2; 0 where there is none
-unfoldable pub firstUsable : (ℕ → Bool) → ℕ → ℕ → ℕ
+unfoldable pub firstUsable : (u : ℕ → Bool) (C start : ℕ) → ℕ
 firstUsable u C start = getD (around u C start) 0 0

@@ -28,7 +28,7 @@ abbrev pub OffEntries : Layout → List ℕ → ℕ → Type 0
 OffEntries y ks p = (k r : ℕ) → Mem k ks → r < 4 → (p ≢ y .fat0 + 4 * k + r) × (p ≢ y .fat1 + 4 * k + r)
 
 -- entry k is in e what it is in d, in either FAT
-abbrev pub EntryKept : Layout → List ℕ → List ℕ → ℕ → Type 0
+abbrev pub EntryKept : (y : Layout) (d e : List ℕ) (k : ℕ) → Type 0
 EntryKept y d e k = (fat0At y e k ≡ fat0At y d k) × (fat1At y e k ≡ fat1At y d k)
 
 -- outcome o adds n clusters, sought from start, to a record that reads as the clusters `old` on volume d

@@ -39,6 +39,6 @@ setAt bs i = splice (replicate 608 0) 0 (take (32 * entriesAt bs i) (drop (32 * 
 
 -- a sound file entry at slot i, for a heap of C clusters of size bytes: it lies before the first type 0, its set has at most 19
 -- entries and fits the directory, and the set's bytes are well formed
-unfoldable pub isSound : ℕ → ℕ → List ℕ → ℕ → Bool
+unfoldable pub isSound : (C size : ℕ) (bs : List ℕ) (i : ℕ) → Bool
 isSound C size bs i =
     isFile bs i && (leb (entriesAt bs i) 19 && (leb (i + entriesAt bs i) (entryCount bs) && wellFormed C size (setAt bs i)))

@@ -32,7 +32,7 @@ pastWindows bs n zero i = i
 pastWindows bs n (suc more) i = cond (inUse bs (i + (n - 1))) (pastWindows bs n more (i + n)) i
 
 -- the same, however many: fewer than the bytes
-unfoldable pub pastUsed : List ℕ → ℕ → ℕ → ℕ
+unfoldable pub pastUsed : (bs : List ℕ) (n i : ℕ) → ℕ
 pastUsed bs n i = pastWindows bs n (length bs) i
 
 -- the root opened: its record, or the number with the empty record
@@ -43,7 +43,7 @@ openRoot y d root =
     cond (eqb n 0) (record { number = 0; allocation = a }) (record { number = n; allocation = empty })
 
 -- where a set of n entries goes: its slot, and the clusters that the directory grows by for it
-unfoldable pub roomFor : ℕ → List ℕ → ℕ → Room
+unfoldable pub roomFor : (size : ℕ) (bs : List ℕ) (n : ℕ) → Room
 roomFor size bs n =
     let g = growth size bs n in
     record { slot = slotOf (freeRun (withZeros bs (g * size)) n); clusters = g }

@@ -32,5 +32,5 @@ unfoldable pub withZeros : List ℕ → ℕ → List ℕ
 withZeros bs n = bs ++ replicate n 0
 
 -- the fewest zeroed clusters that give the directory n such entries in a row: n clusters always do
-unfoldable pub growth : ℕ → List ℕ → ℕ → ℕ
+unfoldable pub growth : (size : ℕ) (bs : List ℕ) (n : ℕ) → ℕ
 growth size bs n = fewest (λ g. isAt (freeRun (withZeros bs (g * size)) n)) n 0

@@ -48,7 +48,7 @@ unfoldable pub dataLength : List ℕ → ℕ
 dataLength s = getLe 8 s 56
 
 -- the clusters that a length takes (01: ceil(length / cluster size))
-unfoldable pub clustersFor : ℕ → ℕ → ℕ
+unfoldable pub clustersFor : (size len : ℕ) → ℕ
 clustersFor size len = (len + (size - 1)) / size
 
 -- the name entries that a name of n units takes (01: ceil(units / 15))

@@ -13,12 +13,12 @@ unfoldable pub newEntries : ℕ → ℕ
 newEntries n = 2 + nameEntries n
 
 -- the file entry: its type, SecondaryCount, attributes and all three stamps
-unfoldable pub newFileEntry : List ℕ → ℕ → ℕ → Stamps → List ℕ
+unfoldable pub newFileEntry : (s : List ℕ) (n attributes : ℕ) (t : Stamps) → List ℕ
 newFileEntry s n attributes t =
     putAccessed (putModified (putCreated (putLe 2 (set (set s 0 0x85) 1 (1 + nameEntries n)) 4 attributes) (t .created)) (t .modified)) (t .accessed)
 
 -- the stream extension: its type, NameLength, hash, flags 1 and an empty stream
-unfoldable pub newStreamEntry : List ℕ → ℕ → ℕ → List ℕ
+unfoldable pub newStreamEntry : (s : List ℕ) (n hash : ℕ) → List ℕ
 newStreamEntry s n hash = putStream (putLe 2 (set (set s 32 0xC0) 35 n) 36 hash) 0 false 0 0
 
 -- the types of the first j name entries
@@ -36,7 +36,7 @@ putUnits s name zero = s
 putUnits s name (suc i) = putLe 2 (putUnits s name i) (unitAt i) (getD name i 0)
 
 -- the whole set, in 608 bytes
-unfoldable pub newSet : List ℕ → ℕ → ℕ → Stamps → List ℕ
+unfoldable pub newSet : (name : List ℕ) (attributes hash : ℕ) (t : Stamps) → List ℕ
 newSet name attributes hash t =
     let n = length name in
     let head = newStreamEntry (newFileEntry (replicate 608 0) n attributes t) n hash in

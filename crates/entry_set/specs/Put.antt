@@ -21,7 +21,7 @@ unfoldable pub putAccessed : List ℕ → Stamp → List ℕ
 putAccessed s t = set (putLe 4 s 16 (t .value)) 24 (t .offset)
 
 -- the stream: the flags byte whole (1, or 3 for a run), valid length, first cluster, length (Rust: `set_stream`)
-unfoldable pub putStream : List ℕ → ℕ → Bool → ℕ → ℕ → List ℕ
+unfoldable pub putStream : (s : List ℕ) (first : ℕ) (run : Bool) (valid len : ℕ) → List ℕ
 putStream s first run valid len = putLe 8 (putLe 4 (putLe 8 (set s 33 (cond run 3 1)) 40 valid) 52 first) 56 len
 
 -- attribute 0x20 (Archive) set
@@ -33,7 +33,7 @@ unfoldable pub sealed : List ℕ → ℕ → List ℕ
 sealed s n = putLe 2 s 2 (checksum s (32 * n))
 
 -- what write and set length make of a set of n entries (Rust: `record`): stream, both stamps, attribute, and last the checksum
-unfoldable pub refreshed : List ℕ → ℕ → ℕ → Bool → ℕ → ℕ → Stamp → List ℕ
+unfoldable pub refreshed : (s : List ℕ) (n first : ℕ) (run : Bool) (valid len : ℕ) (t : Stamp) → List ℕ
 refreshed s n first run valid len t = sealed (archived (putAccessed (putModified (putStream s first run valid len) t) t)) n
 
 -- bit 0x80 (InUse) of the first n entries cleared (Rust: `unset`)

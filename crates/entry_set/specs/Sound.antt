@@ -28,7 +28,7 @@ namesOk s (suc n) = namesOk s n && (eqb (entryType s (2 + n)) 0xC1 && eqb (getD 
 
 -- valid length at most length; length 0 means first cluster 0 and no run flag; otherwise first is in the heap,
 -- ceil(length / cluster size) is at most C, and a run ends in the heap
-unfoldable pub lengthsOk : ℕ → ℕ → List ℕ → Bool
+unfoldable pub lengthsOk : (C size : ℕ) (s : List ℕ) → Bool
 lengthsOk C size s =
     leb (validLength s) (dataLength s)
     && cond (eqb (dataLength s) 0) (eqb (firstCluster s) 0 && not (noFatChain s))
@@ -37,5 +37,5 @@ lengthsOk C size s =
     && (not (noFatChain s) || leb (firstCluster s + clustersFor size (dataLength s)) (C + 2))))
 
 -- all of them, for a heap of C clusters of size bytes
-unfoldable pub wellFormed : ℕ → ℕ → List ℕ → Bool
+unfoldable pub wellFormed : (C size : ℕ) (s : List ℕ) → Bool
 wellFormed C size s = headOk s && (streamEntryOk s && (namesOk s (nameEntries (nameLength s)) && lengthsOk C size s))

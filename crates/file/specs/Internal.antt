@@ -35,13 +35,13 @@ pub record Opens (y : Layout) (d m : List ℕ) (a : Allocation) (slot : ℕ) (s 
   pub hint-in : inHeap (y .count) hint ≡ true
 
 -- the file at a slot of directory a as a call finds it: both records, or the number of what refuses it
-unfoldable pub target : Layout → List ℕ → List ℕ → Allocation → ℕ → ℕ → Target
+unfoldable pub target : (y : Layout) (d m : List ℕ) (a : Allocation) (slot hint : ℕ) → Target
 target y d m a slot hint =
     let number = openCause y d m a slot hint in
     cond (eqb number 0) (record { number = 0; directory = a; stream = fileRecord y d (setIn y d a slot) })
     (record { number = number; directory = empty; stream = empty })
 
 -- the place that is known in stream a, grown from stream b: b's last cluster, or a's first one where b is empty
-unfoldable pub knownPlace : Allocation → Allocation → Place
+unfoldable pub knownPlace : (b a : Allocation) → Place
 knownPlace b a =
     cond (eqb (b .count) 0) (record { cluster = a .first; steps = 0 }) (record { cluster = b .last; steps = b .count - 1 })

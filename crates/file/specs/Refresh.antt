@@ -21,16 +21,16 @@ unfoldable pub entriesOf : List ℕ → ℕ
 entriesOf s = 1 + secondaryCount s
 
 -- set s with stream b, both lengths, the stamp, attribute 0x20 and the checksum
-unfoldable pub recorded : List ℕ → Allocation → ℕ → ℕ → Stamp → List ℕ
+unfoldable pub recorded : (s : List ℕ) (b : Allocation) (valid len : ℕ) (t : Stamp) → List ℕ
 recorded s b valid len t = refreshed s (entriesOf s) (b .first) (b .«no_fat_chain») valid len t
 
 -- and stored at a slot of the directory whose clusters are ks
-unfoldable pub stored : Layout → List ℕ → List ℕ → ℕ → List ℕ → Allocation → ℕ → ℕ → Stamp → List ℕ
+unfoldable pub stored : (y : Layout) (d ks : List ℕ) (slot : ℕ) (s : List ℕ) (b : Allocation) (valid len : ℕ) (t : Stamp) → List ℕ
 stored y d ks slot s b valid len t =
     storeAt y d ks (32 * slot) (take (32 * entriesOf s) (recorded s b valid len t))
 
 -- the entry of the file of set s refreshed, and nothing else
-unfoldable pub refreshedOnly : Layout → List ℕ → Allocation → ℕ → List ℕ → Stamp → ℕ → Outcome
+unfoldable pub refreshedOnly : (y : Layout) (d : List ℕ) (a : Allocation) (slot : ℕ) (s : List ℕ) (t : Stamp) (hint : ℕ) → Outcome
 refreshedOnly y d a slot s t hint =
     carried 0 hint (stored y d (clustersIn y d a) slot s (fileRecord y d s) (validLength s) (dataLength s) t)
 
@@ -39,9 +39,9 @@ unfoldable pub missing : Layout → Allocation → ℕ → ℕ
 missing y b len = clustersFor (y .size) len - b .count
 
 -- 7: they are more than the usable ones
-unfoldable pub lengthCause : Layout → List ℕ → List ℕ → Allocation → ℕ → ℕ
+unfoldable pub lengthCause : (y : Layout) (d m : List ℕ) (b : Allocation) (len : ℕ) → ℕ
 lengthCause y d m b len = spaceCause (missing y b len) (count (isUsable y d m) 2 (y .count))
 
 -- what refuses any call on the file at a slot of directory a, in this order: the hint, the directory's, 10, 11, the stream's
-unfoldable pub openCause : Layout → List ℕ → List ℕ → Allocation → ℕ → ℕ → ℕ
+unfoldable pub openCause : (y : Layout) (d m : List ℕ) (a : Allocation) (slot hint : ℕ) → ℕ
 openCause y d m a slot hint = firstCause (heapCause (y .count) hint ∷ directoryCause y d a ∷ fileCause y d m a slot ∷ [])

@@ -21,5 +21,5 @@ unfoldable pub bitmap1At : Layout → List ℕ → ℕ → ℕ
 bitmap1At y d i = getD d (y .bitmap1 + i) 0
 
 -- a and b are a′ and b′ now: both as they were, or alike
-unfoldable pub Twins : ℕ → ℕ → ℕ → ℕ → Type 0
+unfoldable pub Twins : (a b a′ b′ : ℕ) → Type 0
 Twins a b a′ b′ = ((a′ ≡ a) × (b′ ≡ b)) ⊎ (a′ ≡ b′)

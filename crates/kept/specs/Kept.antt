@@ -11,7 +11,7 @@ use Rattle.metadata.specs.Cluster.{clusterByte}
 use Rattle.kept.specs.Copies.{fat0At, fat1At, bitmap0At, bitmap1At}
 
 -- e has the bytes of d behind the ceil(C / 8) bytes of each bitmap, to the end of its last cluster
-unfoldable pub RestKept : Layout → List ℕ → List ℕ → Type 0
+unfoldable pub RestKept : (y : Layout) (d e : List ℕ) → Type 0
 RestKept y d e =
     (i : ℕ) → bitmapBytes (y .count) ≤ i → i < y .span * y .size
     → (bitmap0At y e i ≡ bitmap0At y d i) × (y .two ≡ true → bitmap1At y e i ≡ bitmap1At y d i)

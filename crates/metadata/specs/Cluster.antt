@@ -7,9 +7,9 @@ use Rattle.boot.specs.declared.layout.Layout.{Layout}
 use Rattle.boot.specs.Layout.{clusterAt}
 
 -- byte j of cluster k
-unfoldable pub clusterByte : Layout → List ℕ → ℕ → ℕ → ℕ
+unfoldable pub clusterByte : (y : Layout) (d : List ℕ) (k j : ℕ) → ℕ
 clusterByte y d k j = getD d (clusterAt y k + j) 0
 
 -- the volume with the bytes bs in cluster k, from its byte j on
-unfoldable pub putBytes : Layout → List ℕ → ℕ → ℕ → List ℕ → List ℕ
+unfoldable pub putBytes : (y : Layout) (d : List ℕ) (k j : ℕ) (bs : List ℕ) → List ℕ
 putBytes y d k j bs = splice d (clusterAt y k + j) bs

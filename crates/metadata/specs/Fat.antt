@@ -18,7 +18,7 @@ unfoldable pub fatEntry : Layout → List ℕ → ℕ → ℕ
 fatEntry y d k = getLe 4 d (y .fat + 4 * k)
 
 -- the volume with v as entry k of every FAT
-unfoldable pub setFat : Layout → List ℕ → ℕ → ℕ → List ℕ
+unfoldable pub setFat : (y : Layout) (d : List ℕ) (k v : ℕ) → List ℕ
 setFat y d k v =
     let first = putLe 4 d (y .fat0 + 4 * k) v in
     cond (y .two) (putLe 4 first (y .fat1 + 4 * k) v) first

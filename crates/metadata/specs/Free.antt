@@ -10,7 +10,7 @@ use Rattle.metadata.specs.declared.free.FreeCount.{FreeCount}
 use Rattle.metadata.specs.Marks.{freeCount}
 
 -- number 1 and 0 clusters where the limits do not hold, else number 0 and the unmarked clusters
-unfoldable pub freeClusters : Geometry → List ℕ → List ℕ → FreeCount
+unfoldable pub freeClusters : (g : Geometry) (d m : List ℕ) → FreeCount
 freeClusters g d m =
     cond (limits g (length d) m)
     (record { number = 0; count = freeCount (layoutOf g (length d)) d })

@@ -16,7 +16,7 @@ unfoldable pub entryOf : List ℕ → ℕ → ℕ
 entryOf l k = getLe 4 l (4 * k)
 
 -- the first of the n clusters from k whose byte has an unmarked cluster; k + n where there is none
-unfoldable pub pastFull : Layout → List ℕ → ℕ → ℕ → ℕ
+unfoldable pub pastFull : (y : Layout) (d : List ℕ) (k n : ℕ) → ℕ
 pastFull y d k n = pastBytes (drop (y .bitmap) d) 255 (k - 2) n + 2
 
 -- the first of the n clusters from k whose FAT entry is bad

@@ -16,7 +16,7 @@ unfoldable pub marked : Layout → List ℕ → ℕ → Bool
 marked y d k = eqb (bitOf (markByte y d k) ((k - 2) % 8)) 1
 
 -- the volume with b as byte i of every bitmap
-unfoldable pub putByte : Layout → List ℕ → ℕ → ℕ → List ℕ
+unfoldable pub putByte : (y : Layout) (d : List ℕ) (i b : ℕ) → List ℕ
 putByte y d i b =
     let first = set d (y .bitmap0 + i) b in
     cond (y .two) (set first (y .bitmap1 + i) b) first

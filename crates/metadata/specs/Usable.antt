@@ -9,9 +9,9 @@ use Rattle.metadata.specs.Fat.{BAD, fatEntry}
 use Rattle.metadata.specs.Marks.{marked}
 
 -- unmarked, and not in the system map
-unfoldable pub isFree : Layout → List ℕ → List ℕ → ℕ → Bool
+unfoldable pub isFree : (y : Layout) (d m : List ℕ) (k : ℕ) → Bool
 isFree y d m k = not (marked y d k) && not (inMap m k)
 
 -- unmarked, not in the system map, and not bad in the active FAT
-unfoldable pub isUsable : Layout → List ℕ → List ℕ → ℕ → Bool
+unfoldable pub isUsable : (y : Layout) (d m : List ℕ) (k : ℕ) → Bool
 isUsable y d m k = isFree y d m k && not (eqb (fatEntry y d k) BAD)

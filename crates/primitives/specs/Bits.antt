@@ -5,19 +5,19 @@ use Prim.Native.Nat.{ℕ, zero, suc, _+_, _-_, _*_, _/_, _%_, _^_}
 use lib.ListN.{getD}
 
 -- bit j of b, 0 or 1
-unfoldable pub bitOf : ℕ → ℕ → ℕ
+unfoldable pub bitOf : (b j : ℕ) → ℕ
 bitOf b j = b / 2 ^ j % 2
 
 -- b with bit j set
-unfoldable pub setBit : ℕ → ℕ → ℕ
+unfoldable pub setBit : (b j : ℕ) → ℕ
 setBit b j = b + (1 - bitOf b j) * 2 ^ j
 
 -- b with bit j clear
-unfoldable pub clearBit : ℕ → ℕ → ℕ
+unfoldable pub clearBit : (b j : ℕ) → ℕ
 clearBit b j = b - bitOf b j * 2 ^ j
 
 -- b with bit j set or clear
-unfoldable pub putBit : ℕ → ℕ → Bool → ℕ
+unfoldable pub putBit : (b j : ℕ) (on : Bool) → ℕ
 putBit b j on = cond on (setBit b j) (clearBit b j)
 
 -- bit i of a bitmap: bit i % 8 of byte i / 8

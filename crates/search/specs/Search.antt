@@ -15,7 +15,7 @@ firstRun u n zero s = Nothing
 firstRun u n (suc tries) s = cond (allFrom u s n) (At s) (firstRun u n tries (s + 1))
 
 -- the lowest run of n numbers that pass which starts at or after s and ends below end
-unfoldable pub runFrom : (ℕ → Bool) → ℕ → ℕ → ℕ → Found
+unfoldable pub runFrom : (u : ℕ → Bool) (end n s : ℕ) → Found
 runFrom u end n s = firstRun u n (end + 1 - (n + s)) s
 
 -- the least of the numbers g, g + 1, .. that a test takes, n of them tried

@@ -14,7 +14,7 @@ pub data Clusters : Type 0 where
   refused : ℕ → Clusters
 
 -- what a FAT value says: the end, another cluster of the heap, or neither
-unfoldable pub nextOf : ℕ → ℕ → Next
+unfoldable pub nextOf : (C v : ℕ) → Next
 nextOf C v = cond (eqb v END) End (cond (inHeap C v) More Wrong)
 
 -- by what it says
@@ -35,5 +35,5 @@ chainFrom C fat zero k = byNext (nextOf C (fat k)) (listed (k ∷ [])) (refused 
 chainFrom C fat (suc n) k = byNext (nextOf C (fat k)) (listed (k ∷ [])) (withFirst k (chainFrom C fat n (fat k))) (refused 3)
 
 -- the chain from first: 2 where first is outside the heap; C clusters at most
-unfoldable pub readChain : ℕ → (ℕ → ℕ) → ℕ → Clusters
+unfoldable pub readChain : (C : ℕ) (fat : ℕ → ℕ) (first : ℕ) → Clusters
 readChain C fat first = cond (inHeap C first) (chainFrom C fat (C - 1) first) (refused 2)

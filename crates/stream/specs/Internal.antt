@@ -38,6 +38,6 @@ walked mark (listed ks) = record { number = 0; last = lastOr 0 ks; count = lengt
 walked mark (refused n) = record { number = n; last = 0; count = 0; marked = false }
 
 -- the number of a walk under a record: the walk's, then 5, then 6
-unfoldable pub walkCause : Walked → ℕ → ℕ → ℕ
+unfoldable pub walkCause : (w : Walked) (last count : ℕ) → ℕ
 walkCause w last count =
     cond (eqb (w .number) 0) (cond (eqb (w .count) count && eqb (w .last) last) (cond (w .marked) 0 6) 5) (w .number)

@@ -22,13 +22,13 @@ unfoldable pub listedNumber : Layout → List ℕ → Allocation → ℕ → ℕ
 listedNumber y d a room = firstCause (roomCause a room ∷ numberOf (streamOf y d a) ∷ [])
 
 -- and the list after it: the clusters at its front, the rest as it was; refused, as it was
-unfoldable pub listedList : Layout → List ℕ → Allocation → List ℕ → List ℕ
+unfoldable pub listedList : (y : Layout) (d : List ℕ) (a : Allocation) (l : List ℕ) → List ℕ
 listedList y d a l = cond (eqb (listedNumber y d a (length l)) 0) (splice l 0 (clustersOf (streamOf y d a))) l
 
 -- the number: 1, 14, then the record's own causes
-unfoldable pub listingNumber : Geometry → List ℕ → List ℕ → Allocation → ℕ → ℕ
+unfoldable pub listingNumber : (g : Geometry) (d m : List ℕ) (a : Allocation) (room : ℕ) → ℕ
 listingNumber g d m a room = firstCause (limitsCause g d m ∷ listedNumber (layoutOf g (length d)) d a room ∷ [])
 
 -- the list after the call
-unfoldable pub listingList : Geometry → List ℕ → List ℕ → Allocation → List ℕ → List ℕ
+unfoldable pub listingList : (g : Geometry) (d m : List ℕ) (a : Allocation) (l : List ℕ) → List ℕ
 listingList g d m a l = cond (eqb (limitsCause g d m) 0) (listedList (layoutOf g (length d)) d a l) l

@@ -29,7 +29,7 @@ runCause C mark k zero = 0
 runCause C mark k (suc n) = cond (inHeap C k) (cond (mark k) (runCause C mark (k + 1) n) 6) 2
 
 -- a run: last - first + 1 = count, else 5; then 2 or 6
-unfoldable pub readRun : ℕ → (ℕ → Bool) → ℕ → ℕ → ℕ → Clusters
+unfoldable pub readRun : (C : ℕ) (mark : ℕ → Bool) (first last count : ℕ) → Clusters
 readRun C mark first last count =
     cond (eqb (last + 1) (first + count))
     (cond (eqb (runCause C mark first count) 0) (listed (consec first count)) (refused (runCause C mark first count)))
@@ -61,5 +61,5 @@ abbrev pub empty : Allocation
 empty = record { first = 0; last = 0; count = 0; «no_fat_chain» = false }
 
 -- 9: a system cluster among those of a list
-unfoldable pub systemCause : List ℕ → List ℕ → ℕ
+unfoldable pub systemCause : (m ks : List ℕ) → ℕ
 systemCause m ks = cond (every (λ k. not (inMap m k)) ks) 0 9

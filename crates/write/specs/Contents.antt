@@ -11,7 +11,7 @@ use Rattle.directory.specs.Entries.{isSound}
 use Rattle.write.specs.Consistent.{lay, rootBytes, setOf, streamAt}
 
 -- a stream's bytes as a file shows them
-unfoldable pub shown : List ℕ → ℕ → ℕ → List ℕ
+unfoldable pub shown : (bs : List ℕ) (valid len : ℕ) → List ℕ
 shown bs valid len = take valid bs ++ replicate (len - valid) 0
 
 -- slot i has a file: a sound entry with no attribute 0x10

@@ -105,7 +105,7 @@ clustersGrown g d (Remove i hint) = []
 
 -- the hint that an accepted call from d to d′ answers: as given where it must add no cluster, else the cluster after the last one of the
 -- stream that grew, 2 after cluster C+1
-unfoldable pub hintAnswered : Geometry → List ℕ → List ℕ → Call → ℕ
+unfoldable pub hintAnswered : (g : Geometry) (d d′ : List ℕ) (c : Call) → ℕ
 hintAnswered g d d′ c = cond (eqb (mustAdd g d c) 0) (hintOf c) (wrap (lay g d .count) (lastOr 0 (clustersGrown g d′ c) + 1))
 
 -- cluster k is none that a call at slot i may change: not usable, and neither the root's nor of the slot's stream

@@ -24,7 +24,7 @@ unfoldable pub filled : ℕ → List ℕ → List ℕ
 filled n l = l ++ replicate (n - length l) 0
 
 -- a set of three entries, by checksum, attributes, flags, valid length, first cluster, length and the one unit of its name
-unfoldable pub exampleSet : ℕ → ℕ → ℕ → ℕ → ℕ → ℕ → ℕ → List ℕ
+unfoldable pub exampleSet : (sum attributes flags valid first len unit : ℕ) → List ℕ
 exampleSet sum attributes flags valid first len unit =
     filled 32 (0x85 ∷ 2 ∷ sum % 256 ∷ sum / 256 ∷ attributes ∷ [])
     ++ filled 20 ((0xC0 ∷ flags ∷ 0 ∷ 1 ∷ 0 ∷ 0 ∷ 0 ∷ 0 ∷ []) ++ word valid)

@@ -10,7 +10,7 @@ use Rattle.file.specs.declared.answer.FileAnswer.{FileAnswer}
 use Rattle.write.specs.Calls.{Call, New, Write, SetLength, Remove}
 
 -- zeros up to the offset if the list is shorter, then the data from there on, past the end if need be
-unfoldable pub overwrite : List ℕ → ℕ → List ℕ → List ℕ
+unfoldable pub overwrite : (l : List ℕ) (offset : ℕ) (bs : List ℕ) → List ℕ
 overwrite l offset bs = take offset (l ++ replicate (offset - length l) 0) ++ (bs ++ drop (offset + length bs) l)
 
 -- cut, or filled up with zeros

@@ -32,11 +32,11 @@ unfoldable pub clustersTaken : Geometry → List ℕ → ℕ
 clustersTaken g d = length (rootClusters g d) + sum (lengthTakes g d) (entryCount (rootBytes g d))
 
 -- how many clusters are usable
-unfoldable pub usable : Geometry → List ℕ → List ℕ → ℕ
+unfoldable pub usable : (g : Geometry) (m d : List ℕ) → ℕ
 usable g m d = count (isUsable (lay g d) d m) 2 (lay g d .count)
 
 -- what a new length takes beyond the old one of the file at slot i
-unfoldable pub beyond : Geometry → List ℕ → ℕ → ℕ → ℕ
+unfoldable pub beyond : (g : Geometry) (d : List ℕ) (i len : ℕ) → ℕ
 beyond g d i len = clustersFor (lay g d .size) len - clustersFor (lay g d .size) (dataLength (setOf g d i))
 
 -- what a call must add: what its new length takes beyond the old; a new file the fewest zeroed clusters that give the root room; else 0

@@ -17,7 +17,7 @@ unfoldable pub prevTaken : Layout → List ℕ → ℕ → Bool
 prevTaken y d prev = eqb prev 0 || marked y d prev
 
 -- the first n usable clusters from `from` on, below end
-unfoldable pub takenFrom : Layout → List ℕ → List ℕ → ℕ → ℕ → ℕ → List ℕ
+unfoldable pub takenFrom : (y : Layout) (d m : List ℕ) (from end n : ℕ) → List ℕ
 takenFrom y d m from end n = take n (keep (isUsable y d m) from (end - from))
 
 -- where taking the clusters of a list leads

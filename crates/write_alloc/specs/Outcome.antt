@@ -10,7 +10,7 @@ pub record Outcome : Type 0 where
   pub volume : List ℕ
 
 -- number n with record and hint as given, and the volume as it came
-abbrev pub unchanged : ℕ → Allocation → ℕ → List ℕ → Outcome
+abbrev pub unchanged : (n : ℕ) (a : Allocation) (hint : ℕ) (d : List ℕ) → Outcome
 unchanged n a hint d = record { answer = record { number = n; allocation = a; hint = hint }; volume = d }
 
 -- number 0 with another record, hint and volume

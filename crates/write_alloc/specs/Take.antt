@@ -18,7 +18,7 @@ linkRun y d k zero = d
 linkRun y d k (suc n) = linkRun y (setFat y d k (k + 1)) (k + 1) n
 
 -- cluster k marked, and linked from the one before it (0: none)
-unfoldable pub takeOne : Layout → List ℕ → ℕ → ℕ → List ℕ
+unfoldable pub takeOne : (y : Layout) (d : List ℕ) (prev k : ℕ) → List ℕ
 takeOne y d prev k = cond (eqb prev 0) (setMark y d k true) (setFat y (setMark y d k true) prev k)
 
 -- the clusters of a list taken one after the other, each linked from the one before

@@ -23,11 +23,11 @@ unfoldable pub opened : ℕ → Allocation → Opened
 opened n a = cond (eqb n 0) (record { number = 0; allocation = a }) (record { number = n; allocation = empty })
 
 -- a stream's record, or the number of what refuses it
-abbrev pub openedStream : Layout → List ℕ → List ℕ → Allocation → Opened
+abbrev pub openedStream : (y : Layout) (d m : List ℕ) (a : Allocation) → Opened
 openedStream y d m a = opened (streamCause y d m a) a
 
 -- the file at a slot of directory a opened: its record, or the number
-unfoldable pub openFile : Layout → List ℕ → List ℕ → Allocation → ℕ → Opened
+unfoldable pub openFile : (y : Layout) (d m : List ℕ) (a : Allocation) (slot : ℕ) → Opened
 openFile y d m a slot = opened (fileCause y d m a slot) (fileRecord y d (setIn y d a slot))
 
 -- a directory with its volume and hint, and what a call answers of it

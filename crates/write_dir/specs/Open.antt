@@ -15,7 +15,7 @@ use Rattle.stream.specs.Bytes.{bytesIn}
 use Rattle.directory.specs.Entries.{setAt, isSound}
 
 -- the record of the stream of set s: the clusters that its length takes, from its first cluster; a chain's last is the walk's
-unfoldable pub fileRecord : Layout → List ℕ → List ℕ → Allocation
+unfoldable pub fileRecord : (y : Layout) (d s : List ℕ) → Allocation
 fileRecord y d s =
     let first = firstCluster s in
     let n = clustersFor (y .size) (dataLength s) in
@@ -36,7 +36,7 @@ unfoldable pub directoryAttributeCause : List ℕ → ℕ
 directoryAttributeCause s = cond (isDirectory s) 11 0
 
 -- what refuses a stream: 3 or 4 from a chain's walk, 5 for another count, 6; then 9 for a system cluster among its clusters
-unfoldable pub streamCause : Layout → List ℕ → List ℕ → Allocation → ℕ
+unfoldable pub streamCause : (y : Layout) (d m : List ℕ) (a : Allocation) → ℕ
 streamCause y d m a = firstCause (numberOf (streamOf y d a) ∷ systemCause m (clustersIn y d a) ∷ [])
 
 -- the set at a slot of directory a
@@ -44,7 +44,7 @@ unfoldable pub setIn : Layout → List ℕ → Allocation → ℕ → List ℕ
 setIn y d a slot = setAt (bytesIn y d a) slot
 
 -- what refuses the file at a slot of directory a: 10, 11, the stream's
-unfoldable pub fileCause : Layout → List ℕ → List ℕ → Allocation → ℕ → ℕ
+unfoldable pub fileCause : (y : Layout) (d m : List ℕ) (a : Allocation) (slot : ℕ) → ℕ
 fileCause y d m a slot =
     let s = setIn y d a slot in
     firstCause (entryCause y (bytesIn y d a) slot ∷ directoryAttributeCause s ∷ streamCause y d m (fileRecord y d s) ∷ [])

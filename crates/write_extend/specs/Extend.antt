@@ -24,7 +24,7 @@ use Rattle.write_alloc.specs.Allocate.{allocateIn}
 
 -- what refuses n more clusters for a record that has some: count plus n above C, n above the free count, the record's own
 -- causes, too few usable ones
-unfoldable pub moreCause : Layout → List ℕ → List ℕ → Allocation → ℕ → ℕ
+unfoldable pub moreCause : (y : Layout) (d m : List ℕ) (a : Allocation) (n : ℕ) → ℕ
 moreCause y d m a n =
     firstCause
     (spaceCause (a .count + n) (y .count)
@@ -34,7 +34,7 @@ moreCause y d m a n =
     ∷ [])
 
 -- a run whose next n clusters are usable
-unfoldable pub inPlace : Layout → List ℕ → List ℕ → Allocation → ℕ → Bool
+unfoldable pub inPlace : (y : Layout) (d m : List ℕ) (a : Allocation) (n : ℕ) → Bool
 inPlace y d m a n =
     a .«no_fat_chain» && (leb (a .last + 1 + n) (y .count + 2) && allFrom (isUsable y d m) (a .last + 1) n)
 
@@ -49,14 +49,14 @@ unfoldable pub linkOld : Layout → List ℕ → Allocation → List ℕ
 linkOld y d a = cond (a .«no_fat_chain») (setFat y (linkRun y d (a .first) (a .count - 1)) (a .last) END) d
 
 -- the clusters of a list linked on
-unfoldable pub longerChain : Layout → List ℕ → Allocation → List ℕ → Outcome
+unfoldable pub longerChain : (y : Layout) (d : List ℕ) (a : Allocation) (ks : List ℕ) → Outcome
 longerChain y d a ks =
     let last = lastOr (a .last) ks in
     done (record { first = a .first; last = last; count = a .count + length ks; «no_fat_chain» = false }) (wrap (y .count) (last + 1))
     (setFat y (takeAll y (linkOld y d a) (a .last) ks) last END)
 
 -- n more clusters for a record that has some, sought from last + 1
-unfoldable pub longer : Layout → List ℕ → List ℕ → Allocation → ℕ → Outcome
+unfoldable pub longer : (y : Layout) (d m : List ℕ) (a : Allocation) (n : ℕ) → Outcome
 longer y d m a n =
     cond (inPlace y d m a n) (longerRun y d a n)
     (longerChain y d a (chosen (isUsable y d m) (y .count) n (wrap (y .count) (a .last + 1))))
@@ -66,7 +66,7 @@ abbrev pub orGiven : Allocation → Outcome → Outcome
 orGiven a o = cond (eqb (o .answer .number) 0) o (unchanged (o .answer .number) a (o .answer .hint) (o .volume))
 
 -- extend on a volume that keeps the limits: the hint's 2; 0 changes nothing; an empty record is an allocation without near
-unfoldable pub extendIn : Layout → List ℕ → List ℕ → Allocation → ℕ → ℕ → Outcome
+unfoldable pub extendIn : (y : Layout) (d m : List ℕ) (a : Allocation) (n hint : ℕ) → Outcome
 extendIn y d m a n hint =
     cond (eqb (heapCause (y .count) hint) 0)
     (cond (eqb n 0) (unchanged 0 a hint d)
@@ -75,6 +75,6 @@ extendIn y d m a n hint =
     (unchanged 2 a hint d)
 
 -- add n clusters to a record
-unfoldable pub extendClusters : Geometry → List ℕ → List ℕ → Allocation → ℕ → ℕ → Outcome
+unfoldable pub extendClusters : (g : Geometry) (d m : List ℕ) (a : Allocation) (n hint : ℕ) → Outcome
 extendClusters g d m a n hint =
     cond (limits g (length d) m) (extendIn (layoutOf g (length d)) d m a n hint) (unchanged 1 a hint d)

@@ -28,7 +28,7 @@ unfoldable pub newGrowth : Layout → List ℕ → Allocation → ℕ → ℕ
 newGrowth y d a n = growth (y .size) (bytesIn y d a) (newEntries n)
 
 -- what refuses a new file in directory a, in this order: the hint, the directory's, 12, 13, 7
-unfoldable pub newFileCause : Layout → List ℕ → List ℕ → Allocation → List ℕ → ℕ → ℕ → ℕ
+unfoldable pub newFileCause : (y : Layout) (d m : List ℕ) (a : Allocation) (name : List ℕ) (attributes hint : ℕ) → ℕ
 newFileCause y d m a name attributes hint =
     firstCause
     (heapCause (y .count) hint
@@ -45,7 +45,7 @@ placed y w n s =
     carried slot (w .hint) (storeAt y (w .volume) (clustersIn y (w .volume) (w .directory)) (32 * slot) (take (32 * n) s))
 
 -- a new file in directory a
-unfoldable pub newFileIn : Layout → List ℕ → List ℕ → Allocation → List ℕ → ℕ → ℕ → Stamps → ℕ → Outcome
+unfoldable pub newFileIn : (y : Layout) (d m : List ℕ) (a : Allocation) (name : List ℕ) (attributes hash : ℕ) (t : Stamps) (hint : ℕ) → Outcome
 newFileIn y d m a name attributes hash t hint =
     let number = newFileCause y d m a name attributes hint in
     cond (eqb number 0)
@@ -54,7 +54,7 @@ newFileIn y d m a name attributes hash t hint =
     (refuse number hint d)
 
 -- a new file in the root
-unfoldable pub newFile : Geometry → List ℕ → List ℕ → List ℕ → ℕ → ℕ → Stamps → ℕ → Outcome
+unfoldable pub newFile : (g : Geometry) (d m name : List ℕ) (attributes hash : ℕ) (t : Stamps) (hint : ℕ) → Outcome
 newFile g d m name attributes hash t hint =
     let y = layoutOf g (length d) in
     cond (limits g (length d) m) (newFileIn y d m (rootRecord y d (rootCluster g)) name attributes hash t hint) (refuse 1 hint d)

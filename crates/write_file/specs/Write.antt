@@ -22,29 +22,29 @@ use Rattle.write_dir.specs.Open.{fileRecord, setIn}
 use Rattle.file.specs.Refresh.{stored, refreshedOnly, missing, lengthCause, openCause}
 
 -- the larger of two numbers
-unfoldable pub larger : ℕ → ℕ → ℕ
+unfoldable pub larger : (a b : ℕ) → ℕ
 larger a b = a + (b - a)
 
 -- 8: offset plus data length above 2^64 - 1
-unfoldable pub endCause : ℕ → ℕ → ℕ
+unfoldable pub endCause : (offset n : ℕ) → ℕ
 endCause offset n = cond (ltb (offset + n) (2 ^ 64)) 0 8
 
 -- what refuses n bytes at an offset, n not 0: 8, then 7
-unfoldable pub dataCause : Layout → List ℕ → List ℕ → List ℕ → ℕ → ℕ → ℕ
+unfoldable pub dataCause : (y : Layout) (d m s : List ℕ) (offset n : ℕ) → ℕ
 dataCause y d m s offset n =
     firstCause (endCause offset n ∷ lengthCause y d m (fileRecord y d s) (larger (dataLength s) (offset + n)) ∷ [])
 
 -- what refuses a write, in this order: the hint, the directory's, 10, 11, the stream's; with data 8, then 7
-unfoldable pub writeCause : Layout → List ℕ → List ℕ → Allocation → ℕ → ℕ → ℕ → ℕ → ℕ
+unfoldable pub writeCause : (y : Layout) (d m : List ℕ) (a : Allocation) (slot offset n hint : ℕ) → ℕ
 writeCause y d m a slot offset n hint =
     firstCause (openCause y d m a slot hint ∷ cond (eqb n 0) 0 (dataCause y d m (setIn y d a slot) offset n) ∷ [])
 
 -- data in a stream: zeros from valid up to the offset where it passes valid, then the data
-unfoldable pub withData : Layout → List ℕ → List ℕ → ℕ → ℕ → List ℕ → List ℕ
+unfoldable pub withData : (y : Layout) (d js : List ℕ) (valid offset : ℕ) (bs : List ℕ) → List ℕ
 withData y d js valid offset bs = storeAt y (storeAt y d js valid (replicate (offset - valid) 0)) js offset bs
 
 -- data written to the file of set s: grow, zero, store, then the entry set
-unfoldable pub written : Layout → List ℕ → List ℕ → Allocation → ℕ → List ℕ → ℕ → List ℕ → Stamp → ℕ → Outcome
+unfoldable pub written : (y : Layout) (d m : List ℕ) (a : Allocation) (slot : ℕ) (s : List ℕ) (offset : ℕ) (bs : List ℕ) (t : Stamp) (hint : ℕ) → Outcome
 written y d m a slot s offset bs t hint =
     let len = larger (dataLength s) (offset + length bs) in
     let o = extendIn y d m (fileRecord y d s) (missing y (fileRecord y d s) len) hint in
@@ -54,7 +54,7 @@ written y d m a slot s offset bs t hint =
     (larger (validLength s) (offset + length bs)) len t)
 
 -- data written to the file at a slot of directory a; empty data only refreshes the entry
-unfoldable pub writeIn : Layout → List ℕ → List ℕ → Allocation → ℕ → ℕ → List ℕ → Stamp → ℕ → Outcome
+unfoldable pub writeIn : (y : Layout) (d m : List ℕ) (a : Allocation) (slot offset : ℕ) (bs : List ℕ) (t : Stamp) (hint : ℕ) → Outcome
 writeIn y d m a slot offset bs t hint =
     let number = writeCause y d m a slot offset (length bs) hint in
     let s = setIn y d a slot in
@@ -63,7 +63,7 @@ writeIn y d m a slot offset bs t hint =
     (refuse number hint d)
 
 -- data written to a file of the root
-unfoldable pub writeInto : Geometry → List ℕ → List ℕ → ℕ → ℕ → List ℕ → Stamp → ℕ → Outcome
+unfoldable pub writeInto : (g : Geometry) (d m : List ℕ) (slot offset : ℕ) (bs : List ℕ) (t : Stamp) (hint : ℕ) → Outcome
 writeInto g d m slot offset bs t hint =
     let y = layoutOf g (length d) in
     cond (limits g (length d) m) (writeIn y d m (rootRecord y d (rootCluster g)) slot offset bs t hint) (refuse 1 hint d)

@@ -23,16 +23,16 @@ use Rattle.write_dir.specs.Open.{fileRecord, setIn}
 use Rattle.file.specs.Refresh.{stored, missing, lengthCause, openCause, refreshedOnly}
 
 -- the smaller of two numbers
-unfoldable pub smaller : ℕ → ℕ → ℕ
+unfoldable pub smaller : (a b : ℕ) → ℕ
 smaller a b = a - (a - b)
 
 -- what refuses a new length, in this order: the hint, the directory's, 10, 11, the stream's, 7
-unfoldable pub setLengthCause : Layout → List ℕ → List ℕ → Allocation → ℕ → ℕ → ℕ → ℕ
+unfoldable pub setLengthCause : (y : Layout) (d m : List ℕ) (a : Allocation) (slot len hint : ℕ) → ℕ
 setLengthCause y d m a slot len hint =
     firstCause (openCause y d m a slot hint ∷ lengthCause y d m (fileRecord y d (setIn y d a slot)) len ∷ [])
 
 -- shorter: the entry set with valid capped and the kept clusters, a run where their numbers rise by one; then the others freed
-unfoldable pub shorter : Layout → List ℕ → List ℕ → Allocation → ℕ → List ℕ → ℕ → Stamp → ℕ → Outcome
+unfoldable pub shorter : (y : Layout) (d m : List ℕ) (a : Allocation) (slot : ℕ) (s : List ℕ) (len : ℕ) (t : Stamp) (hint : ℕ) → Outcome
 shorter y d m a slot s len t hint =
     let b = fileRecord y d s in
     let keep = clustersFor (y .size) len in
@@ -40,11 +40,11 @@ shorter y d m a slot s len t hint =
     carried 0 hint (shrinkIn y e m b keep hint .volume)
 
 -- where the zeros of a longer file end: valid rounded up to whole clusters, or the new length if that is smaller
-unfoldable pub zeroEnd : ℕ → ℕ → ℕ → ℕ
+unfoldable pub zeroEnd : (size valid len : ℕ) → ℕ
 zeroEnd size valid len = smaller (clustersFor size valid * size) len
 
 -- longer: grow, zero from valid on, then the entry set with valid unchanged
-unfoldable pub longerFile : Layout → List ℕ → List ℕ → Allocation → ℕ → List ℕ → ℕ → Stamp → ℕ → Outcome
+unfoldable pub longerFile : (y : Layout) (d m : List ℕ) (a : Allocation) (slot : ℕ) (s : List ℕ) (len : ℕ) (t : Stamp) (hint : ℕ) → Outcome
 longerFile y d m a slot s len t hint =
     let valid = validLength s in
     let o = extendIn y d m (fileRecord y d s) (missing y (fileRecord y d s) len) hint in
@@ -54,19 +54,19 @@ longerFile y d m a slot s len t hint =
     len t)
 
 -- by the old length: shorter, equal (the entry is refreshed, and nothing else), longer
-unfoldable pub resized : Layout → List ℕ → List ℕ → Allocation → ℕ → List ℕ → ℕ → Stamp → ℕ → Outcome
+unfoldable pub resized : (y : Layout) (d m : List ℕ) (a : Allocation) (slot : ℕ) (s : List ℕ) (len : ℕ) (t : Stamp) (hint : ℕ) → Outcome
 resized y d m a slot s len t hint =
     cond (ltb len (dataLength s)) (shorter y d m a slot s len t hint)
     (cond (eqb len (dataLength s)) (refreshedOnly y d a slot s t hint) (longerFile y d m a slot s len t hint))
 
 -- a new length for the file at a slot of directory a
-unfoldable pub setLengthIn : Layout → List ℕ → List ℕ → Allocation → ℕ → ℕ → Stamp → ℕ → Outcome
+unfoldable pub setLengthIn : (y : Layout) (d m : List ℕ) (a : Allocation) (slot len : ℕ) (t : Stamp) (hint : ℕ) → Outcome
 setLengthIn y d m a slot len t hint =
     let number = setLengthCause y d m a slot len hint in
     cond (eqb number 0) (resized y d m a slot (setIn y d a slot) len t hint) (refuse number hint d)
 
 -- a new length for a file of the root
-unfoldable pub setLength : Geometry → List ℕ → List ℕ → ℕ → ℕ → Stamp → ℕ → Outcome
+unfoldable pub setLength : (g : Geometry) (d m : List ℕ) (slot len : ℕ) (t : Stamp) (hint : ℕ) → Outcome
 setLength g d m slot len t hint =
     let y = layoutOf g (length d) in
     cond (limits g (length d) m) (setLengthIn y d m (rootRecord y d (rootCluster g)) slot len t hint) (refuse 1 hint d)

@@ -20,11 +20,11 @@ use Rattle.write_dir.specs.Open.{fileRecord, setIn}
 use Rattle.file.specs.Refresh.{entriesOf, openCause}
 
 -- bit 0x80 of each entry of set s cleared at a slot of the directory whose clusters are ks
-unfoldable pub unlinked : Layout → List ℕ → List ℕ → ℕ → List ℕ → List ℕ
+unfoldable pub unlinked : (y : Layout) (d ks : List ℕ) (slot : ℕ) (s : List ℕ) → List ℕ
 unlinked y d ks slot s = storeAt y d ks (32 * slot) (take (32 * entriesOf s) (cleared s (entriesOf s)))
 
 -- the file at a slot of directory a removed: its entries cleared, then its stream freed
-unfoldable pub removeIn : Layout → List ℕ → List ℕ → Allocation → ℕ → ℕ → Outcome
+unfoldable pub removeIn : (y : Layout) (d m : List ℕ) (a : Allocation) (slot hint : ℕ) → Outcome
 removeIn y d m a slot hint =
     let number = openCause y d m a slot hint in
     let s = setIn y d a slot in
@@ -32,7 +32,7 @@ removeIn y d m a slot hint =
     (refuse number hint d)
 
 -- a file of the root removed
-unfoldable pub remove : Geometry → List ℕ → List ℕ → ℕ → ℕ → Outcome
+unfoldable pub remove : (g : Geometry) (d m : List ℕ) (slot hint : ℕ) → Outcome
 remove g d m slot hint =
     let y = layoutOf g (length d) in
     cond (limits g (length d) m) (removeIn y d m (rootRecord y d (rootCluster g)) slot hint) (refuse 1 hint d)

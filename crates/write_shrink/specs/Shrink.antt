@@ -33,24 +33,24 @@ endKept y d a [] = d
 endKept y d a (k ∷ ks) = cond (a .«no_fat_chain») d (setFat y d (lastOr k ks) END)
 
 -- what refuses it: the record's own causes, then 9 for the freed clusters
-unfoldable pub shrinkCause : Layout → List ℕ → List ℕ → Allocation → ℕ → ℕ
+unfoldable pub shrinkCause : (y : Layout) (d m : List ℕ) (a : Allocation) (keep : ℕ) → ℕ
 shrinkCause y d m a keep =
     firstCause (numberOf (streamOf y d a) ∷ systemCause m (drop keep (clustersOf (streamOf y d a))) ∷ [])
 
 -- the first `keep` clusters kept, the others freed
-unfoldable pub cut : Layout → List ℕ → Allocation → ℕ → ℕ → Outcome
+unfoldable pub cut : (y : Layout) (d : List ℕ) (a : Allocation) (keep hint : ℕ) → Outcome
 cut y d a keep hint =
     let ks = clustersOf (streamOf y d a) in
     done (keptRecord a (take keep ks)) hint (freeAll y (endKept y d a (take keep ks)) (drop keep ks))
 
 -- shrink on a volume that keeps the limits: the hint's 2; keep at or above count does nothing, unread; the causes; the cut
-unfoldable pub shrinkIn : Layout → List ℕ → List ℕ → Allocation → ℕ → ℕ → Outcome
+unfoldable pub shrinkIn : (y : Layout) (d m : List ℕ) (a : Allocation) (keep hint : ℕ) → Outcome
 shrinkIn y d m a keep hint =
     let idle = leb (a .count) keep in
     let number = firstCause (heapCause (y .count) hint ∷ cond idle 0 (shrinkCause y d m a keep) ∷ []) in
     cond (eqb number 0) (cond idle (unchanged 0 a hint d) (cut y d a keep hint)) (unchanged number a hint d)
 
 -- shrink a record to its first `keep` clusters
-unfoldable pub shrinkClusters : Geometry → List ℕ → List ℕ → Allocation → ℕ → ℕ → Outcome
+unfoldable pub shrinkClusters : (g : Geometry) (d m : List ℕ) (a : Allocation) (keep hint : ℕ) → Outcome
 shrinkClusters g d m a keep hint =
     cond (limits g (length d) m) (shrinkIn (layoutOf g (length d)) d m a keep hint) (unchanged 1 a hint d)
