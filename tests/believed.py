@@ -20,7 +20,7 @@ CLAIMS = [("write", "Demand", "Demand"), ("choice_claim", "Adds", "Allocates"), 
 # Example: a concrete consistent volume, which shows that the claim over lists is not empty.
 APART = ["Internal", "Example"]
 # Their definitions are of tests, and no promise cites them.
-TEST_CRATES = ["trials", "sample"]
+TEST_CRATES = ["trials"]
 
 ORDER = "## The order in which to read the definitions"
 USE = re.compile(r"^(?:ghost )?use Rattle·(\w+?)(?:·specs)?\.specs\.(\w+)(?:\.\{([^}]*)\}| as (\w+));?$", re.M)

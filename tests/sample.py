@@ -9,30 +9,21 @@ import pathlib
 import struct
 import sys
 
+sys.dont_write_bytecode = True
+import geometry  # noqa: E402, beside this file
+
 SAMPLE = "tests/sample/sample.txt"
 STDIN, STDOUT = "crates/sample_run/stdin", "crates/sample_run/stdout"
 KINDS = ["free count", "clusters", "allocate", "extend", "shrink", "new file", "write", "set length", "remove"]
-# words of a row: heading, slice length, geometry, map, stretches, hint, arguments, number, values
-ROW = 33
-# what the program has room for
-LARGEST_VOLUME, LARGEST_INPUT, LONGEST_STRETCH = 40960, 196608, 32768
+# what a record asks for besides the bytes that it changes: nothing, that a volume begins, a call
+BYTES, BEGIN, CALL = range(3)
+# a row: the answer, the volume, the words of a call, then map, name, data and geometry; where each begins, and where the row ends
+VOLUME, WORDS, STREAM, FILE, MAP, NAME, DATA, GEOMETRY, ROW = 128, 41088, 41164, 41184, 41224, 41240, 41840, 46960, 47024
 LONGEST_NAME = 300
 # a listing's places, and what stands in those that it does not write
 LIST, UNTOUCHED = 24, 99
-
-
-class Pool:
-    """Bytes that rows and stretches point to; what is there already is not stored again."""
-
-    def __init__(self):
-        self.bytes = bytearray()
-
-    def place(self, part):
-        at = self.bytes.find(part)
-        if at < 0:
-            at = len(self.bytes)
-            self.bytes += part
-        return at
+# what stands in the arguments that a kind of call on files does not read, so that a use of them shows
+NOT_READ = {"attributes": 0x21, "hash": 0xBEEF, "slot": 3, "number": 77, "stamps": bytes(range(0x41, 0x53)), "name": b"", "data": b""}
 
 
 def data_of(length, seed):
@@ -40,115 +31,113 @@ def data_of(length, seed):
     return bytes((seed + 7 * i + i // 256) % 256 for i in range(length))
 
 
-def arguments(kind, words, pool):
-    """The arguments of a call as words, and which of them are places in the pool."""
+def file_arguments(kind, words):
+    """All arguments of a call on files: those that it reads from the list, and others in the places of the rest."""
+    args = dict(NOT_READ)
     if kind == 5:
         units = b"".join(struct.pack("<H", int(word)) for word in words[3:])
-        assert len(units) <= 2 * LONGEST_NAME
-        stamps = bytes.fromhex(words[2])
-        return [int(words[0]), int(words[1]), pool.place(stamps), pool.place(units), len(units) // 2], (2, 3)
+        return args | {"attributes": int(words[0]), "hash": int(words[1]), "stamps": bytes.fromhex(words[2]), "name": units}
+    args["slot"] = int(words[0])
+    if kind < 8:
+        args["number"] = int(words[1])
+        modified = bytes.fromhex(words[-1])
+        args["stamps"] = NOT_READ["stamps"][:6] + modified + NOT_READ["stamps"][12:]
     if kind == 6:
-        slot, offset, length, seed = (int(word) for word in words[:4])
-        data, stamp = data_of(length, seed), bytes.fromhex(words[4])
-        return [slot, offset % 2**32, offset >> 32, pool.place(data), length, pool.place(stamp)], (3, 5)
-    if kind == 7:
-        slot, length = int(words[0]), int(words[1])
-        return [slot, length % 2**32, length >> 32, pool.place(bytes.fromhex(words[2]))], (3,)
-    return [int(word) for word in words], ()
+        args["data"] = data_of(int(words[2]), int(words[3]))
+    return args
 
 
-def values(kind, words, pool):
-    """What a call gives, as words, and which of them are places in the pool."""
+def stream_arguments(kind, words):
+    """The arguments of a call on streams as first, last, count, flag and number; allocate has near, whether it is given, and the count."""
+    given = [int(word) for word in words]
+    return [given[2], 0, 0, given[1], given[0]] if kind == 2 else given
+
+
+def values(kind, words):
+    """What a call gives, as words: a listing with the places that it leaves, a slot before the hint of a call on files."""
     given = [int(word) for word in words]
     if kind == 1:
-        assert len(given) <= LIST
-        return [pool.place(struct.pack(f"<{LIST}I", *given, *[UNTOUCHED] * (LIST - len(given))))], (0,)
-    if kind > 5:
-        return [0] + given, ()
-    return given, ()
+        return given + [UNTOUCHED] * (LIST - len(given))
+    return [0] + given if kind > 5 else given
 
 
 class Reader:
-    """Reads the list: the rows, the stretches and the pool."""
+    """Reads the list and keeps the row as the program has it: the records tell what changes."""
 
     def __init__(self):
-        self.pool, self.rows, self.stretches, self.lines = Pool(), [], [], []
-        self.volumes, self.changes = 0, []
+        self.has, self.row, self.open = bytearray(ROW), bytearray(ROW), BYTES
+        self.records, self.lines, self.calls, self.volumes = [], [], 0, 0
+
+    def record(self, what, at=0, part=b""):
+        self.records.append(struct.pack("<2BH", what, len(part), at) + part)
+
+    def finish(self):
+        """Tells the bytes that changed (and short stretches between them), then the volume's start or the call."""
+        places = [i for i in range(ROW) if self.has[i] != self.row[i]]
+        while places:
+            first = last = places[0]
+            while places and places[0] - last <= 4 and places[0] - first < 255:
+                last = places.pop(0)
+            self.record(BYTES, first, self.row[first : last + 1])
+        if self.open != BYTES:
+            self.record(self.open)
+        self.has[:], self.open = self.row, BYTES
 
     def line(self, words):
         getattr(self, words[0])(words[1:])
 
+    def put(self, at, part, end):
+        assert at + len(part) <= end
+        self.row[at : at + len(part)] = part
+
     def volume(self, words):
+        self.finish()
         self.volumes += 1
         self.index, self.length, self.geometry = int(words[0]), int(words[1]), [int(word) for word in words[2:]]
-        assert self.length <= LARGEST_VOLUME and len(self.geometry) == 11
-        self.start, self.call_words = len(self.stretches), None
+        self.put(VOLUME, bytes(WORDS - VOLUME), WORDS)
+        self.open = BEGIN
 
     def map(self, words):
-        bits = bytes.fromhex(words[0]) if words else b""
-        self.system = (self.pool.place(bits), len(bits))
-
-    def stretch(self, at, part):
-        assert at + len(part) <= self.length and len(part) <= LONGEST_STRETCH
-        self.stretches.append((at, len(part), self.pool.place(part)))
-        if self.call_words:
-            self.rows[-1]["after"] += 1
+        self.bits = bytes.fromhex(words[0]) if words else b""
 
     def bytes(self, words):
-        self.stretch(int(words[0]), bytes.fromhex(words[1]))
+        self.put(VOLUME + int(words[0]), bytes.fromhex(words[1]), VOLUME + self.length)
 
-    def change(self, words):
-        self.bytes(words)
+    change = bytes
 
     def fill(self, words):
-        self.stretch(int(words[0]), bytes.fromhex(words[2]) * int(words[1]))
+        self.put(VOLUME + int(words[0]), bytes.fromhex(words[2]) * int(words[1]), VOLUME + self.length)
 
     def call(self, words):
+        self.finish()
         self.call_words = words
 
     def answer(self, words):
-        kind, hint, number = int(self.call_words[0]), int(self.call_words[1]), int(words[0])
-        self.rows.append({
-            "head": [self.index, len(self.rows) + 1, kind, self.length] + self.geometry,
-            "map": self.system,
-            "start": self.start, "before": len(self.stretches) - self.start, "after": 0,
-            "hint": hint, "number": number,
-            "arguments": arguments(kind, self.call_words[2:], self.pool),
-            "values": values(kind, words[1:], self.pool),
-        })
-        self.lines.append(f"volume {self.index} call {len(self.rows)} {KINDS[kind]}: {number} agrees")
-
-
-def padded(words, places, base, width):
-    """The words with the pool's start added to the places, and zeros up to the width."""
-    moved = [word + base if i in places else word for i, word in enumerate(words)]
-    return moved + [0] * (width - len(moved))
-
-
-def stdin_of(reader):
-    """Number of calls, number of volumes, the rows, the stretches, the pool."""
-    stretches_at = 8 + 4 * ROW * len(reader.rows)
-    base = stretches_at + 12 * len(reader.stretches)
-    out = bytearray(struct.pack("<2I", len(reader.rows), reader.volumes))
-    for row in reader.rows:
-        words = row["head"] + [row["map"][0] + base, row["map"][1]]
-        words += [stretches_at + 12 * row["start"], row["before"], row["after"], row["hint"]]
-        words += padded(*row["arguments"], base, 6) + [row["number"]] + padded(*row["values"], base, 5)
-        assert len(words) == ROW
-        out += struct.pack(f"<{ROW}I", *words)
-    for at, length, place in reader.stretches:
-        out += struct.pack("<3I", at, length, place + base)
-    out += reader.pool.bytes
-    assert len(out) <= LARGEST_INPUT
-    return bytes(out)
+        kind, hint, rest = int(self.call_words[0]), int(self.call_words[1]), self.call_words[2:]
+        self.calls += 1
+        args = file_arguments(kind, rest) if kind > 4 else NOT_READ
+        head = [self.index, self.calls, kind, self.length, len(self.bits), len(args["data"]), len(args["name"]) // 2, hint]
+        stream = stream_arguments(kind, rest) if kind < 5 else []
+        given = [int(words[0])] + values(kind, words[1:])
+        assert len(self.geometry) == geometry.WORDS and len(args["name"]) <= 2 * LONGEST_NAME
+        for at, numbers, end in (0, given, VOLUME), (WORDS, head, STREAM), (STREAM, stream, FILE), (GEOMETRY, self.geometry, ROW):
+            self.put(at, struct.pack(f"<{len(numbers)}I", *numbers), end)
+        self.put(FILE, struct.pack("<HHIQ18s", *(args[name] for name in ("attributes", "hash", "slot", "number", "stamps"))), MAP)
+        for at, part, end in (MAP, self.bits, NAME), (NAME, args["name"], DATA), (DATA, args["data"], GEOMETRY):
+            self.put(at, part, end)
+        line = f"volume {self.index} call {self.calls} {KINDS[kind]}%s: {given[0]} agrees"
+        self.lines += [line % way for way in (["", " by carry_out"] if kind > 4 else [""])]
+        self.open = CALL
 
 
 def main():
     reader = Reader()
     for line in pathlib.Path(SAMPLE).read_text(encoding="ascii").splitlines():
         reader.line(line.split())
-    last = f"{len(reader.rows)} calls on {reader.volumes} volumes"
-    made = {STDIN: stdin_of(reader), STDOUT: "\n".join(reader.lines + [last, ""]).encode("ascii")}
+    reader.finish()
+    last = f"{reader.calls} calls on {reader.volumes} volumes"
+    stdin = struct.pack("<3I", len(reader.records), reader.calls, reader.volumes) + b"".join(reader.records)
+    made = {STDIN: stdin, STDOUT: "\n".join(reader.lines + [last, ""]).encode("ascii")}
     for path, content in made.items():
         if sys.argv[1:2] != ["--check"]:
             pathlib.Path(path).write_bytes(content)

@@ -1,4 +1,0 @@
-pub mod ReplayLaws
-pub mod RowLaws
-pub mod SameLaws
-pub mod StretchLaws
