@@ -287,7 +287,7 @@ module _ (g : Geometry) (m d : List ℕ) (c : Consistent g m d) (name : List ℕ
         ]
 
     created : step g m d (New name attributes hash t hint) ≡ placed y w n x → Step g m d (New name attributes hash t hint)
-    unfolding demand.slotOf demand.setAfter accepted finds hasList demand.rootAdds mustAdd demand.slotAnswered demand.rootGrown newGrowth rootBytes
+    unfolding demand.callSlot demand.setAfter accepted finds hasList demand.rootAdds mustAdd demand.slotAnswered demand.rootGrown newGrowth rootBytes
     created q =
         carried-step g m d (New name attributes hash t hint) at (w .hint) d₂ more (some x) c (q ∙ placed-at) refl refl refl hinted change
         (shows ∙ sym (upd-same (contents g d) at (some []))) (ap (λ (o : Option (List ℕ)). not (hasList o)) none-before)
