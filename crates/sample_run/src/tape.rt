@@ -4,22 +4,24 @@ use crate::files;
 use crate::row;
 use crate::streams;
 use boot::geometry::GEOMETRY_WORDS;
+use boot::geometry::Geometry;
 use boot::geometry::geometry_of;
 use libc::STDIN_FILENO;
 use primitives::words::u16_at;
 use primitives::words::u32_at;
 
 // A call, by its kind.
-fn call(map: &[u8], units: usize, data: &[u8], vol: [u8; 65792], want: &[u8; 65792], e: usize)
+fn call(
+    map: &[u8],
+    g: Geometry,
+    units: usize,
+    data: &[u8],
+    vol: [u8; 65792],
+    want: &[u8; 65792],
+    e: usize,
+)
     requires { ⌜ (units ≤ 300) × ((128 ≤ e) × (e ≤ 41088)) ⌝ }
 {
-    let mut words = [0u32; GEOMETRY_WORDS];
-    let mut i = 0;
-    while i < GEOMETRY_WORDS {
-        words[i] = u32_at(want, 46960 + 4 * i);
-        i += 1;
-    }
-    let g = geometry_of(&words);
     let kind = u32_at(want, 41096);
     match kind {
         0 => streams::free_count(map, g, vol, want, e),
@@ -30,6 +32,19 @@ fn call(map: &[u8], units: usize, data: &[u8], vol: [u8; 65792], want: &[u8; 657
         8 => files::remove(map, g, vol, want, e),
         _ => streams::on_record(kind, map, g, vol, want, e),
     }
+}
+
+// A call with its geometry: the words from byte 46960 on.
+fn measured(map: &[u8], units: usize, data: &[u8], vol: [u8; 65792], want: &[u8; 65792], e: usize)
+    requires { ⌜ (units ≤ 300) × ((128 ≤ e) × (e ≤ 41088)) ⌝ }
+{
+    let mut words = [0u32; GEOMETRY_WORDS];
+    let mut i = 0;
+    while i < GEOMETRY_WORDS {
+        words[i] = u32_at(want, 46960 + 4 * i);
+        i += 1;
+    }
+    call(map, geometry_of(&words), units, data, vol, want, e);
 }
 
 // A call with its slices; no line where one of them is longer than there is room for.
@@ -45,7 +60,7 @@ fn sliced(src: &[u8], vol: [u8; 65792], want: &[u8; 65792]) {
         if e <= 41088 {
             if me <= src.len() {
                 if de <= src.len() {
-                    call(&src[m..me], u, &src[d..de], vol, want, e);
+                    measured(&src[m..me], u, &src[d..de], vol, want, e);
                 }
             }
         }
