@@ -5,12 +5,9 @@ use mathlib.Core.List.{List, [], _∷_}
 use Prim.Native.Nat.{ℕ}
 use native.Mathlib.Decide.{ℕ-discrete}
 use lib.Dec.{eqb}
-use lib.ListN.{length}
 use borrow.Author.Tests.{eq-eqb, ne-eqb, eqb-true}
-use Rattle.boot.specs.declared.geometry.Geometry.{Geometry}
-use Rattle.boot.specs.Limits.{limits}
 use Rattle.boot.specs.Layout.{inHeap}
-use Rattle.boot.specs.Causes.{firstCause, limitsCause, heapCause}
+use Rattle.boot.specs.Causes.{firstCause, heapCause}
 
 -- a cause that is not met is passed over
 pub cause-skip : (c : ℕ) (cs : List ℕ) → c ≡ 0 → firstCause (c ∷ cs) ≡ firstCause cs
@@ -38,15 +35,6 @@ cause-last c = by (eqb c 0) refl
     by : (b : Bool) → eqb c 0 ≡ b → cond b 0 c ≡ c
     by true e = sym (eqb-true c 0 e)
     by false e = refl
-
-module _ (g : Geometry) (d m : List ℕ) where
-  pub limits-met : limits g (length d) m ≡ false → limitsCause g d m ≡ 1
-  unfolding limitsCause
-  limits-met e = rw e refl
-
-  pub limits-kept : limits g (length d) m ≡ true → limitsCause g d m ≡ 0
-  unfolding limitsCause
-  limits-kept e = rw e refl
 
 pub heap-met : (C k : ℕ) → inHeap C k ≡ false → heapCause C k ≡ 2
 unfolding heapCause

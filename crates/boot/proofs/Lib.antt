@@ -6,4 +6,5 @@ pub mod Places
 pub mod Clusters
 pub mod Apart
 pub mod CauseLaws
+pub mod Admission
 pub mod Spans

@@ -17,6 +17,10 @@ firstCause (c ∷ cs) = cond (eqb c 0) (firstCause cs) c
 unfoldable pub limitsCause : (g : Geometry) (d m : List ℕ) → ℕ
 limitsCause g d m = cond (limits g (length d) m) 0 1
 
+-- what refuses any call before all else (01: "Every call tests 1 first"); further causes of this kind join the list
+unfoldable pub admitCause : (g : Geometry) (d m : List ℕ) → ℕ
+admitCause g d m = firstCause (limitsCause g d m ∷ [])
+
 -- 2: a hint, a near or a root cluster outside 2..C+1
 unfoldable pub heapCause : (C k : ℕ) → ℕ
 heapCause C k = cond (inHeap C k) 0 2

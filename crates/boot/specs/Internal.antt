@@ -2,11 +2,14 @@
 use mathlib.Core.Path.{_≡_}
 use mathlib.Core.Logic.{_⊎_}
 use Prim.Native.Nat.{ℕ, _+_, _*_, _≤_, _<_, _/_}
-use mathlib.Core.Bool.{true}
+use mathlib.Core.Bool.{true, false, cond}
+use mathlib.Core.List.{List}
 use Rattle.boot.specs.declared.geometry.Geometry.{Geometry}
 use Rattle.boot.specs.Geometry.{sectorShift, clusterShift, fatOffset, fatLength, numberOfFats, activeFat, clusterHeapOffset, clusterCount, bitmap0, bitmap1, sectorSize, clusterSize, bitmapClusters, bitmapBytes}
 use Rattle.boot.specs.declared.layout.Layout.{Layout}
-use Rattle.boot.specs.Layout.{clusterAt}
+use Rattle.boot.specs.declared.layout.Admitted.{Admitted}
+use Rattle.boot.specs.Limits.{limits}
+use Rattle.boot.specs.Layout.{clusterAt, layoutOf}
 
 -- the numbers by themselves
 pub record Shape (g : Geometry) : Type 0 where
@@ -73,3 +76,27 @@ pub record Apart (y : Layout) : Type 0 where
   pub low1 : 2 ≤ y .first1
   pub holds : bitmapBytes (y .count) ≤ y .span * y .size
   pub bitmaps : y .two ≡ true → (y .first0 + y .span ≤ y .first1) ⊎ (y .first1 + y .span ≤ y .first0)
+
+-- a layout of zeros: what stands beside a number that refuses
+unfoldable pub noLayout : Layout
+noLayout =
+    record {
+      two = false;
+      fat = 0;
+      fat0 = 0;
+      fat1 = 0;
+      bitmap = 0;
+      bitmap0 = 0;
+      bitmap1 = 0;
+      first0 = 0;
+      first1 = 0;
+      span = 0;
+      heap = 0;
+      size = 0;
+      count = 0;
+      len = 0;
+    }
+
+-- the number of admission, and the layout where it is 0
+unfoldable pub admitted : (g : Geometry) (len : ℕ) (m : List ℕ) → Admitted
+admitted g len m = cond (limits g len m) (record { number = 0; layout = layoutOf g len }) (record { number = 1; layout = noLayout })

@@ -1,7 +1,7 @@
-// Where the parts of a volume lie, in bytes: computed once from a geometry that keeps the limits.
+// Where the parts of a volume lie, in bytes: computed once from a geometry that keeps the limits. And what admits a call: its first tests.
 ghost use mathlib.Core.Path.{_≡_};
 ghost use Prim.Native.Nat.{_+_, _-_, _*_, _^_, _≤_, _<_};
-ghost use Rattle.boot.specs.Internal.{Shape, Accepted, Laid};
+ghost use Rattle.boot.specs.Internal.{Shape, Accepted, Laid, noLayout, admitted};
 ghost use Rattle.boot.specs.Layout.{fatStart, clusterStart, bitmapFirst, layoutOf, clusterAt, inHeap, inRun, isBitmapCluster};
 use crate::geometry;
 use crate::geometry::Geometry;
@@ -22,6 +22,12 @@ pub struct Layout {
     pub size: usize,
     pub count: u32,
     pub len: usize,
+}
+
+// The number of admission, and the layout: of zeros where the number is not 0.
+pub struct Admitted {
+    pub number: u32,
+    pub layout: Layout,
 }
 
 // i FATs of n sectors.
@@ -80,6 +86,44 @@ pub fn layout_of(g: Geometry, len: usize) -> Layout
         size: geometry::cluster_size(g) as usize,
         count: g.cluster_count,
         len: len,
+    }
+}
+
+// A layout of zeros.
+fn no_layout() -> Layout
+    ensures { λ r. ⌜ r ≡ noLayout ⌝ }
+{
+    Layout {
+        two: false,
+        fat: 0,
+        fat0: 0,
+        fat1: 0,
+        bitmap: 0,
+        bitmap0: 0,
+        bitmap1: 0,
+        first0: 0,
+        first1: 0,
+        span: 0,
+        heap: 0,
+        size: 0,
+        count: 0,
+        len: 0,
+    }
+}
+
+// What every public call begins with: the number that refuses it before all else, or 0 and the layout.
+pub fn admit(g: Geometry, len: usize, map: &[u8]) -> Admitted
+    ensures { λ r. ⌜ r ≡ admitted g len (now (map .entry)) ⌝ }
+{
+    if geometry::validate(g, len, map) {
+        return Admitted {
+            number: 0,
+            layout: layout_of(g, len),
+        };
+    }
+    Admitted {
+        number: 1,
+        layout: no_layout(),
     }
 }
 
