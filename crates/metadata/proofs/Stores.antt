@@ -1,5 +1,6 @@
 -- The stores by the number of FATs, and what reads one after the other say. Assumes nothing.
 use mathlib.Core.Path.{_≡_, refl, sym, _∙_, ap}
+use mathlib.Core.Logic.{_≢_}
 use mathlib.Core.Bool.{Bool, true, false, _&&_, not, cond}
 use mathlib.Core.List.{List}
 use Prim.Native.Nat.{ℕ, zero, suc, _+_, _-_, _*_, _≤_, _<_}
@@ -14,8 +15,9 @@ use Rattle.primitives.proofs.WordLaws.{get-part}
 use Rattle.primitives.proofs.CountLaws.{count-take}
 use Rattle.boot.specs.declared.geometry.Geometry.{Geometry}
 use Rattle.boot.specs.declared.layout.Layout.{Layout}
-use Rattle.boot.specs.Limits.{inMap, limits}
-use Rattle.boot.specs.Layout.{layoutOf}
+use Rattle.boot.specs.Limits.{inMap}
+use Rattle.boot.specs.Causes.{admitCause}
+use Rattle.boot.proofs.Admission.{Admits}
 use Rattle.search.specs.declared.found.Found.{Found}
 use Rattle.search.specs.declared.found.Found.the-variants.{At, Nothing}
 use Rattle.metadata.specs.declared.free.FreeCount.{FreeCount}
@@ -118,11 +120,10 @@ module _ (y : Layout) (d m : List ℕ) (k : ℕ) where
 
 -- ---- the free count
 
-pub free-refused : (g : Geometry) (d m : List ℕ) → limits g (length d) m ≡ false → freeClusters g d m ≡ record { number = 1; count = 0 }
+pub free-not-admitted : (g : Geometry) (d m : List ℕ) (n : ℕ) → n ≡ admitCause g d m → n ≢ 0 → freeClusters g d m ≡ record { number = n; count = 0 }
 unfolding freeClusters
-free-refused g d m e = rw e refl
+free-not-admitted g d m n e z = rw (← e, ne-eqb n 0 z) refl
 
-pub free-is : (g : Geometry) (d m : List ℕ) → limits g (length d) m ≡ true
-    → freeClusters g d m ≡ record { number = 0; count = freeCount (layoutOf g (length d)) d }
+pub free-is : (g : Geometry) (d m : List ℕ) (y : Layout) → Admits g d m y → freeClusters g d m ≡ record { number = 0; count = freeCount y d }
 unfolding freeClusters
-free-is g d m e = rw e refl
+free-is g d m y a = rw (a .cause, a .is) refl

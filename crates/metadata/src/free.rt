@@ -13,15 +13,15 @@ pub struct FreeCount {
 pub fn free_clusters(vol: &[u8], map: &[u8], g: Geometry) -> FreeCount
     ensures { λ r. ⌜ r ≡ freeClusters g (now (vol .entry)) (now (map .entry)) ⌝ }
 {
-    if boot::geometry::validate(g, vol.len(), map) {
-        let y = boot::layout::layout_of(g, vol.len());
+    let a = boot::layout::admit(g, vol.len(), map);
+    if a.number != 0 {
         return FreeCount {
-            number: 0,
-            count: crate::bitmap::free_count(vol, y),
+            number: a.number,
+            count: 0,
         };
     }
     FreeCount {
-        number: 1,
-        count: 0,
+        number: 0,
+        count: crate::bitmap::free_count(vol, a.layout),
     }
 }
