@@ -9,13 +9,14 @@ use Rattle.boot.specs.declared.geometry.Geometry.{Geometry}
 use Rattle.boot.specs.declared.layout.Layout.{Layout}
 use Rattle.boot.specs.declared.layout.Admitted.{Admitted}
 use Rattle.boot.specs.Geometry.{bitmapBytes}
-use Rattle.boot.specs.Limits.{limits}
-use Rattle.boot.specs.Layout.{layoutOf}
+use Rattle.boot.specs.Limits.{inMap, limits}
+use Rattle.boot.specs.Layout.{layoutOf, isBitmapCluster}
 use Rattle.boot.specs.Causes.{firstCause, limitsCause, admitCause}
 use Rattle.boot.specs.Internal.{Laid, Apart, noLayout, admitted}
 use Rattle.boot.proofs.Accepted.{accepted-of, map-length}
 use Rattle.boot.proofs.Places.{laid-of}
 use Rattle.boot.proofs.Apart.{apart-of}
+use Rattle.boot.proofs.Mapped.{mapped}
 
 -- ---- the cause and the limits
 
@@ -57,10 +58,11 @@ pub record Admits (g : Geometry) (d m : List ℕ) (y : Layout) : Type 0 where
   pub map : length m ≡ bitmapBytes (y .count)
   -- the map has a bit for each cluster
   pub wide : y .count ≤ 8 * length m
+  pub mapped : (k : ℕ) → isBitmapCluster y k ≡ true → inMap m k ≡ true
 
 module _ (g : Geometry) (d m : List ℕ) where
-  of-limits : limits g (length d) m ≡ true → Admits g d m (layoutOf g (length d))
-  of-limits e =
+  pub limits-admits : limits g (length d) m ≡ true → Admits g d m (layoutOf g (length d))
+  limits-admits e =
       let p = accepted-of g (length d) m e in
       record {
         cause = limits-admitted g d m e;
@@ -71,6 +73,7 @@ module _ (g : Geometry) (d m : List ℕ) where
         long = unfold layoutOf in refl;
         map = unfold layoutOf in (map-length g (length d) m e);
         wide = unfold layoutOf in (omega (arith, map-length g (length d) m e));
+        mapped = mapped g (length d) m e;
       }
 
   -- the number of an admission is the cause
@@ -85,4 +88,4 @@ module _ (g : Geometry) (d m : List ℕ) where
   pub admission : (a : Admitted) → a ≡ admitted g (length d) m → a .number ≡ 0 → Admits g d m (a .layout)
   admission a q z =
       let e = admitted-limits g d m (sym (admit-number a q) ∙ z) in
-      subst (Admits g d m) (sym (ap (λ (x : Admitted). x .layout) (q ∙ admitted-is g (length d) m e))) (of-limits e)
+      subst (Admits g d m) (sym (ap (λ (x : Admitted). x .layout) (q ∙ admitted-is g (length d) m e))) (limits-admits e)

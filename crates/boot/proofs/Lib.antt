@@ -6,5 +6,6 @@ pub mod Places
 pub mod Clusters
 pub mod Apart
 pub mod CauseLaws
+pub mod Mapped
 pub mod Admission
 pub mod Spans

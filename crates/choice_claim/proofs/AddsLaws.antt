@@ -14,9 +14,8 @@ use Rattle.boot.specs.declared.geometry.Geometry.{Geometry}
 use Rattle.boot.specs.declared.layout.Layout.{Layout}
 use Rattle.boot.specs.Limits.{limits}
 use Rattle.boot.specs.Layout.{inHeap, layoutOf}
-use Rattle.boot.proofs.Accepted.{accepted-of}
-use Rattle.boot.proofs.Places.{laid-of}
-use Rattle.boot.proofs.Apart.{in-heap, heap-in, apart-of}
+use Rattle.boot.proofs.Admission.{Admits, limits-refused, limits-admits}
+use Rattle.boot.proofs.Apart.{in-heap, heap-in}
 use Rattle.metadata.specs.Fat.{END, setFat}
 use Rattle.metadata.specs.Marks.{freeCount}
 use Rattle.metadata.specs.Usable.{isUsable}
@@ -37,15 +36,14 @@ use Rattle.write_alloc.specs.Allocate.{nearCause, newRun, newChain, newStream, 
 use Rattle.search.proofs.Lowest.{Whole}
 use Rattle.choice.proofs.ChoiceLaws.{choose-inside, chosen-run, chosen-scattered, length-chosen}
 use Rattle.choice_claim.proofs.PickedLaws.{run-picked, list-picked}
-use Rattle.write_alloc.proofs.AllocateLaws.{stream-run, stream-chain, stream-few, start-heap, in-hint, in-free, in-near, in-new, allocate-is, allocate-refused}
+use Rattle.write_alloc.proofs.AllocateLaws.{stream-run, stream-chain, stream-few, start-heap, in-hint, in-free, in-near, in-new, allocate-is, allocate-not-admitted}
 use Rattle.write_alloc.proofs.KeepLaws.{mark-run-on, take-on}
 use Rattle.write_alloc.proofs.GrowLaws.{Fresh, Grows, fresh-inside, new-run-grown, new-chain-grown, chosen-fresh}
 use Rattle.choice_claim.proofs.KeptLaws.{fat-off, run-off, take-off, entries-kept}
 
--- a volume that keeps the limits
-pub fits-limits : (g : Geometry) (d m : List ℕ) → limits g (length d) m ≡ true → Fits (layoutOf g (length d)) d
-unfolding layoutOf
-fits-limits g d m l = let p = accepted-of g (length d) m l in record { laid = laid-of g (length d) p; apart = apart-of g (length d) p; long = refl }
+-- a volume that is admitted
+pub fits-admitted : (g : Geometry) (d m : List ℕ) (y : Layout) → Admits g d m y → Fits y d
+fits-admitted g d m y w = record { laid = w .laid; apart = w .apart; long = w .long }
 
 -- every cluster of the heap may be stored to
 abbrev pub InHeap : Layout → ℕ → Type 0
@@ -192,9 +190,10 @@ allocate-allocates g d m n given near hint one z = by (limits g (length d) m) re
 
     by : (b : Bool) → limits g (length d) m ≡ b → Allocates (layoutOf g (length d)) d m n (cond given near hint) (allocateClusters g d m n given near hint)
     by true l =
-        let q = allocate-is g d m n given near hint (layoutOf g (length d)) l refl in
+        let w = limits-admits g d m l in
+        let q = allocate-is g d m n given near hint (layoutOf g (length d)) w in
         subst (Allocates (layoutOf g (length d)) d m n (cond given near hint)) (sym q)
-        (in-allocates (layoutOf g (length d)) d m n given near hint one (ap (λ (o : Outcome). o .answer .number) (sym q) ∙ z) (fits-limits g d m l))
+        (in-allocates (layoutOf g (length d)) d m n given near hint one (ap (λ (o : Outcome). o .answer .number) (sym q) ∙ z) (fits-admitted g d m (layoutOf g (length d)) w))
     by false l =
-        let s : _≡_ {A = ℕ} 1 0 = ap (λ (o : Outcome). o .answer .number) (sym (allocate-refused g d m n given near hint l)) ∙ z in
+        let s : _≡_ {A = ℕ} 1 0 = ap (λ (o : Outcome). o .answer .number) (sym (allocate-not-admitted g d m n given near hint 1 (sym (limits-refused g d m l)) (λ r. omega arith))) ∙ z in
         absurd (omega arith)

@@ -12,6 +12,7 @@ use Rattle.boot.specs.declared.geometry.Geometry.{Geometry}
 use Rattle.boot.specs.declared.layout.Layout.{Layout}
 use Rattle.boot.specs.Limits.{limits}
 use Rattle.boot.specs.Layout.{inHeap, layoutOf}
+use Rattle.boot.proofs.Admission.{Admits, limits-refused, limits-admits}
 use Rattle.boot.proofs.Apart.{in-heap}
 use Rattle.metadata.specs.Fat.{END, fatEntry}
 use Rattle.metadata.specs.Marks.{marked}
@@ -39,11 +40,11 @@ use Rattle.choice_claim.proofs.PickedLaws.{run-picked, choice-picked}
 use Rattle.write_alloc.proofs.AllocateLaws.{wrap-low}
 use Rattle.write_alloc.proofs.GrowLaws.{Fresh, Grows, fresh-inside, chosen-fresh}
 use Rattle.choice_claim.proofs.KeptLaws.{fat-off, link-off, run-off, take-off, entries-kept}
-use Rattle.choice_claim.proofs.AddsLaws.{fits-limits, InHeap, in-allocates}
+use Rattle.choice_claim.proofs.AddsLaws.{fits-admitted, InHeap, in-allocates}
 use Rattle.write_extend.specs.Extend.{moreCause, inPlace, linkOld, longerRun, longerChain, longer, extendIn, extendClusters}
 use Rattle.write_extend.specs.Internal.{Allowed}
 use Rattle.choice_claim.specs.Extends.{Extends}
-use Rattle.write_extend.proofs.ExtendLaws.{allowed-of, place-usable, link-chain, link-run, LastOf, tail-of, start-in, place-facts, longer-in, longer-out, extend-hint, extend-longer, extend-refused, extend-is, extend-limits}
+use Rattle.write_extend.proofs.ExtendLaws.{allowed-of, place-usable, link-chain, link-run, LastOf, tail-of, start-in, place-facts, longer-in, longer-out, extend-hint, extend-longer, extend-refused, extend-is, extend-not-admitted}
 use Rattle.write_extend.proofs.KeepLaws.{longer-on}
 use Rattle.write_extend.proofs.LongerLaws.{longer-run-grown, longer-chain-grown, place-run, length-more, extend-empty}
 
@@ -241,25 +242,26 @@ module _ (g : Geometry) (d m : List ℕ) (a : Allocation) (n hint : ℕ) (one : 
   abbrev lay : Layout
   lay = layoutOf g (length d)
 
-  limits-kept : limits g (length d) m ≡ true
-  limits-kept = by (limits g (length d) m) refl
+  admits : Admits g d m lay
+  admits = by (limits g (length d) m) refl
     where
-      by : (b : Bool) → limits g (length d) m ≡ b → limits g (length d) m ≡ true
-      by true l = l
+      by : (b : Bool) → limits g (length d) m ≡ b → Admits g d m lay
+      by true l = limits-admits g d m l
       by false l =
-          let s : _≡_ {A = ℕ} 1 0 = ap (λ (o : Outcome). o .answer .number) (sym (extend-limits g d m a n hint l)) ∙ z in
+          let s : _≡_ {A = ℕ} 1 0 = ap (λ (o : Outcome). o .answer .number)
+          (sym (extend-not-admitted g d m a n hint 1 (sym (limits-refused g d m l)) (λ r. omega arith))) ∙ z in
           absurd (omega arith)
 
   is-in : extendClusters g d m a n hint ≡ extendIn lay d m a n hint
-  is-in = extend-is g d m a n hint lay limits-kept refl
+  is-in = extend-is g d m a n hint lay admits
 
   in-zero : extendIn lay d m a n hint .answer .number ≡ 0
   in-zero = ap (λ (o : Outcome). o .answer .number) (sym is-in) ∙ z
 
   -- any accepted extension by at least one cluster of a record that has some
   pub extend-extends : 1 ≤ a .count → Extends (layoutOf g (length d)) d m a n (extendClusters g d m a n hint)
-  extend-extends some = subst (Extends lay d m a n) (sym is-in) (in-extends lay d m (fits-limits g d m limits-kept) a n hint one in-zero some)
+  extend-extends some = subst (Extends lay d m a n) (sym is-in) (in-extends lay d m (fits-admitted g d m lay admits) a n hint one in-zero some)
 
   -- and of an empty one
   pub extend-allocates : a .count ≡ 0 → Allocates (layoutOf g (length d)) d m n hint (extendClusters g d m a n hint)
-  extend-allocates c = subst (Allocates lay d m n hint) (sym is-in) (in-extends-empty lay d m (fits-limits g d m limits-kept) a n hint one in-zero c)
+  extend-allocates c = subst (Allocates lay d m n hint) (sym is-in) (in-extends-empty lay d m (fits-admitted g d m lay admits) a n hint one in-zero c)

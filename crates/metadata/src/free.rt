@@ -13,15 +13,15 @@ pub struct FreeCount {
 pub fn free_clusters(vol: &[u8], map: &[u8], g: Geometry) -> FreeCount
     ensures { λ r. ⌜ r ≡ freeClusters g (now (vol .entry)) (now (map .entry)) ⌝ }
 {
-    let a = boot::layout::admit(g, vol.len(), map);
-    if a.number != 0 {
+    let admission = boot::layout::admit(g, vol.len(), map);
+    if admission.number != 0 {
         return FreeCount {
-            number: a.number,
+            number: admission.number,
             count: 0,
         };
     }
     FreeCount {
         number: 0,
-        count: crate::bitmap::free_count(vol, a.layout),
+        count: crate::bitmap::free_count(vol, admission.layout),
     }
 }

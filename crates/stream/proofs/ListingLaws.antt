@@ -11,10 +11,10 @@ use Rattle.primitives.specs.Splice.{splice}
 use Rattle.tables.specs.Lists.{every}
 use Rattle.boot.specs.declared.geometry.Geometry.{Geometry}
 use Rattle.boot.specs.declared.layout.Layout.{Layout}
-use Rattle.boot.specs.Limits.{limits}
 use Rattle.boot.specs.Layout.{layoutOf, inHeap}
-use Rattle.boot.specs.Causes.{firstCause, limitsCause}
-use Rattle.boot.proofs.CauseLaws.{cause-skip, cause-last, limits-kept}
+use Rattle.boot.specs.Causes.{firstCause, admitCause}
+use Rattle.boot.proofs.CauseLaws.{cause-skip, cause-met, cause-last}
+use Rattle.boot.proofs.Admission.{Admits}
 use Rattle.metadata.specs.Fat.{fatEntry}
 use Rattle.metadata.specs.Marks.{marked}
 use Rattle.stream.specs.declared.allocation.Allocation.{Allocation}
@@ -68,15 +68,18 @@ module _ (y : Layout) (d : List ℕ) (a : Allocation) (l : List ℕ) where
       number q = unfold listedNumber in (unfold roomCause in (unfold firstCause in (rw (le-ltb (length l) (a .count) h, eq-eqb (numberOf (streamOf y d a)) 0 q) refl)))
 
 module _ (g : Geometry) (d m : List ℕ) (a : Allocation) (l : List ℕ) where
-  pub listing-refused : limits g (length d) m ≡ false → (1 ≡ listingNumber g d m a (length l)) × (l ≡ listingList g d m a l)
-  unfolding listingNumber listingList limitsCause firstCause
-  listing-refused e = (rw e refl, rw e refl)
-
-  pub listing-is : (n : ℕ) (r : List ℕ) → limits g (length d) m ≡ true → n ≡ listedNumber (layoutOf g (length d)) d a (length l)
-      → r ≡ listedList (layoutOf g (length d)) d a l → (n ≡ listingNumber g d m a (length l)) × (r ≡ listingList g d m a l)
+  pub listing-not-admitted : (n : ℕ) → n ≡ admitCause g d m → (n ≡ 0 → ⊥) → (n ≡ listingNumber g d m a (length l)) × (l ≡ listingList g d m a l)
   unfolding listingNumber listingList
-  listing-is n r e p q =
-      let z = limits-kept g d m e in (
-        p ∙ sym (cause-skip (limitsCause g d m) _ z ∙ cause-last (listedNumber (layoutOf g (length d)) d a (length l))),
-        rw (eq-eqb (limitsCause g d m) 0 z) q,
-      )
+  listing-not-admitted n e z = (
+    e ∙ sym (cause-met (admitCause g d m) _ (λ q. z (e ∙ q))),
+    rw (ne-eqb (admitCause g d m) 0 (λ q. z (e ∙ q))) refl,
+  )
+
+  pub listing-is : (y : Layout) (n : ℕ) (r : List ℕ) → Admits g d m y → n ≡ listedNumber y d a (length l) → r ≡ listedList y d a l
+      → (n ≡ listingNumber g d m a (length l)) × (r ≡ listingList g d m a l)
+  unfolding listingNumber listingList
+  listing-is y n r w p q = (
+    p ∙ ap (λ (x : Layout). listedNumber x d a (length l)) (w .is)
+        ∙ sym (cause-skip (admitCause g d m) _ (w .cause) ∙ cause-last (listedNumber (layoutOf g (length d)) d a (length l))),
+    rw (eq-eqb (admitCause g d m) 0 (w .cause)) (q ∙ ap (λ (x : Layout). listedList x d a l) (w .is)),
+  )

@@ -8,7 +8,7 @@ use Rattle.primitives.specs.Splice.{splice}
 use Rattle.boot.specs.declared.geometry.Geometry.{Geometry}
 use Rattle.boot.specs.declared.layout.Layout.{Layout}
 use Rattle.boot.specs.Layout.{layoutOf}
-use Rattle.boot.specs.Causes.{firstCause, limitsCause}
+use Rattle.boot.specs.Causes.{firstCause, admitCause}
 use Rattle.stream.specs.declared.allocation.Allocation.{Allocation}
 use Rattle.stream.specs.Chain.{refused}
 use Rattle.stream.specs.Stream.{numberOf, clustersOf, streamOf}
@@ -25,10 +25,10 @@ listedNumber y d a room = firstCause (roomCause a room ∷ numberOf (streamOf y 
 unfoldable pub listedList : (y : Layout) (d : List ℕ) (a : Allocation) (l : List ℕ) → List ℕ
 listedList y d a l = cond (eqb (listedNumber y d a (length l)) 0) (splice l 0 (clustersOf (streamOf y d a))) l
 
--- the number: 1, 14, then the record's own causes
+-- the number: what refuses any call, 14, then the record's own causes
 unfoldable pub listingNumber : (g : Geometry) (d m : List ℕ) (a : Allocation) (room : ℕ) → ℕ
-listingNumber g d m a room = firstCause (limitsCause g d m ∷ listedNumber (layoutOf g (length d)) d a room ∷ [])
+listingNumber g d m a room = firstCause (admitCause g d m ∷ listedNumber (layoutOf g (length d)) d a room ∷ [])
 
 -- the list after the call
 unfoldable pub listingList : (g : Geometry) (d m : List ℕ) (a : Allocation) (l : List ℕ) → List ℕ
-listingList g d m a l = cond (eqb (limitsCause g d m) 0) (listedList (layoutOf g (length d)) d a l) l
+listingList g d m a l = cond (eqb (admitCause g d m) 0) (listedList (layoutOf g (length d)) d a l) l

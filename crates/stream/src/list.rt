@@ -50,9 +50,9 @@ fn list_clusters(vol: &[u8], y: Layout, a: Allocation, list: &mut [u32]) -> u32
 pub fn clusters(vol: &[u8], map: &[u8], g: Geometry, a: Allocation, list: &mut [u32]) -> u32
     ensures { λ r. ⌜ (r ≡ listingNumber g (now (vol .entry)) (now (map .entry)) a (length (now (list .entry)))) × (now (list .exit) ≡ listingList g (now (vol .entry)) (now (map .entry)) a (now (list .entry))) ⌝ }
 {
-    if boot::geometry::validate(g, vol.len(), map) {
-        let y = boot::layout::layout_of(g, vol.len());
-        return list_clusters(vol, y, a, list);
+    let admission = boot::layout::admit(g, vol.len(), map);
+    if admission.number != 0 {
+        return admission.number;
     }
-    1
+    list_clusters(vol, admission.layout, a, list)
 }

@@ -7,7 +7,7 @@ use Rattle.primitives.specs.Splice.{splice}
 use Rattle.primitives.specs.Words.{getLe, putLe}
 use Rattle.tables.specs.Count.{count, keep}
 use Rattle.tables.specs.Lists.{every, lastOr, consec, risingFrom, rising}
-use Rattle.boot.specs.Causes.{firstCause, limitsCause, heapCause, wrap, spaceCause}
+use Rattle.boot.specs.Causes.{firstCause, limitsCause, admitCause, heapCause, wrap, spaceCause}
 use Rattle.boot.specs.Geometry.{geometryOf, sectorSize, clusterSize, bitmapClusters}
 use Rattle.boot.specs.Layout.{fatStart, clusterStart, bitmapFirst, layoutOf, inRun, inHeap}
 use Rattle.boot.specs.Limits.{shapeTests, roomTests, inMap, allInMap, runInMap, apart, secondBitmap, mapTests, limits}
@@ -31,7 +31,7 @@ use Rattle.trials.proofs.FileRows.{row-T11, row-T12}
 
 -- a trial with everything open that has to compute
 unfoldable opened : Trial → Bool
-unfolding bitOf setBit clearBit putBit bitAt countBits splice getLe putLe count keep every lastOr consec firstCause limitsCause heapCause geometryOf sectorSize clusterSize bitmapClusters fatStart clusterStart bitmapFirst layoutOf inRun inHeap shapeTests roomTests inMap allInMap runInMap apart secondBitmap mapTests limits fatEntry setFat markByte marked putByte setMark allocatedCount freeCount isFree isUsable nextOf chainFrom readChain roomCause listedNumber listedList listingNumber listingList numberOf runCause readRun checkChain readStream streamOf nearCause allocateCause newRun newChain newStream allocateIn allocateClusters allFrom firstRun runFrom choose around chosen moreCause inPlace longerRun linkOld longerChain longer extendIn extendClusters wrap spaceCause systemCause freeAll risingFrom rising keptRecord endKept shrinkCause cut shrinkIn shrinkClusters markRun linkRun takeOne takeAll new bad6 page list6 after6 file after8 after9 loop old eight T1 T2 T3 T4 T5 T6 T6-list T7 T8 T8-list T9 T10-list T10-extend T10-shrink old-entries eight-list eight-extend eight-shrink resultOf sameFlag sameList sameRecord sameAnswer sameResult said agrees geometry system linkAt trialEntry wordBytes fatBytes padded trialBytes linked
+unfolding bitOf setBit clearBit putBit bitAt countBits splice getLe putLe count keep every lastOr consec firstCause limitsCause admitCause heapCause geometryOf sectorSize clusterSize bitmapClusters fatStart clusterStart bitmapFirst layoutOf inRun inHeap shapeTests roomTests inMap allInMap runInMap apart secondBitmap mapTests limits fatEntry setFat markByte marked putByte setMark allocatedCount freeCount isFree isUsable nextOf chainFrom readChain roomCause listedNumber listedList listingNumber listingList numberOf runCause readRun checkChain readStream streamOf nearCause allocateCause newRun newChain newStream allocateIn allocateClusters allFrom firstRun runFrom choose around chosen moreCause inPlace longerRun linkOld longerChain longer extendIn extendClusters wrap spaceCause systemCause freeAll risingFrom rising keptRecord endKept shrinkCause cut shrinkIn shrinkClusters markRun linkRun takeOne takeAll new bad6 page list6 after6 file after8 after9 loop old eight T1 T2 T3 T4 T5 T6 T6-list T7 T8 T8-list T9 T10-list T10-extend T10-shrink old-entries eight-list eight-extend eight-shrink resultOf sameFlag sameList sameRecord sameAnswer sameResult said agrees geometry system linkAt trialEntry wordBytes fatBytes padded trialBytes linked
 opened t = agrees t
 
 row-T1 : agrees T1 ≡ true

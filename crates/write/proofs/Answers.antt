@@ -12,8 +12,9 @@ use borrow.Author.Tests.{eq-eqb, ne-eqb, lt-ltb, le-ltb}
 use Rattle.boot.specs.declared.geometry.Geometry.{Geometry}
 use Rattle.boot.specs.declared.layout.Layout.{Layout}
 use Rattle.boot.specs.Limits.{limits}
-use Rattle.boot.specs.Causes.{firstCause, limitsCause, heapCause, spaceCause}
-use Rattle.boot.proofs.CauseLaws.{cause-skip, cause-met, cause-last, limits-met, limits-kept}
+use Rattle.boot.specs.Causes.{firstCause, admitCause, heapCause, spaceCause}
+use Rattle.boot.proofs.CauseLaws.{cause-skip, cause-met, cause-last}
+use Rattle.boot.proofs.Admission.{limits-admitted, limits-refused}
 use Rattle.stream.specs.declared.allocation.Allocation.{Allocation}
 use Rattle.entry_set.specs.declared.stamp.Stamp.{Stamp}
 use Rattle.entry_set.specs.declared.stamp.Stamps.{Stamps}
@@ -77,7 +78,7 @@ module _ (g : Geometry) (m d : List ℕ) (l : limits g (length d) m ≡ true) wh
       (newEntries (length name)) (newSet name attributes hash t))
       (step g m d (New name attributes hash t hint))
   unfolding step newFile newFileIn lay root
-  new-decided name attributes hash t hint = record { is = rw l refl; zero = unfold placed in (unfold carried in refl) }
+  new-decided name attributes hash t hint = record { is = rw (limits-admitted g d m l) refl; zero = unfold placed in (unfold carried in refl) }
 
   pub write-decided : (i offset : ℕ) (bs : List ℕ) (t : Stamp) (hint : ℕ)
       → Decided d (writeCause (lay g d) d m (root g d) i offset (length bs) hint) hint
@@ -86,7 +87,7 @@ module _ (g : Geometry) (m d : List ℕ) (l : limits g (length d) m ≡ true) wh
       (step g m d (Write i offset bs t hint))
   unfolding step writeInto writeIn lay root
   write-decided i offset bs t hint = record {
-    is = rw l refl;
+    is = rw (limits-admitted g d m l) refl;
     zero = unfold refreshedOnly in (unfold written in (unfold carried in (either (eqb (length bs) 0) _ _ refl refl)));
   }
 
@@ -94,7 +95,7 @@ module _ (g : Geometry) (m d : List ℕ) (l : limits g (length d) m ≡ true) wh
       → Decided d (setLengthCause (lay g d) d m (root g d) i len hint) hint
       (resized (lay g d) d m (root g d) i (setIn (lay g d) d (root g d) i) len t hint) (step g m d (SetLength i len t hint))
   unfolding step setLength setLengthIn lay root
-  set-decided i len t hint = record { is = rw l refl; zero = sized (lay g d) (root g d) (setIn (lay g d) d (root g d) i) }
+  set-decided i len t hint = record { is = rw (limits-admitted g d m l) refl; zero = sized (lay g d) (root g d) (setIn (lay g d) d (root g d) i) }
     where
       sized : (y : Layout) (a : Allocation) (s : List ℕ) → resized y d m a i s len t hint .answer .number ≡ 0
       sized y a s =
@@ -110,7 +111,7 @@ module _ (g : Geometry) (m d : List ℕ) (l : limits g (length d) m ≡ true) wh
       .volume))
       (step g m d (Remove i hint))
   unfolding step remove removeIn lay root
-  remove-decided i hint = record { is = rw l refl; zero = unfold carried in refl }
+  remove-decided i hint = record { is = rw (limits-admitted g d m l) refl; zero = unfold carried in refl }
 
   -- a refused call leaves the volume as it was
   refused-in : (c : Call) → step g m d c .answer .number ≢ 0 → step g m d c ≡ refuse (step g m d c .answer .number) (hintOf c) d
@@ -126,10 +127,10 @@ module _ (g : Geometry) (m d : List ℕ) (l : limits g (length d) m ≡ false) w
   -- any call on it is refused with 1
   pub broken : (c : Call) → step g m d c ≡ refuse 1 (hintOf c) d
   unfolding step newFile writeInto setLength remove hintOf
-  broken (New name attributes hash t hint) = rw l refl
-  broken (Write i offset bs t hint) = rw l refl
-  broken (SetLength i len t hint) = rw l refl
-  broken (Remove i hint) = rw l refl
+  broken (New name attributes hash t hint) = rw (limits-refused g d m l) refl
+  broken (Write i offset bs t hint) = rw (limits-refused g d m l) refl
+  broken (SetLength i len t hint) = rw (limits-refused g d m l) refl
+  broken (Remove i hint) = rw (limits-refused g d m l) refl
 
   pub broken-number : (c : Call) → step g m d c .answer .number ≡ 1
   unfolding refuse
@@ -137,10 +138,10 @@ module _ (g : Geometry) (m d : List ℕ) (l : limits g (length d) m ≡ false) w
 
   other-broken : (c : Call) → otherCause g m d c ≡ 1
   unfolding otherCause
-  other-broken (New name attributes hash t hint) = cause-met _ _ (λ z. omega (arith, limits-met g d m l)) ∙ limits-met g d m l
-  other-broken (Write i offset bs t hint) = cause-met _ _ (λ z. omega (arith, limits-met g d m l)) ∙ limits-met g d m l
-  other-broken (SetLength i len t hint) = cause-met _ _ (λ z. omega (arith, limits-met g d m l)) ∙ limits-met g d m l
-  other-broken (Remove i hint) = cause-met _ _ (λ z. omega (arith, limits-met g d m l)) ∙ limits-met g d m l
+  other-broken (New name attributes hash t hint) = cause-met _ _ (λ z. omega (arith, limits-refused g d m l)) ∙ limits-refused g d m l
+  other-broken (Write i offset bs t hint) = cause-met _ _ (λ z. omega (arith, limits-refused g d m l)) ∙ limits-refused g d m l
+  other-broken (SetLength i len t hint) = cause-met _ _ (λ z. omega (arith, limits-refused g d m l)) ∙ limits-refused g d m l
+  other-broken (Remove i hint) = cause-met _ _ (λ z. omega (arith, limits-refused g d m l)) ∙ limits-refused g d m l
 
 -- a refused call on any volume: the number, slot 0, the hint as given and the volume as it was
 pub refused-same : (g : Geometry) (m d : List ℕ) (c : Call) → step g m d c .answer .number ≢ 0
@@ -204,10 +205,10 @@ module _ (g : Geometry) (m d : List ℕ) where
     -- 1 is not met; the others, then 7
     then-space : (cs : List ℕ) (wanted : ℕ)
         → firstCause (cs ++ (spaceCause wanted (usable g m d) ∷ []))
-        ≡ firstCause (firstCause (limitsCause g d m ∷ cs) ∷ spaceCause wanted (usable g m d) ∷ [])
+        ≡ firstCause (firstCause (admitCause g d m ∷ cs) ∷ spaceCause wanted (usable g m d) ∷ [])
     then-space cs wanted =
         cause-append cs (spaceCause wanted (usable g m d))
-        ∙ ap (λ (n : ℕ). firstCause (n ∷ spaceCause wanted (usable g m d) ∷ [])) (sym (cause-skip (limitsCause g d m) cs (limits-kept g d m l)))
+        ∙ ap (λ (n : ℕ). firstCause (n ∷ spaceCause wanted (usable g m d) ∷ [])) (sym (cause-skip (admitCause g d m) cs (limits-admitted g d m l)))
 
     numbered-in : (c : Call) → Numbered g m d c
     unfolding otherCause mustAdd
@@ -233,7 +234,7 @@ module _ (g : Geometry) (m d : List ℕ) where
         by : (b : Bool)
             → firstCause (openCause (lay g d) d m (root g d) i hint ∷ cond b 0 (dataCause (lay g d) d m (setIn (lay g d) d (root g d) i) offset (length bs)) ∷ [])
             ≡ firstCause
-            (firstCause (limitsCause g d m ∷ openCause (lay g d) d m (root g d) i hint ∷ cond b 0 (endCause offset (length bs)) ∷ [])
+            (firstCause (admitCause g d m ∷ openCause (lay g d) d m (root g d) i hint ∷ cond b 0 (endCause offset (length bs)) ∷ [])
             ∷ spaceCause (cond b 0 (beyond g d i (larger (dataLength (setOf g d i)) (offset + length bs)))) (usable g m d)
             ∷ [])
         by true =

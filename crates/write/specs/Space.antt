@@ -6,7 +6,7 @@ use lib.Dec.{eqb}
 use lib.ListN.{length}
 use Rattle.tables.specs.Count.{count}
 use Rattle.boot.specs.declared.geometry.Geometry.{Geometry}
-use Rattle.boot.specs.Causes.{firstCause, limitsCause, heapCause}
+use Rattle.boot.specs.Causes.{firstCause, admitCause, heapCause}
 use Rattle.metadata.specs.Usable.{isUsable}
 use Rattle.entry_set.specs.Fields.{dataLength, clustersFor}
 use Rattle.entry_set.specs.Name.{nameCause, attributeCause}
@@ -50,13 +50,13 @@ mustAdd g d (Remove i hint) = 0
 unfoldable pub otherCause : Geometry → List ℕ → List ℕ → Call → ℕ
 otherCause g m d (New name attributes hash t hint) =
     firstCause
-    (limitsCause g d m
+    (admitCause g d m
     ∷ heapCause (lay g d .count) hint
     ∷ directoryCause (lay g d) d (root g d)
     ∷ nameCause name
     ∷ attributeCause attributes
     ∷ [])
 otherCause g m d (Write i offset bs t hint) =
-    firstCause (limitsCause g d m ∷ openCause (lay g d) d m (root g d) i hint ∷ cond (eqb (length bs) 0) 0 (endCause offset (length bs)) ∷ [])
-otherCause g m d (SetLength i len t hint) = firstCause (limitsCause g d m ∷ openCause (lay g d) d m (root g d) i hint ∷ [])
-otherCause g m d (Remove i hint) = firstCause (limitsCause g d m ∷ openCause (lay g d) d m (root g d) i hint ∷ [])
+    firstCause (admitCause g d m ∷ openCause (lay g d) d m (root g d) i hint ∷ cond (eqb (length bs) 0) 0 (endCause offset (length bs)) ∷ [])
+otherCause g m d (SetLength i len t hint) = firstCause (admitCause g d m ∷ openCause (lay g d) d m (root g d) i hint ∷ [])
+otherCause g m d (Remove i hint) = firstCause (admitCause g d m ∷ openCause (lay g d) d m (root g d) i hint ∷ [])

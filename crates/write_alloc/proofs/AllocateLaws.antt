@@ -16,13 +16,13 @@ use Rattle.tables.proofs.Cases.{or-true, and-left, and-right}
 use Rattle.tables.proofs.ListLaws.{mem-take, last-of}
 use Rattle.boot.specs.declared.layout.Layout.{Layout}
 use Rattle.boot.specs.Internal.{Laid, Apart}
-use Rattle.boot.specs.Layout.{inHeap, layoutOf}
+use Rattle.boot.specs.Layout.{inHeap}
 use Rattle.boot.proofs.Apart.{in-heap, heap-in}
 use Rattle.tables.proofs.CountLaws.{in-keep}
 use Rattle.boot.specs.declared.geometry.Geometry.{Geometry}
-use Rattle.boot.specs.Limits.{limits}
-use Rattle.boot.specs.Causes.{firstCause, heapCause, wrap, spaceCause}
+use Rattle.boot.specs.Causes.{firstCause, admitCause, heapCause, wrap, spaceCause}
 use Rattle.boot.proofs.CauseLaws.{heap-met, heap-kept}
+use Rattle.boot.proofs.Admission.{Admits}
 use Rattle.metadata.specs.Marks.{marked, freeCount}
 use Rattle.metadata.specs.Fat.{END, setFat}
 use Rattle.metadata.specs.Usable.{isUsable}
@@ -216,14 +216,13 @@ module _ (y : Layout) (d m : List ℕ) (n : ℕ) (given : Bool) (near hint : ℕ
       ]
 
 module _ (g : Geometry) (d m : List ℕ) (n : ℕ) (given : Bool) (near hint : ℕ) where
-  pub allocate-is : (y : Layout) → limits g (length d) m ≡ true → y ≡ layoutOf g (length d)
-      → allocateClusters g d m n given near hint ≡ allocateIn y d m n given near hint
+  pub allocate-is : (y : Layout) → Admits g d m y → allocateClusters g d m n given near hint ≡ allocateIn y d m n given near hint
   unfolding allocateClusters
-  allocate-is y e q = rw (e, q) refl
+  allocate-is y w = rw (w .cause, w .is) refl
 
-  pub allocate-refused : limits g (length d) m ≡ false → allocateClusters g d m n given near hint ≡ unchanged 1 empty hint d
+  pub allocate-not-admitted : (k : ℕ) → k ≡ admitCause g d m → (k ≡ 0 → ⊥) → allocateClusters g d m n given near hint ≡ unchanged k empty hint d
   unfolding allocateClusters
-  allocate-refused e = rw e refl
+  allocate-not-admitted k e z = rw (← e, ne-eqb k 0 z) refl
 
 -- the record and the volume of a chain of n clusters
 module _ (y : Layout) (d m : List ℕ) (n start : ℕ) (low : 2 ≤ start) (high : start < y .count + 2) (some : 1 ≤ n)

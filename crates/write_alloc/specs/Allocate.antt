@@ -8,9 +8,8 @@ use Rattle.tables.specs.Count.{count}
 use Rattle.tables.specs.Lists.{lastOr}
 use Rattle.boot.specs.declared.geometry.Geometry.{Geometry}
 use Rattle.boot.specs.declared.layout.Layout.{Layout}
-use Rattle.boot.specs.Limits.{limits}
 use Rattle.boot.specs.Layout.{layoutOf}
-use Rattle.boot.specs.Causes.{firstCause, heapCause, wrap, spaceCause}
+use Rattle.boot.specs.Causes.{firstCause, heapCause, wrap, spaceCause, admitCause}
 use Rattle.metadata.specs.Fat.{END, setFat}
 use Rattle.metadata.specs.Marks.{freeCount}
 use Rattle.metadata.specs.Usable.{isUsable}
@@ -66,4 +65,4 @@ allocateIn y d m n given near hint =
 -- allocate n clusters, near a cluster where one is given
 unfoldable pub allocateClusters : (g : Geometry) (d m : List ℕ) (n : ℕ) (given : Bool) (near hint : ℕ) → Outcome
 allocateClusters g d m n given near hint =
-    cond (limits g (length d) m) (allocateIn (layoutOf g (length d)) d m n given near hint) (unchanged 1 empty hint d)
+    cond (eqb (admitCause g d m) 0) (allocateIn (layoutOf g (length d)) d m n given near hint) (unchanged (admitCause g d m) empty hint d)

@@ -195,9 +195,9 @@ pub fn allocate_clusters(
 ) -> Answer
     ensures { λ r. ⌜ (r ≡ allocateClusters g (now (vol .entry)) (now (map .entry)) n given near hint .answer) × (now (vol .exit) ≡ allocateClusters g (now (vol .entry)) (now (map .entry)) n given near hint .volume) ⌝ }
 {
-    if boot::geometry::validate(g, vol.len(), map) {
-        let y = boot::layout::layout_of(g, vol.len());
-        return allocate_in(vol, map, y, n, given, near, hint);
+    let admission = boot::layout::admit(g, vol.len(), map);
+    if admission.number != 0 {
+        return no_stream(admission.number, hint);
     }
-    no_stream(1, hint)
+    allocate_in(vol, map, admission.layout, n, given, near, hint)
 }

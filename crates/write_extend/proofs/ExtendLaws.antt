@@ -14,11 +14,11 @@ use Rattle.tables.specs.Lists.{Mem, lastOr, consec}
 use Rattle.tables.proofs.ListLaws.{every-mem, consec-in, last-of}
 use Rattle.boot.specs.declared.geometry.Geometry.{Geometry}
 use Rattle.boot.specs.declared.layout.Layout.{Layout}
-use Rattle.boot.specs.Limits.{limits}
 use Rattle.boot.specs.Internal.{Laid, Apart}
-use Rattle.boot.specs.Layout.{inHeap, layoutOf}
-use Rattle.boot.specs.Causes.{firstCause, heapCause, wrap, spaceCause}
+use Rattle.boot.specs.Layout.{inHeap}
+use Rattle.boot.specs.Causes.{firstCause, admitCause, heapCause, wrap, spaceCause}
 use Rattle.boot.proofs.CauseLaws.{cause-skip, cause-met, cause-last, heap-met, heap-kept}
+use Rattle.boot.proofs.Admission.{Admits}
 use Rattle.boot.proofs.Apart.{in-heap, heap-in}
 use Rattle.tables.proofs.Cases.{and-left, and-right}
 use Rattle.tables.proofs.CountLaws.{count-cong}
@@ -331,10 +331,10 @@ module _ (y : Layout) (d m : List ℕ) (a : Allocation) (n hint : ℕ) where
       rw (heap-kept (y .count) hint e, ne-eqb n 0 z, ne-eqb (a .count) 0 c, ne-eqb (moreCause y d m a n) 0 (λ t. q (w ∙ t)), ← w) refl
 
 module _ (g : Geometry) (d m : List ℕ) (a : Allocation) (n hint : ℕ) where
-  pub extend-is : (y : Layout) → limits g (length d) m ≡ true → y ≡ layoutOf g (length d) → extendClusters g d m a n hint ≡ extendIn y d m a n hint
+  pub extend-is : (y : Layout) → Admits g d m y → extendClusters g d m a n hint ≡ extendIn y d m a n hint
   unfolding extendClusters
-  extend-is y e q = rw (e, q) refl
+  extend-is y w = rw (w .cause, w .is) refl
 
-  pub extend-limits : limits g (length d) m ≡ false → extendClusters g d m a n hint ≡ unchanged 1 a hint d
+  pub extend-not-admitted : (k : ℕ) → k ≡ admitCause g d m → (k ≡ 0 → ⊥) → extendClusters g d m a n hint ≡ unchanged k a hint d
   unfolding extendClusters
-  extend-limits e = rw e refl
+  extend-not-admitted k e z = rw (← e, ne-eqb k 0 z) refl

@@ -8,9 +8,8 @@ use Rattle.tables.specs.Count.{count}
 use Rattle.tables.specs.Lists.{lastOr}
 use Rattle.boot.specs.declared.geometry.Geometry.{Geometry}
 use Rattle.boot.specs.declared.layout.Layout.{Layout}
-use Rattle.boot.specs.Limits.{limits}
 use Rattle.boot.specs.Layout.{layoutOf}
-use Rattle.boot.specs.Causes.{firstCause, heapCause, wrap, spaceCause}
+use Rattle.boot.specs.Causes.{firstCause, heapCause, wrap, spaceCause, admitCause}
 use Rattle.metadata.specs.Fat.{END, setFat}
 use Rattle.metadata.specs.Marks.{freeCount}
 use Rattle.metadata.specs.Usable.{isUsable}
@@ -77,4 +76,4 @@ extendIn y d m a n hint =
 -- add n clusters to a record
 unfoldable pub extendClusters : (g : Geometry) (d m : List ℕ) (a : Allocation) (n hint : ℕ) → Outcome
 extendClusters g d m a n hint =
-    cond (limits g (length d) m) (extendIn (layoutOf g (length d)) d m a n hint) (unchanged 1 a hint d)
+    cond (eqb (admitCause g d m) 0) (extendIn (layoutOf g (length d)) d m a n hint) (unchanged (admitCause g d m) a hint d)

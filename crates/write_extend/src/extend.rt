@@ -207,9 +207,9 @@ pub fn extend_clusters(
 ) -> Answer
     ensures { λ r. ⌜ (r ≡ extendClusters g (now (vol .entry)) (now (map .entry)) a n hint .answer) × (now (vol .exit) ≡ extendClusters g (now (vol .entry)) (now (map .entry)) a n hint .volume) ⌝ }
 {
-    if boot::geometry::validate(g, vol.len(), map) {
-        let y = boot::layout::layout_of(g, vol.len());
-        return extend_in(vol, map, y, a, n, hint);
+    let admission = boot::layout::admit(g, vol.len(), map);
+    if admission.number != 0 {
+        return as_given(admission.number, a, hint);
     }
-    as_given(1, a, hint)
+    extend_in(vol, map, admission.layout, a, n, hint)
 }

@@ -13,13 +13,10 @@ use Rattle.tables.specs.Count.{count}
 use Rattle.boot.specs.declared.geometry.Geometry.{Geometry}
 use Rattle.boot.specs.declared.layout.Layout.{Layout}
 use Rattle.boot.specs.Geometry.{rootCluster}
-use Rattle.boot.specs.Limits.{limits}
-use Rattle.boot.specs.Layout.{inHeap, layoutOf}
-use Rattle.boot.specs.Causes.{firstCause, heapCause, spaceCause}
+use Rattle.boot.specs.Layout.{inHeap}
+use Rattle.boot.specs.Causes.{firstCause, admitCause, heapCause, spaceCause}
 use Rattle.tables.proofs.Cases.{and-left, and-right}
-use Rattle.boot.proofs.Accepted.{accepted-of, map-length}
-use Rattle.boot.proofs.Places.{laid-of}
-use Rattle.boot.proofs.Apart.{apart-of}
+use Rattle.boot.proofs.Admission.{Admits}
 use Rattle.boot.proofs.CauseLaws.{cause-skip, cause-met, cause-last, heap-met, heap-kept}
 use Rattle.search.specs.declared.found.Found.the-variants.{At}
 use Rattle.metadata.specs.Usable.{isUsable}
@@ -57,7 +54,7 @@ use Rattle.write_file.specs.Internal.{Ready}
 use Rattle.write_file.specs.NewFile.{newGrowth, newFileCause, placed, newFileIn, newFile}
 use Rattle.file.proofs.RefreshLaws.{stream-is}
 use Rattle.file.proofs.OpenLaws.{root-number, root-record}
-use Rattle.file.proofs.CallLaws.{mapped, directory-reads, directory-plain}
+use Rattle.file.proofs.CallLaws.{directory-reads, directory-plain}
 
 -- ---- a directory that is ready
 
@@ -255,14 +252,14 @@ module _ (y : Layout) (d m : List ℕ) (a : Allocation) (name : List ℕ) (attri
 -- ---- the public call
 
 module _ (g : Geometry) (d m name : List ℕ) (attributes hash : ℕ) (t : Stamps) (hint : ℕ) where
-  pub call-limits : limits g (length d) m ≡ false → newFile g d m name attributes hash t hint ≡ refuse 1 hint d
+  pub call-not-admitted : (k : ℕ) → k ≡ admitCause g d m → k ≢ 0 → newFile g d m name attributes hash t hint ≡ refuse k hint d
   unfolding newFile
-  call-limits e = rw e refl
+  call-not-admitted k e z = rw (← e, ne-eqb k 0 z) refl
 
-  module _ (l : limits g (length d) m ≡ true) (y : Layout) (e : y ≡ layoutOf g (length d)) where
+  module _ (y : Layout) (w : Admits g d m y) where
     call-is : newFile g d m name attributes hash t hint ≡ newFileIn y d m (rootRecord y d (rootCluster g)) name attributes hash t hint
     unfolding newFile
-    call-is = (rw l refl) ∙ ap (λ (x : Layout). newFileIn x d m (rootRecord x d (rootCluster g)) name attributes hash t hint) (sym e)
+    call-is = (rw (w .cause) refl) ∙ ap (λ (x : Layout). newFileIn x d m (rootRecord x d (rootCluster g)) name attributes hash t hint) (sym (w .is))
 
     pub call-hint : inHeap (y .count) hint ≡ false → newFile g d m name attributes hash t hint ≡ refuse 2 hint d
     call-hint h = call-is ∙ new-hint y d m (rootRecord y d (rootCluster g)) name attributes hash t hint h
@@ -277,20 +274,10 @@ module _ (g : Geometry) (d m name : List ℕ) (attributes hash : ℕ) (t : Stamp
       call-opens z =
           call-is ∙ ap (λ (x : Allocation). newFileIn y d m x name attributes hash t hint) (sym (root-record y d (rootCluster g) r o z))
 
-module _ (g : Geometry) (d m : List ℕ) (hint : ℕ) (l : limits g (length d) m ≡ true) (y : Layout) (e : y ≡ layoutOf g (length d))
+module _ (g : Geometry) (d m : List ℕ) (hint : ℕ) (y : Layout) (w : Admits g d m y)
     (h : inHeap (y .count) hint ≡ true) (r : Directory) (o : r ≡ openRoot y d (rootCluster g)) where
   pub call-ready : r .number ≡ 0 → Ready y d m (r .allocation) hint
   call-ready z =
-      let p = accepted-of g (length d) m l in
       let c : directoryCause y d (r .allocation) ≡ 0 =
       ap (directoryCause y d) (root-record y d (rootCluster g) r o z) ∙ sym (root-number y d (rootCluster g) r o) ∙ z in
-      subst (λ (x : Layout). directoryCause x d (r .allocation) ≡ 0 → inHeap (x .count) hint ≡ true → Ready x d m (r .allocation) hint) (sym e)
-      (λ c h. record {
-        laid = laid-of g (length d) p;
-        apart = apart-of g (length d) p;
-        long = unfold layoutOf in refl;
-        map = unfold layoutOf in (omega (arith, map-length g (length d) m l));
-        mapped = mapped g m (length d) l;
-        directory = c;
-        hint-in = h;
-      }) c h
+      record { laid = w .laid; apart = w .apart; long = w .long; map = w .wide; mapped = w .mapped; directory = c; hint-in = h }

@@ -11,10 +11,9 @@ use borrow.Author.Tests.{eq-eqb, ne-eqb, lt-ltb, le-ltb}
 use Rattle.boot.specs.declared.layout.Layout.{Layout}
 use Rattle.boot.specs.declared.geometry.Geometry.{Geometry}
 use Rattle.boot.specs.Geometry.{rootCluster}
-use Rattle.boot.specs.Limits.{limits}
-use Rattle.boot.specs.Layout.{layoutOf}
-use Rattle.boot.specs.Causes.{firstCause}
+use Rattle.boot.specs.Causes.{firstCause, admitCause}
 use Rattle.boot.proofs.CauseLaws.{cause-skip, cause-met, cause-last}
+use Rattle.boot.proofs.Admission.{Admits}
 use Rattle.stream.specs.declared.allocation.Allocation.{Allocation}
 use Rattle.stream.specs.Bytes.{storeAt}
 use Rattle.entry_set.specs.declared.stamp.Stamp.{Stamp}
@@ -145,11 +144,11 @@ module _ (y : Layout) (d m : List ℕ) (a : Allocation) (slot offset : ℕ) (bs 
       write-done e = rw (data-number ∙ e, ne-eqb (length bs) 0 some) refl
 
 module _ (g : Geometry) (d m : List ℕ) (slot offset : ℕ) (bs : List ℕ) (t : Stamp) (hint : ℕ) where
-  pub write-is : (y : Layout) → limits g (length d) m ≡ true → y ≡ layoutOf g (length d)
+  pub write-is : (y : Layout) → Admits g d m y
       → writeInto g d m slot offset bs t hint ≡ writeIn y d m (rootRecord y d (rootCluster g)) slot offset bs t hint
   unfolding writeInto
-  write-is y e q = rw (e, q) refl
+  write-is y w = rw (w .cause, w .is) refl
 
-  pub write-limits : limits g (length d) m ≡ false → writeInto g d m slot offset bs t hint ≡ refuse 1 hint d
+  pub write-not-admitted : (k : ℕ) → k ≡ admitCause g d m → (k ≡ 0 → ⊥) → writeInto g d m slot offset bs t hint ≡ refuse k hint d
   unfolding writeInto
-  write-limits e = rw e refl
+  write-not-admitted k e z = rw (← e, ne-eqb k 0 z) refl

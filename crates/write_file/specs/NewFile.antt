@@ -8,9 +8,8 @@ use Rattle.tables.specs.Count.{count}
 use Rattle.boot.specs.declared.geometry.Geometry.{Geometry}
 use Rattle.boot.specs.declared.layout.Layout.{Layout}
 use Rattle.boot.specs.Geometry.{rootCluster}
-use Rattle.boot.specs.Limits.{limits}
 use Rattle.boot.specs.Layout.{layoutOf}
-use Rattle.boot.specs.Causes.{firstCause, heapCause, spaceCause}
+use Rattle.boot.specs.Causes.{firstCause, heapCause, spaceCause, admitCause}
 use Rattle.metadata.specs.Usable.{isUsable}
 use Rattle.stream.specs.declared.allocation.Allocation.{Allocation}
 use Rattle.stream.specs.Bytes.{storeAt, bytesIn}
@@ -57,4 +56,4 @@ newFileIn y d m a name attributes hash t hint =
 unfoldable pub newFile : (g : Geometry) (d m name : List ℕ) (attributes hash : ℕ) (t : Stamps) (hint : ℕ) → Outcome
 newFile g d m name attributes hash t hint =
     let y = layoutOf g (length d) in
-    cond (limits g (length d) m) (newFileIn y d m (rootRecord y d (rootCluster g)) name attributes hash t hint) (refuse 1 hint d)
+    cond (eqb (admitCause g d m) 0) (newFileIn y d m (rootRecord y d (rootCluster g)) name attributes hash t hint) (refuse (admitCause g d m) hint d)

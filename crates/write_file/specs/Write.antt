@@ -7,9 +7,8 @@ use lib.ListN.{length, replicate}
 use Rattle.boot.specs.declared.geometry.Geometry.{Geometry}
 use Rattle.boot.specs.declared.layout.Layout.{Layout}
 use Rattle.boot.specs.Geometry.{rootCluster}
-use Rattle.boot.specs.Limits.{limits}
 use Rattle.boot.specs.Layout.{layoutOf}
-use Rattle.boot.specs.Causes.{firstCause}
+use Rattle.boot.specs.Causes.{firstCause, admitCause}
 use Rattle.stream.specs.declared.allocation.Allocation.{Allocation}
 use Rattle.stream.specs.Bytes.{storeAt}
 use Rattle.entry_set.specs.declared.stamp.Stamp.{Stamp}
@@ -66,4 +65,4 @@ writeIn y d m a slot offset bs t hint =
 unfoldable pub writeInto : (g : Geometry) (d m : List ℕ) (slot offset : ℕ) (bs : List ℕ) (t : Stamp) (hint : ℕ) → Outcome
 writeInto g d m slot offset bs t hint =
     let y = layoutOf g (length d) in
-    cond (limits g (length d) m) (writeIn y d m (rootRecord y d (rootCluster g)) slot offset bs t hint) (refuse 1 hint d)
+    cond (eqb (admitCause g d m) 0) (writeIn y d m (rootRecord y d (rootCluster g)) slot offset bs t hint) (refuse (admitCause g d m) hint d)

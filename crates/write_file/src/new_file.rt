@@ -100,26 +100,26 @@ pub fn make_in(
 ) -> FileAnswer
     ensures { λ r. ⌜ (r ≡ newFile g (now (vol .entry)) (now (map .entry)) (now (name .entry)) attributes hash t hint .answer) × (now (vol .exit) ≡ newFile g (now (vol .entry)) (now (map .entry)) (now (name .entry)) attributes hash t hint .volume) ⌝ }
 {
-    if boot::geometry::validate(g, vol.len(), map) {
-        let y = boot::layout::layout_of(g, vol.len());
-        if boot::layout::in_heap(y.count, hint) {
-            let root = directory::directory::root_dir(vol, y, g.root_cluster);
-            if root.number == 0 {
-                return new_file_in(
-                    vol,
-                    map,
-                    y,
-                    root.allocation,
-                    name,
-                    attributes,
-                    hash,
-                    t,
-                    hint,
-                );
-            }
-            return file::target::refused(root.number, hint);
-        }
-        return file::target::refused(2, hint);
+    let admission = boot::layout::admit(g, vol.len(), map);
+    if admission.number != 0 {
+        return file::target::refused(admission.number, hint);
     }
-    file::target::refused(1, hint)
+    if boot::layout::in_heap(admission.layout.count, hint) {
+        let root = directory::directory::root_dir(vol, admission.layout, g.root_cluster);
+        if root.number == 0 {
+            return new_file_in(
+                vol,
+                map,
+                admission.layout,
+                root.allocation,
+                name,
+                attributes,
+                hash,
+                t,
+                hint,
+            );
+        }
+        return file::target::refused(root.number, hint);
+    }
+    file::target::refused(2, hint)
 }

@@ -184,9 +184,19 @@ pub fn write_into(
 ) -> FileAnswer
     ensures { λ r. ⌜ (r ≡ writeInto g (now (vol .entry)) (now (map .entry)) slot offset (now (src .entry)) t hint .answer) × (now (vol .exit) ≡ writeInto g (now (vol .entry)) (now (map .entry)) slot offset (now (src .entry)) t hint .volume) ⌝ }
 {
-    if boot::geometry::validate(g, vol.len(), map) {
-        let y = boot::layout::layout_of(g, vol.len());
-        return write_in(vol, map, y, g.root_cluster, slot, offset, src, t, hint);
+    let admission = boot::layout::admit(g, vol.len(), map);
+    if admission.number != 0 {
+        return file::target::refused(admission.number, hint);
     }
-    file::target::refused(1, hint)
+    write_in(
+        vol,
+        map,
+        admission.layout,
+        g.root_cluster,
+        slot,
+        offset,
+        src,
+        t,
+        hint,
+    )
 }

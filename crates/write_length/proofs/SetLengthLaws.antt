@@ -11,9 +11,10 @@ use Rattle.tables.specs.Lists.{every}
 use Rattle.boot.specs.declared.layout.Layout.{Layout}
 use Rattle.boot.specs.declared.geometry.Geometry.{Geometry}
 use Rattle.boot.specs.Geometry.{rootCluster}
-use Rattle.boot.specs.Limits.{limits}
-use Rattle.boot.specs.Layout.{layoutOf, inHeap}
+use Rattle.boot.specs.Layout.{inHeap}
+use Rattle.boot.specs.Causes.{admitCause}
 use Rattle.boot.proofs.CauseLaws.{cause-skip, cause-met, cause-last}
+use Rattle.boot.proofs.Admission.{Admits}
 use Rattle.metadata.specs.Fat.{fatEntry}
 use Rattle.stream.specs.declared.allocation.Allocation.{Allocation}
 use Rattle.stream.specs.Stream.{numberOf, streamOf, clustersIn}
@@ -174,11 +175,11 @@ module _ (y : Layout) (d m : List ℕ) (a : Allocation) (slot len : ℕ) (t : St
     set-done e = rw (space-is ∙ e) refl
 
 module _ (g : Geometry) (d m : List ℕ) (slot len : ℕ) (t : Stamp) (hint : ℕ) where
-  pub set-is : (y : Layout) → limits g (length d) m ≡ true → y ≡ layoutOf g (length d)
+  pub set-is : (y : Layout) → Admits g d m y
       → setLength g d m slot len t hint ≡ setLengthIn y d m (rootRecord y d (rootCluster g)) slot len t hint
   unfolding setLength
-  set-is y e q = rw (e, q) refl
+  set-is y w = rw (w .cause, w .is) refl
 
-  pub set-limits : limits g (length d) m ≡ false → setLength g d m slot len t hint ≡ refuse 1 hint d
+  pub set-not-admitted : (k : ℕ) → k ≡ admitCause g d m → (k ≡ 0 → ⊥) → setLength g d m slot len t hint ≡ refuse k hint d
   unfolding setLength
-  set-limits e = rw e refl
+  set-not-admitted k e z = rw (← e, ne-eqb k 0 z) refl

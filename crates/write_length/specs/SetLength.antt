@@ -7,9 +7,8 @@ use lib.ListN.{length, take, replicate}
 use Rattle.boot.specs.declared.geometry.Geometry.{Geometry}
 use Rattle.boot.specs.declared.layout.Layout.{Layout}
 use Rattle.boot.specs.Geometry.{rootCluster}
-use Rattle.boot.specs.Limits.{limits}
 use Rattle.boot.specs.Layout.{layoutOf}
-use Rattle.boot.specs.Causes.{firstCause}
+use Rattle.boot.specs.Causes.{firstCause, admitCause}
 use Rattle.stream.specs.declared.allocation.Allocation.{Allocation}
 use Rattle.stream.specs.Bytes.{storeAt}
 use Rattle.entry_set.specs.declared.stamp.Stamp.{Stamp}
@@ -69,4 +68,4 @@ setLengthIn y d m a slot len t hint =
 unfoldable pub setLength : (g : Geometry) (d m : List ℕ) (slot len : ℕ) (t : Stamp) (hint : ℕ) → Outcome
 setLength g d m slot len t hint =
     let y = layoutOf g (length d) in
-    cond (limits g (length d) m) (setLengthIn y d m (rootRecord y d (rootCluster g)) slot len t hint) (refuse 1 hint d)
+    cond (eqb (admitCause g d m) 0) (setLengthIn y d m (rootRecord y d (rootCluster g)) slot len t hint) (refuse (admitCause g d m) hint d)

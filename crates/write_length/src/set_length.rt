@@ -214,9 +214,18 @@ pub fn set_length(
 ) -> FileAnswer
     ensures { λ r. ⌜ (r ≡ setLength g (now (vol .entry)) (now (map .entry)) slot len t hint .answer) × (now (vol .exit) ≡ setLength g (now (vol .entry)) (now (map .entry)) slot len t hint .volume) ⌝ }
 {
-    if boot::geometry::validate(g, vol.len(), map) {
-        let y = boot::layout::layout_of(g, vol.len());
-        return set_length_in(vol, map, y, g.root_cluster, slot, len, t, hint);
+    let admission = boot::layout::admit(g, vol.len(), map);
+    if admission.number != 0 {
+        return file::target::refused(admission.number, hint);
     }
-    file::target::refused(1, hint)
+    set_length_in(
+        vol,
+        map,
+        admission.layout,
+        g.root_cluster,
+        slot,
+        len,
+        t,
+        hint,
+    )
 }

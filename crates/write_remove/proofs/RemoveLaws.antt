@@ -10,9 +10,9 @@ use borrow.Author.Tests.{ne-eqb}
 use Rattle.boot.specs.declared.geometry.Geometry.{Geometry}
 use Rattle.boot.specs.declared.layout.Layout.{Layout}
 use Rattle.boot.specs.Geometry.{rootCluster}
-use Rattle.boot.specs.Limits.{limits}
 use Rattle.boot.specs.Internal.{Laid}
-use Rattle.boot.specs.Layout.{layoutOf}
+use Rattle.boot.specs.Causes.{admitCause}
+use Rattle.boot.proofs.Admission.{Admits}
 use Rattle.stream.specs.declared.allocation.Allocation.{Allocation}
 use Rattle.stream.specs.Bytes.{storeAt}
 use Rattle.entry_set.specs.Put.{cleared}
@@ -66,11 +66,10 @@ module _ (y : Layout) (d m : List ℕ) (a : Allocation) (slot hint : ℕ) where
         shown-as removed (carried-shown 0 hint left e′ (q ∙ ap₂ (λ (u : List ℕ) (x : Allocation). shrinkIn y u m x 0 hint .volume) z eb))
 
 module _ (g : Geometry) (d m : List ℕ) (slot hint : ℕ) where
-  pub remove-is : (y : Layout) → limits g (length d) m ≡ true → y ≡ layoutOf g (length d)
-      → remove g d m slot hint ≡ removeIn y d m (rootRecord y d (rootCluster g)) slot hint
+  pub remove-is : (y : Layout) → Admits g d m y → remove g d m slot hint ≡ removeIn y d m (rootRecord y d (rootCluster g)) slot hint
   unfolding remove
-  remove-is y e q = rw (e, q) refl
+  remove-is y w = rw (w .cause, w .is) refl
 
-  pub remove-limits : limits g (length d) m ≡ false → remove g d m slot hint ≡ refuse 1 hint d
+  pub remove-not-admitted : (k : ℕ) → k ≡ admitCause g d m → (k ≡ 0 → ⊥) → remove g d m slot hint ≡ refuse k hint d
   unfolding remove
-  remove-limits e = rw e refl
+  remove-not-admitted k e z = rw (← e, ne-eqb k 0 z) refl

@@ -7,8 +7,8 @@ use lib.ListN.{length, take}
 use Rattle.boot.specs.declared.geometry.Geometry.{Geometry}
 use Rattle.boot.specs.declared.layout.Layout.{Layout}
 use Rattle.boot.specs.Geometry.{rootCluster}
-use Rattle.boot.specs.Limits.{limits}
 use Rattle.boot.specs.Layout.{layoutOf}
+use Rattle.boot.specs.Causes.{admitCause}
 use Rattle.stream.specs.declared.allocation.Allocation.{Allocation}
 use Rattle.stream.specs.Bytes.{storeAt}
 use Rattle.entry_set.specs.Put.{cleared}
@@ -35,4 +35,4 @@ removeIn y d m a slot hint =
 unfoldable pub remove : (g : Geometry) (d m : List ℕ) (slot hint : ℕ) → Outcome
 remove g d m slot hint =
     let y = layoutOf g (length d) in
-    cond (limits g (length d) m) (removeIn y d m (rootRecord y d (rootCluster g)) slot hint) (refuse 1 hint d)
+    cond (eqb (admitCause g d m) 0) (removeIn y d m (rootRecord y d (rootCluster g)) slot hint) (refuse (admitCause g d m) hint d)

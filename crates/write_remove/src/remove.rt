@@ -66,9 +66,9 @@ fn remove_in(vol: &mut [u8], map: &[u8], y: Layout, root: u32, slot: u32, hint: 
 pub fn remove(vol: &mut [u8], map: &[u8], g: Geometry, slot: u32, hint: u32) -> FileAnswer
     ensures { λ r. ⌜ (r ≡ remove g (now (vol .entry)) (now (map .entry)) slot hint .answer) × (now (vol .exit) ≡ remove g (now (vol .entry)) (now (map .entry)) slot hint .volume) ⌝ }
 {
-    if boot::geometry::validate(g, vol.len(), map) {
-        let y = boot::layout::layout_of(g, vol.len());
-        return remove_in(vol, map, y, g.root_cluster, slot, hint);
+    let admission = boot::layout::admit(g, vol.len(), map);
+    if admission.number != 0 {
+        return file::target::refused(admission.number, hint);
     }
-    file::target::refused(1, hint)
+    remove_in(vol, map, admission.layout, g.root_cluster, slot, hint)
 }

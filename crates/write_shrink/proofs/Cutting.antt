@@ -15,11 +15,11 @@ use Rattle.tables.proofs.Cases.{cond-case}
 use Rattle.tables.proofs.ListLaws.{mem-left, mem-right, every-mem, mem-every, last-in}
 use Rattle.boot.specs.declared.geometry.Geometry.{Geometry}
 use Rattle.boot.specs.declared.layout.Layout.{Layout}
-use Rattle.boot.specs.Limits.{limits}
 use Rattle.boot.specs.Internal.{Laid, Apart}
-use Rattle.boot.specs.Layout.{inHeap, layoutOf}
-use Rattle.boot.specs.Causes.{firstCause, heapCause}
+use Rattle.boot.specs.Layout.{inHeap}
+use Rattle.boot.specs.Causes.{firstCause, admitCause, heapCause}
 use Rattle.boot.proofs.CauseLaws.{cause-skip, cause-met, cause-last, heap-met, heap-kept}
+use Rattle.boot.proofs.Admission.{Admits}
 use Rattle.boot.proofs.Apart.{in-heap}
 use Rattle.metadata.specs.Fat.{END, fatEntry, setFat}
 use Rattle.metadata.specs.Marks.{marked, setMark}
@@ -363,11 +363,11 @@ module _ (y : Layout) (d m : List ℕ) (a : Allocation) (keep hint : ℕ) where
             ) (refl, refl)
 
 module _ (g : Geometry) (d m : List ℕ) (a : Allocation) (keep hint : ℕ) where
-  pub shrink-limits : limits g (length d) m ≡ false → Shown (shrinkClusters g d m a keep hint) (record { number = 1; allocation = a; hint = hint }) d
+  pub shrink-is : (y : Layout) → Admits g d m y → shrinkClusters g d m a keep hint ≡ shrinkIn y d m a keep hint
   unfolding shrinkClusters
-  shrink-limits e = rw e (refl, refl)
+  shrink-is y w = rw (w .cause, w .is) refl
 
-  pub shrink-is : (r : Answer) (e : List ℕ) → limits g (length d) m ≡ true → r ≡ shrinkIn (layoutOf g (length d)) d m a keep hint .answer
-      → e ≡ shrinkIn (layoutOf g (length d)) d m a keep hint .volume → Shown (shrinkClusters g d m a keep hint) r e
+  pub shrink-not-admitted : (k : ℕ) → k ≡ admitCause g d m → (k ≡ 0 → ⊥)
+      → Shown (shrinkClusters g d m a keep hint) (record { number = k; allocation = a; hint = hint }) d
   unfolding shrinkClusters
-  shrink-is r e h p q = rw h (p, q)
+  shrink-not-admitted k e z = rw (← e, ne-eqb k 0 z) (refl, refl)

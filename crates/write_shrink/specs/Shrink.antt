@@ -7,9 +7,8 @@ use lib.ListN.{length, take, drop}
 use Rattle.tables.specs.Lists.{lastOr, rising}
 use Rattle.boot.specs.declared.geometry.Geometry.{Geometry}
 use Rattle.boot.specs.declared.layout.Layout.{Layout}
-use Rattle.boot.specs.Limits.{limits}
 use Rattle.boot.specs.Layout.{layoutOf}
-use Rattle.boot.specs.Causes.{firstCause, heapCause}
+use Rattle.boot.specs.Causes.{firstCause, heapCause, admitCause}
 use Rattle.metadata.specs.Fat.{END, setFat}
 use Rattle.metadata.specs.Marks.{setMark}
 use Rattle.stream.specs.declared.allocation.Allocation.{Allocation}
@@ -53,4 +52,4 @@ shrinkIn y d m a keep hint =
 -- shrink a record to its first `keep` clusters
 unfoldable pub shrinkClusters : (g : Geometry) (d m : List ℕ) (a : Allocation) (keep hint : ℕ) → Outcome
 shrinkClusters g d m a keep hint =
-    cond (limits g (length d) m) (shrinkIn (layoutOf g (length d)) d m a keep hint) (unchanged 1 a hint d)
+    cond (eqb (admitCause g d m) 0) (shrinkIn (layoutOf g (length d)) d m a keep hint) (unchanged (admitCause g d m) a hint d)

@@ -192,13 +192,13 @@ pub fn shrink_clusters(
 ) -> Answer
     ensures { λ r. ⌜ (r ≡ shrinkClusters g (now (vol .entry)) (now (map .entry)) a keep hint .answer) × (now (vol .exit) ≡ shrinkClusters g (now (vol .entry)) (now (map .entry)) a keep hint .volume) ⌝ }
 {
-    if boot::geometry::validate(g, vol.len(), map) {
-        let y = boot::layout::layout_of(g, vol.len());
-        return shrink_in(vol, map, y, a, keep, hint);
+    let admission = boot::layout::admit(g, vol.len(), map);
+    if admission.number != 0 {
+        return Answer {
+            number: admission.number,
+            allocation: a,
+            hint: hint,
+        };
     }
-    Answer {
-        number: 1,
-        allocation: a,
-        hint: hint,
-    }
+    shrink_in(vol, map, admission.layout, a, keep, hint)
 }

@@ -1,49 +1,41 @@
-use mathlib.Core.Path.{sym, _∙_, refl}
 use native.Mathlib.Omega.{arith}
-use Rattle.boot.specs.Layout.{layoutOf}
-use Rattle.boot.proofs.Accepted.{accepted-of, map-length}
-use Rattle.boot.proofs.Places.{laid-of}
-use Rattle.boot.proofs.Apart.{apart-of}
+use Rattle.boot.proofs.Admission.{admit-number, admission}
 use Rattle.file.proofs.OpenLaws.{shown-as, refuse-shown}
-use Rattle.write_remove.proofs.RemoveLaws.{remove-is, remove-limits}
+use Rattle.write_remove.proofs.RemoveLaws.{remove-is, remove-not-admitted}
 use borrow.Author.Needs.{needs}
 use Rattle.write_remove.proofs.remove.remove.Statement.{statement}
 use Rattle.write_remove.proofs.remove.remove.Tie as tie
 
-validate-requires : tie.Need-validate-requires
-validate-requires c κs = search needs
-
-layout-of-requires : tie.Need-layout-of-requires
-layout-of-requires c κs = accepted-of _ _ _ (sym (c .before .validate .ensures) ∙ c .if1 .taken)
-
-remove-in-requires : tie.Need-remove-in-requires
-unfolding layoutOf
-remove-in-requires c κs =
-    let e = sym (c .before .before .before .validate .ensures) ∙ c .before .before .if1 .taken in
-    let p = accepted-of _ _ _ e in
-    let n = map-length _ _ _ e in
-    rw (c .before .layout-of .ensures) (laid-of _ _ p, (refl, (omega arith, apart-of _ _ p)))
-
-same-length : tie.Need-same-length
-same-length c = search needs
-
-returns : tie.Need-returns
-returns c = shown-as (remove-is _ _ _ _ _ _ (cc) (c .before .before .before .before .layout-of .ensures)) (c .before .before .remove-in .ensures)
+admit-requires : tie.Need-admit-requires
+admit-requires c κs = search needs
 
 refused-requires : tie.Need-refused-requires
 refused-requires c κs = search needs
 
+returns : tie.Need-returns
+returns c =
+    shown-as (remove-not-admitted _ _ _ _ _ _ (admit-number _ _ _ _ (c .before .before .before .admit .ensures)) (λ z. omega arith)) (refuse-shown _ _ _ _ (c .refused .ensures))
+
+remove-in-requires : tie.Need-remove-in-requires
+remove-in-requires c κs =
+    let i = c .before .before .before .before .before .before .args in
+    let a = admission (i .g) (i .vol .now) (i .map .now) _ (c .before .before .before .admit .ensures) (omega arith) in
+    (a .laid, (a .long, (a .wide, a .apart)))
+
+same-length : tie.Need-same-length
+same-length c = search needs
+
 returns-2 : tie.Need-returns-2
-returns-2 c = shown-as (remove-limits _ _ _ _ _ (cc)) (refuse-shown _ _ _ _ (c .refused .ensures))
+returns-2 c =
+    shown-as (remove-is _ _ _ _ _ _ (admission _ _ _ _ (c .before .before .before .before .before .before .admit .ensures) (omega arith))) (c .before .before .remove-in .ensures)
 
 pub remove-spec : {M : Type 1} → statement M
 remove-spec =
     tie.close
     (tie.spec
-    validate-requires
-    layout-of-requires
+    admit-requires
+    refused-requires
+    returns
     remove-in-requires
     same-length
-    returns
-    refused-requires
     returns-2)

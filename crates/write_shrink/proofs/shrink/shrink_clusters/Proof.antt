@@ -1,44 +1,37 @@
-use mathlib.Core.Path.{sym, _∙_, refl}
 use native.Mathlib.Omega.{arith}
-use Rattle.boot.specs.Layout.{layoutOf}
-use Rattle.boot.proofs.Accepted.{accepted-of, map-length}
-use Rattle.boot.proofs.Places.{laid-of}
-use Rattle.boot.proofs.Apart.{apart-of}
-use Rattle.write_shrink.proofs.Cutting.{shrink-limits, shrink-is}
+use Rattle.boot.proofs.Admission.{admit-number, admission}
+use Rattle.write_alloc.proofs.AllocateLaws.{shown-as}
+use Rattle.write_shrink.proofs.Cutting.{shrink-is, shrink-not-admitted}
 use borrow.Author.Needs.{needs}
 use Rattle.write_shrink.proofs.shrink.shrink_clusters.Statement.{statement}
 use Rattle.write_shrink.proofs.shrink.shrink_clusters.Tie as tie
 
-validate-requires : tie.Need-validate-requires
-validate-requires c κs = search needs
+admit-requires : tie.Need-admit-requires
+admit-requires c κs = search needs
 
-layout-of-requires : tie.Need-layout-of-requires
-layout-of-requires c κs = accepted-of _ _ _ (sym (c .before .validate .ensures) ∙ c .if1 .taken)
+returns : tie.Need-returns
+returns c =
+    shrink-not-admitted _ _ _ _ _ _ _ (admit-number _ _ _ _ (c .before .before .admit .ensures)) (λ z. omega arith)
 
 shrink-in-requires : tie.Need-shrink-in-requires
-unfolding layoutOf
 shrink-in-requires c κs =
-    let e = sym (c .before .before .before .validate .ensures) ∙ c .before .before .if1 .taken in
-    let p = accepted-of _ _ _ e in
-    let n = map-length _ _ _ e in
-    rw (c .before .layout-of .ensures) (laid-of _ _ p, (refl, (omega arith, apart-of _ _ p)))
+    let i = c .before .before .before .before .before .before .args in
+    let a = admission (i .g) (i .vol .now) (i .map .now) _ (c .before .before .before .admit .ensures) (omega arith) in
+    (a .laid, (a .long, (a .wide, a .apart)))
 
 same-length : tie.Need-same-length
 same-length c = search needs
 
-returns : tie.Need-returns
-returns c = shrink-is _ _ _ _ _ _ _ _ (cc) (cc) (cc)
-
 returns-2 : tie.Need-returns-2
-returns-2 c = shrink-limits _ _ _ _ _ _ (cc)
+returns-2 c =
+    shown-as (shrink-is _ _ _ _ _ _ _ (admission _ _ _ _ (c .before .before .before .before .before .before .admit .ensures) (omega arith))) (c .before .before .shrink-in .ensures)
 
 pub shrink-clusters-spec : {M : Type 1} → statement M
 shrink-clusters-spec =
     tie.close
     (tie.spec
-    validate-requires
-    layout-of-requires
+    admit-requires
+    returns
     shrink-in-requires
     same-length
-    returns
     returns-2)
