@@ -1,7 +1,8 @@
 -- A geometry from its words, its numbers by plain names, and the sizes that follow from them.
 use mathlib.Core.List.{List}
-use Prim.Native.Nat.{ℕ, _+_, _-_, _/_, _^_}
+use Prim.Native.Nat.{ℕ, _+_, _^_}
 use lib.ListN.{getD}
+use Rattle.tables.specs.Numbers.{ceilDiv}
 use Rattle.boot.specs.declared.geometry.Geometry.{Geometry}
 
 -- the words of a geometry, in the order of the struct
@@ -74,8 +75,8 @@ clusterSize g = 2 ^ (sectorShift g + clusterShift g)
 
 -- bytes of a bitmap of count clusters: ceil(count / 8)
 abbrev pub bitmapBytes : ℕ → ℕ
-bitmapBytes count = (count + 7) / 8
+bitmapBytes count = ceilDiv count 8
 
 -- clusters of a bitmap: ceil(bytes / cluster size)
 unfoldable pub bitmapClusters : Geometry → ℕ
-bitmapClusters g = (bitmapBytes (clusterCount g) + (clusterSize g - 1)) / clusterSize g
+bitmapClusters g = ceilDiv (bitmapBytes (clusterCount g)) (clusterSize g)

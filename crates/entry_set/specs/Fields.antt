@@ -1,11 +1,12 @@
 -- The fields of an entry set, s being its bytes from the file entry on (exFAT specification, 7.4, 7.6 and 7.7).
 use mathlib.Core.Bool.{Bool}
 use mathlib.Core.List.{List}
-use Prim.Native.Nat.{ℕ, _+_, _-_, _*_, _/_}
+use Prim.Native.Nat.{ℕ, _*_}
 use lib.Dec.{eqb}
 use lib.ListN.{getD}
 use Rattle.primitives.specs.Bits.{bitOf}
 use Rattle.primitives.specs.Words.{getLe}
+use Rattle.tables.specs.Numbers.{ceilDiv}
 
 -- the type byte of entry i (6.2.1 EntryType)
 unfoldable pub entryType : List ℕ → ℕ → ℕ
@@ -49,8 +50,8 @@ dataLength s = getLe 8 s 56
 
 -- the clusters that a length takes (01: ceil(length / cluster size))
 unfoldable pub clustersFor : (size len : ℕ) → ℕ
-clustersFor size len = (len + (size - 1)) / size
+clustersFor size len = ceilDiv len size
 
 -- the name entries that a name of n units takes (01: ceil(units / 15))
 unfoldable pub nameEntries : ℕ → ℕ
-nameEntries n = (n + 14) / 15
+nameEntries n = ceilDiv n 15

@@ -1,3 +1,4 @@
+pub mod Numbers
 pub mod Count
 pub mod Lists
 pub mod Table
