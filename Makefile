@@ -41,3 +41,4 @@ model: lib
 
 bench: lib
 	@bash bench/run
+	@bash bench/instructions
