@@ -5,13 +5,14 @@ use mathlib.Core.Bool.{Bool, true, false, _&&_, _||_, cond}
 use mathlib.Core.List.{List, [], _∷_, _++_}
 use Prim.Native.Nat.{ℕ, zero, suc, _+_, _-_, _≤_, _<_}
 use native.Mathlib.Numerals.{sub-one}
+use native.Mathlib.Decide.{decLt}
 use native.Mathlib.Omega.{arith}
 use lib.Dec.{eqb, leb}
 use lib.ListN.{length, take, drop}
 use lib.Seq.{take-append-seam, drop-append-seam}
 use borrow.Author.Tests.{eq-eqb, ne-eqb, le-leb, lt-leb}
 use Rattle.tables.specs.Lists.{Mem, here, there, Distinct, more, every, lastOr, risingFrom, rising}
-use Rattle.tables.proofs.Cases.{cond-case}
+use Rattle.tables.proofs.Cases.{cond-case, and-true, and-assoc}
 use Rattle.tables.proofs.ListLaws.{mem-left, mem-right, every-mem, mem-every, last-in}
 use Rattle.boot.specs.declared.geometry.Geometry.{Geometry}
 use Rattle.boot.specs.declared.layout.Layout.{Layout}
@@ -25,12 +26,12 @@ use Rattle.metadata.specs.Fat.{END, fatEntry, setFat}
 use Rattle.metadata.specs.Marks.{marked, setMark}
 use Rattle.metadata.proofs.Frame.{Fits, fits-kept, length-fat, length-mark, fat-fat-other, fat-mark}
 use Rattle.stream.specs.declared.allocation.Allocation.{Allocation}
-use Rattle.stream.specs.Stream.{numberOf, streamOf, clustersOf, systemCause}
+use Rattle.stream.specs.Stream.{numberOf, streamOf, clustersOf, clustersIn, systemCause}
 use Rattle.stream.specs.Internal.{after, along, reached}
 use Rattle.stream.proofs.StreamLaws.{along-step, length-along, along-head, along-rest}
+use Rattle.stream.proofs.ChainLaws.{stream-empty}
 use Rattle.stream.proofs.ListingLaws.{stream-read}
 use Rattle.stream.proofs.Distinct.{along-cong, read-distinct}
-use Rattle.write_alloc.specs.declared.answer.Answer.{Answer}
 use Rattle.write_shrink.specs.declared.shrink.Kept.{Kept}
 use Rattle.write_alloc.specs.Outcome.{Outcome, unchanged}
 use Rattle.write_alloc.proofs.AllocateLaws.{Shown}
@@ -76,17 +77,9 @@ module _ (fat : ℕ → ℕ) (run : Bool) where
       ≡ record { last = lastOr k (along fat run (after fat run k) n); rising = b && risingFrom k (along fat run (after fat run k) n); next = reached fat run (after fat run k) n }
   unfolding walkKept along reached lastOr risingFrom
   walk-is b k zero = rw (and-true b) refl
-    where
-      and-true : (b : Bool) → b && true ≡ b
-      and-true true = refl
-      and-true false = refl
   walk-is b k (suc n) =
       let j = after fat run k in
-      rw (sym (and-assoc b (eqb j (k + 1)) (risingFrom j (along fat run (after fat run j) n)))) (walk-is (b && eqb j (k + 1)) j n)
-    where
-      and-assoc : (a b c : Bool) → (a && b) && c ≡ a && (b && c)
-      and-assoc true b c = refl
-      and-assoc false b c = refl
+      rw (and-assoc b (eqb j (k + 1)) (risingFrom j (along fat run (after fat run j) n))) (walk-is (b && eqb j (k + 1)) j n)
 
   pub kept-none : (k n : ℕ) → n ≡ 0 → keptPart fat run k n ≡ record { last = 0; rising = true; next = k }
   unfolding keptPart along lastOr rising reached
@@ -105,6 +98,23 @@ module _ (fat : ℕ → ℕ) (run : Bool) where
   pub part-last : (k n : ℕ) (p : Kept) → p ≡ keptPart fat run k n → p .last ≡ lastOr 0 (along fat run k n)
   unfolding keptPart
   part-last k n p e = ap (λ (x : Kept). x .last) e
+
+-- where it leads, and what is kept, depend on those clusters' entries alone
+reach-cong : (fat fat′ : ℕ → ℕ) (run : Bool) (k n : ℕ) → ((j : ℕ) → Mem j (along fat run k n) → fat′ j ≡ fat j) → reached fat′ run k n ≡ reached fat run k n
+unfolding reached along after
+reach-cong fat fat′ run k zero h = refl
+reach-cong fat fat′ run k (suc n) h =
+    ap (λ (x : ℕ). reached fat′ run (cond run (k + 1) x) n) (h k (here refl))
+    ∙ reach-cong fat fat′ run (after fat run k) n (λ j m. h j (there m))
+
+pub part-cong : (fat fat′ : ℕ → ℕ) (run : Bool) (k n : ℕ) → ((j : ℕ) → Mem j (along fat run k n) → fat′ j ≡ fat j)
+    → keptPart fat′ run k n ≡ keptPart fat run k n
+unfolding keptPart
+part-cong fat fat′ run k n h = λ i. record {
+  last = lastOr 0 (along-cong fat fat′ run k n h i);
+  rising = rising (along-cong fat fat′ run k n h i);
+  next = reach-cong fat fat′ run k n h i;
+}
 
 -- ---- the end of the kept part
 
@@ -235,7 +245,11 @@ module _ (y : Layout) (d : List ℕ) (a : Allocation) (keep : ℕ) where
   abbrev pub freedOf : List ℕ
   freedOf = along (fatEntry y d) (a .«no_fat_chain») (reached (fatEntry y d) (a .«no_fat_chain») (a .first) keep) (a .count - keep)
 
-module _ (y : Layout) (d : List ℕ) (a : Allocation) (keep : ℕ) (l : Laid y) (h : keep < a .count) (e : numberOf (streamOf y d a) ≡ 0) where
+  -- the volume after the first `keep` clusters have their end and the others are freed
+  abbrev pub cutVolume : List ℕ
+  cutVolume = freeAll y (endKept y d a (take keep (clustersIn y d a))) (drop keep (clustersIn y d a))
+
+module _ (y : Layout) (d : List ℕ) (a : Allocation) (keep : ℕ) (l : Laid y) (h : keep ≤ a .count) (e : numberOf (streamOf y d a) ≡ 0) where
   parts : clustersOf (streamOf y d a) ≡ keptOf y d a keep ++ freedOf y d a keep
   parts =
       let n : a .count ≡ keep + (a .count - keep) = omega arith in
@@ -257,6 +271,12 @@ module _ (y : Layout) (d : List ℕ) (a : Allocation) (keep : ℕ) (l : Laid y) 
       ap (drop keep) parts
       ∙ ap (λ (n : ℕ). drop n (keptOf y d a keep ++ freedOf y d a keep)) (sym kept-length)
       ∙ drop-append-seam (keptOf y d a keep) (freedOf y d a keep)
+
+  -- 9 among them, as the code asks for it
+  pub freed-cause : (m : List ℕ) (k : ℕ) → k ≡ reached (fatEntry y d) (a .«no_fat_chain») (a .first) keep
+      → systemCause m (along (fatEntry y d) (a .«no_fat_chain») k (a .count - keep)) ≡ systemCause m (drop keep (clustersIn y d a))
+  unfolding clustersIn
+  freed-cause m k n = rw n (ap (systemCause m) (sym freed-is))
 
   whole-heap : every (inHeap (y .count)) (keptOf y d a keep ++ freedOf y d a keep) ≡ true
   whole-heap = ap (every (inHeap (y .count))) (sym parts) ∙ stream-read y d a e .heap
@@ -306,6 +326,18 @@ module _ (y : Layout) (d : List ℕ) (a : Allocation) (keep : ℕ) (l : Laid y) 
       pub left-distinct : Distinct (along (fatEntry y d′) (a .«no_fat_chain») k (a .count - keep))
       left-distinct = subst Distinct (sym left-same) freed-distinct
 
+      -- freed, they leave the volume of the cut
+      pub left-cut : freeAll y d′ (along (fatEntry y d′) (a .«no_fat_chain») k (a .count - keep)) ≡ cutVolume y d a keep
+      unfolding clustersIn
+      left-cut =
+          ap (freeAll y d′) (left-same ∙ sym freed-is)
+          ∙ ap (λ (x : List ℕ). freeAll y x (drop keep (clustersOf (streamOf y d a)))) (q ∙ ap (endKept y d a) (sym kept-is))
+
+-- an empty record's, of which nothing is kept
+cut-none : (y : Layout) (d : List ℕ) (a : Allocation) (keep : ℕ) → keep ≡ 0 → a .count ≡ 0 → cutVolume y d a keep ≡ d
+unfolding clustersIn streamOf freeAll endKept
+cut-none y d a keep k n = rw (k, stream-empty (y .count) (fatEntry y d) (marked y d) a n) refl
+
 -- ---- what the call answers and leaves
 
 module _ (y : Layout) (d m : List ℕ) (a : Allocation) (keep hint : ℕ) where
@@ -340,27 +372,42 @@ module _ (y : Layout) (d m : List ℕ) (a : Allocation) (keep hint : ℕ) where
           → Shown (shrinkIn y d m a keep hint) (record { number = n; allocation = a; hint = hint }) d
       shrink-refused n e z = refused-by n z (unfold shrinkCause in (cause-met _ _ (λ q. z (e ∙ q)) ∙ sym e))
 
-      module _ (w : Laid y) (e : numberOf (streamOf y d a) ≡ 0) where
-        system-is : shrinkCause y d m a keep ≡ systemCause m (freedOf y d a keep)
-        unfolding shrinkCause
-        system-is = cause-skip _ _ e ∙ cause-last _ ∙ ap (systemCause m) (freed-is y d a keep w l e)
+      module _ (e : numberOf (streamOf y d a) ≡ 0) where
+        system-is : shrinkCause y d m a keep ≡ systemCause m (drop keep (clustersIn y d a))
+        unfolding shrinkCause clustersIn
+        system-is = cause-skip _ _ e ∙ cause-last _
 
-        pub shrink-system : (n : ℕ) → n ≡ systemCause m (freedOf y d a keep) → n ≢ 0
+        pub shrink-system : (n : ℕ) → n ≡ systemCause m (drop keep (clustersIn y d a)) → n ≢ 0
             → Shown (shrinkIn y d m a keep hint) (record { number = n; allocation = a; hint = hint }) d
         shrink-system n q z = refused-by n z (system-is ∙ sym q)
 
-        pub shrink-done : systemCause m (freedOf y d a keep) ≡ 0
-            → Shown (shrinkIn y d m a keep hint)
-            (record { number = 0; allocation = partRecord (a .first) keep (keptPart (fatEntry y d) (a .«no_fat_chain») (a .first) keep); hint = hint })
-            (freeAll y (endKept y d a (keptOf y d a keep)) (freedOf y d a keep))
-        unfolding cut
-        shrink-done q =
-            rw (
-              shrink-by false 0 (lt-leb (a .count) keep l) (only-cause (shrinkCause y d m a keep) ∙ system-is ∙ q),
-              kept-is y d a keep w l e,
-              freed-is y d a keep w l e,
-              part-record (fatEntry y d) a keep,
-            ) (refl, refl)
+        module _ (q : systemCause m (drop keep (clustersIn y d a)) ≡ 0) where
+          is-cut : shrinkIn y d m a keep hint ≡ cut y d a keep hint
+          is-cut = shrink-by false 0 (lt-leb (a .count) keep l) (only-cause (shrinkCause y d m a keep) ∙ system-is ∙ q)
+
+          pub shrink-done : Laid y
+              → Shown (shrinkIn y d m a keep hint)
+              (record { number = 0; allocation = partRecord (a .first) keep (keptPart (fatEntry y d) (a .«no_fat_chain») (a .first) keep); hint = hint })
+              (cutVolume y d a keep)
+          unfolding cut clustersIn
+          shrink-done w = rw (is-cut, kept-is y d a keep w (omega arith) e, part-record (fatEntry y d) a keep) (refl, refl)
+
+    -- what it leaves where nothing refuses it: the cut, also of an empty record, of which nothing is kept
+    pub shrink-cut : (0 < keep → keep < a .count) → numberOf (streamOf y d a) ≡ 0 → systemCause m (drop keep (clustersIn y d a)) ≡ 0
+        → shrinkIn y d m a keep hint .volume ≡ cutVolume y d a keep
+    unfolding cut clustersIn
+    shrink-cut l e q =
+        elim (decLt keep (a .count)) [
+          | yes h ↦ ap (λ (o : Outcome). o .volume) (is-cut h e q)
+          | no h ↦ sym (shrink-idle (omega arith) .1) ∙ sym (cut-none y d a keep (keep-none h) (let z = keep-none h in omega arith))
+        ]
+      where
+        keep-none : (keep < a .count → ⊥) → keep ≡ 0
+        keep-none h =
+            elim (decLt 0 keep) [
+              | yes z ↦ absurd (h (l z))
+              | no z ↦ omega arith
+            ]
 
 module _ (g : Geometry) (d m : List ℕ) (a : Allocation) (keep hint : ℕ) where
   pub shrink-is : (y : Layout) → Admits g d m y → shrinkClusters g d m a keep hint ≡ shrinkIn y d m a keep hint

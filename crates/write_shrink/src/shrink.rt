@@ -1,14 +1,13 @@
 // Shrink: a stream cut to its first clusters, the others freed.
 ghost use mathlib.Core.Path.{_≡_};
-ghost use mathlib.Core.Bool.{_&&_, true};
+ghost use mathlib.Core.Bool.{true};
 ghost use Prim.Native.Nat.{_+_, _-_, _*_, _≤_, _<_};
-ghost use lib.Dec.{eqb};
-ghost use lib.ListN.{length};
+ghost use lib.ListN.{length, take, drop};
 ghost use Rattle.tables.specs.Lists.{every, lastOr, Distinct};
 ghost use Rattle.boot.specs.Internal.{Laid, Apart};
 ghost use Rattle.boot.specs.Layout.{inHeap};
 ghost use Rattle.metadata.specs.Fat.{fatEntry};
-ghost use Rattle.stream.specs.Stream.{numberOf, streamOf};
+ghost use Rattle.stream.specs.Stream.{numberOf, streamOf, clustersIn};
 ghost use Rattle.stream.specs.Internal.{along};
 ghost use Rattle.write_shrink.specs.Internal.{keptPart, partRecord};
 ghost use Rattle.write_shrink.specs.Shrink.{freeAll, endKept, shrinkIn, shrinkClusters};
@@ -22,17 +21,6 @@ pub struct Kept {
     pub last: u32,
     pub rising: bool,
     pub next: u32,
-}
-
-// Whether the numbers rise by one with the one after k, as those before did.
-fn still_rising(k: u32, next: u32, so_far: bool) -> bool
-    requires { ⌜ k < 4294967295 ⌝ }
-    ensures { λ r. ⌜ r ≡ «so_far» && eqb next (k + 1) ⌝ }
-{
-    if so_far {
-        return next == k + 1;
-    }
-    false
 }
 
 // The first n clusters of a stream.
@@ -52,7 +40,7 @@ pub fn kept_part(vol: &[u8], y: Layout, run: bool, first: u32, n: u32) -> Kept
     let mut rising = true;
     let mut left = n - 1;
     while 0 < left {
-        rising = still_rising(k, next, rising);
+        rising = primitives::bits::both(rising, next == k + 1);
         k = next;
         next = stream::walk::next_cluster(vol, y, run, k);
         left -= 1;
@@ -92,6 +80,15 @@ fn free_from(vol: &mut [u8], y: Layout, run: bool, first: u32, n: u32)
         k = next;
         left -= 1;
     }
+}
+
+// Cuts a stream that reads to its first clusters, which `part` tells of, and frees the others: what shrink does where nothing refuses.
+pub fn cut_in(vol: &mut [u8], y: Layout, a: Allocation, keep: u32, part: Kept)
+    requires { ⌜ Laid y × ((length (now vol) ≡ y .len) × (Apart y × ((numberOf (streamOf y (now vol) a) ≡ 0) × ((keep ≤ a .count) × (part ≡ keptPart (fatEntry y (now vol)) (a .«no_fat_chain») (a .first) keep))))) ⌝ }
+    ensures { λ _. ⌜ now (vol .exit) ≡ freeAll y (endKept y (now (vol .entry)) a (take keep (clustersIn y (now (vol .entry)) a))) (drop keep (clustersIn y (now (vol .entry)) a)) ⌝ }
+{
+    end_kept(vol, y, a, keep, part.last);
+    free_from(vol, y, a.no_fat_chain, part.next, a.count - keep);
 }
 
 // The record of the kept clusters: empty, or a run where their numbers rise by one.
@@ -135,8 +132,7 @@ fn shrink_read(vol: &mut [u8], map: &[u8], y: Layout, a: Allocation, keep: u32, 
             hint: hint,
         };
     }
-    end_kept(vol, y, a, keep, part.last);
-    free_from(vol, y, a.no_fat_chain, part.next, a.count - keep);
+    cut_in(vol, y, a, keep, part);
     Answer {
         number: 0,
         allocation: kept_record(a.first, keep, part),

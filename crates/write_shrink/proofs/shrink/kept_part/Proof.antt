@@ -37,8 +37,11 @@ loop-holds c =
     let h = in-heap _ _ (along-head _ _ _ _ _ (omega arith) p) in
     (h .1, (c .next-cluster .ensures, (rw (c .next-cluster .ensures) (along-rest _ _ _ _ _ (omega arith) p), sym (kept-some _ _ _ _ (λ z. omega arith)))))
 
-still-rising-requires : tie.Need-still-rising-requires Inv-loop μ-loop
-still-rising-requires c κs = search needs
+add-both : tie.Need-add-both Inv-loop μ-loop
+add-both c = search needs
+
+both-requires : tie.Need-both-requires Inv-loop μ-loop
+both-requires c κs = search needs
 
 next-cluster-requires-2 : tie.Need-next-cluster-requires-2 Inv-loop μ-loop
 next-cluster-requires-2 c κs =
@@ -70,7 +73,8 @@ kept-part-spec =
     next-cluster-requires
     sub-left
     loop-holds
-    still-rising-requires
+    add-both
+    both-requires
     next-cluster-requires-2
     sub-left-2
     loop-less
