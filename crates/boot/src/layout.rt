@@ -6,7 +6,9 @@ ghost use Rattle.boot.specs.Layout.{fatStart, clusterStart, bitmapFirst,
 use crate::geometry;
 use crate::geometry::Geometry;
 
-// Places are of first bytes. With one FAT the second places are the first.
+// Whether there are two FATs; the first byte of the active FAT, of the first and the second one, and of their bitmaps in the same
+// order; the first cluster of each bitmap and how many clusters a bitmap spans; the first byte of the heap; the bytes of a cluster;
+// the clusters; the bytes of the volume. With one FAT the second places are the first.
 pub struct Layout {
     pub two: bool,
     pub fat: usize,
