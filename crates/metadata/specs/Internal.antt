@@ -1,7 +1,7 @@
 -- What only contracts of inner functions, and proofs, speak of: no promise of a public call and no clause of the claim needs it.
-use mathlib.Core.Bool.{cond}
+use mathlib.Core.Bool.{Bool, cond, not, _&&_}
 use mathlib.Core.List.{List}
-use Prim.Native.Nat.{ℕ, _+_, _*_, _-_, zero, suc}
+use Prim.Native.Nat.{ℕ, _+_, _*_, _-_, _%_, zero, suc}
 use lib.Dec.{eqb}
 use lib.ListN.{drop}
 use Rattle.primitives.specs.Words.{getLe}
@@ -9,17 +9,24 @@ use Rattle.boot.specs.declared.layout.Layout.{Layout}
 use Rattle.primitives.specs.Internal.{pastBytes}
 use Rattle.search.specs.declared.found.Found.{Found}
 use Rattle.search.specs.declared.found.Found.the-variants.{At, Nothing}
-use Rattle.metadata.specs.Fat.{BAD}
+use Rattle.search.specs.Search.{allFrom}
+use Rattle.boot.specs.Limits.{inMap}
+use Rattle.metadata.specs.Fat.{BAD, fatEntry}
 
 -- entry k of a FAT's bytes
 unfoldable pub entryOf : List ℕ → ℕ → ℕ
 entryOf l k = getLe 4 l (4 * k)
 
--- the first of the n clusters from k whose byte has an unmarked cluster; k + n where there is none
+-- where k is the first cluster of its byte, the first of the n clusters from k whose byte has an unmarked cluster, k + n where
+-- there is none; else k
 unfoldable pub pastFull : (y : Layout) (d : List ℕ) (k n : ℕ) → ℕ
-pastFull y d k n = pastBytes (drop (y .bitmap) d) 255 (k - 2) n + 2
+pastFull y d k n = cond (eqb ((k - 2) % 8) 0) (pastBytes (drop (y .bitmap) d) 255 (k - 2) n + 2) k
 
 -- the first of the n clusters from k whose FAT entry is bad
 unfoldable pub firstBad : (ℕ → ℕ) → ℕ → ℕ → Found
 firstBad fat k zero = Nothing
 firstBad fat k (suc n) = cond (eqb (fat k) BAD) (At k) (firstBad fat (k + 1) n)
+
+-- none of the n clusters from k is in the system map or bad
+unfoldable pub noneRefused : (y : Layout) (d m : List ℕ) (k n : ℕ) → Bool
+noneRefused y d m k n = allFrom (λ j. not (inMap m j)) k n && allFrom (λ j. not (eqb (fatEntry y d j) BAD)) k n

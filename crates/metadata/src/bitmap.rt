@@ -1,9 +1,11 @@
 // The marks of clusters: read from the active FAT's bitmap, stored to every bitmap.
 ghost use mathlib.Core.Path.{_≡_};
+ghost use mathlib.Core.Bool.{not};
 ghost use Prim.Native.Nat.{_+_, _≤_, _<_};
 ghost use lib.ListN.{length};
 ghost use Rattle.boot.specs.Geometry.{bitmapBytes};
 ghost use Rattle.boot.specs.Internal.{Laid};
+ghost use Rattle.search.specs.Search.{allFrom};
 ghost use Rattle.metadata.specs.Marks.{marked, putByte, setMark, allocatedCount, freeCount};
 ghost use Rattle.metadata.specs.Internal.{pastFull};
 use boot::layout::Layout;
@@ -59,12 +61,25 @@ pub fn free_count(vol: &[u8], y: Layout) -> u32
     y.count - allocated_count(vol, y)
 }
 
-// The first of the n clusters from k whose byte of the active FAT's bitmap is not 0xFF; k + n where there is none.
+// The first of the n clusters from k whose byte of the active FAT's bitmap is not 0xFF, k + n where there is none; k itself inside a byte.
 pub fn past_full(vol: &[u8], y: Layout, k: u32, n: u32) -> u32
     requires { ⌜ Laid y × ((length (now vol) ≡ y .len) × ((2 ≤ k) × (k + n ≤ y .count + 2))) ⌝ }
     ensures { λ r. ⌜ (r ≡ pastFull y (now (vol .entry)) k n) × ((k ≤ r) × (r ≤ k + n)) ⌝ }
 {
+    if (k - 2) % 8 != 0 {
+        return k;
+    }
     let a = y.bitmap;
     let e = a + ((y.count + 7) / 8) as usize;
     primitives::bits::past_bytes(&vol[a..e], 0xFF, k - 2, n) + 2
+}
+
+// Whether none of the n clusters from first is marked. Bytes of none marked are passed at once.
+pub fn none_marked(vol: &[u8], y: Layout, first: u32, n: u32) -> bool
+    requires { ⌜ Laid y × ((length (now vol) ≡ y .len) × ((2 ≤ first) × (first + n ≤ y .count + 2))) ⌝ }
+    ensures { λ r. ⌜ r ≡ allFrom (λ k. not (marked y (now (vol .entry)) k)) first n ⌝ }
+{
+    let a = y.bitmap;
+    let e = a + ((y.count + 7) / 8) as usize;
+    primitives::bits::clear_from(&vol[a..e], first - 2, n)
 }

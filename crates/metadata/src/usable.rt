@@ -4,7 +4,8 @@ ghost use Prim.Native.Nat.{_+_, _*_, _≤_, _<_};
 ghost use lib.ListN.{length};
 ghost use Rattle.boot.specs.Internal.{Laid};
 ghost use Rattle.metadata.specs.Fat.{fatEntry};
-ghost use Rattle.metadata.specs.Internal.{entryOf, firstBad};
+ghost use Rattle.metadata.specs.Internal.{entryOf, firstBad, noneRefused};
+ghost use Rattle.search.specs.Search.{allFrom};
 ghost use Rattle.metadata.specs.Usable.{isFree, isUsable};
 use boot::layout::Layout;
 use search::found::Found;
@@ -67,6 +68,36 @@ pub fn usable(vol: &[u8], map: &[u8], y: Layout, k: u32) -> bool
                 return true;
             }
         }
+    }
+    false
+}
+
+// Whether none of the n clusters from first is in the system map or bad.
+fn none_refused(vol: &[u8], map: &[u8], y: Layout, first: u32, n: u32) -> bool
+    requires { ⌜ Laid y × ((length (now vol) ≡ y .len) × ((y .count ≤ 8 * length (now map)) × ((2 ≤ first) × (first + n ≤ y .count + 2)))) ⌝ }
+    ensures { λ r. ⌜ r ≡ noneRefused y (now (vol .entry)) (now (map .entry)) first n ⌝ }
+{
+    if primitives::bits::clear_from(map, first - 2, n) {
+        let bad = bad_in(vol, y, first, n);
+        match bad {
+            Found::At(_) => {
+                return false;
+            }
+            Found::Nothing => {
+                return true;
+            }
+        }
+    }
+    false
+}
+
+// Whether the n clusters from first are all usable (Rust: `run_is_free`): the marks and the map by the byte, then the FAT's entries.
+pub fn run_is_free(vol: &[u8], map: &[u8], y: Layout, first: u32, n: u32) -> bool
+    requires { ⌜ Laid y × ((length (now vol) ≡ y .len) × ((y .count ≤ 8 * length (now map)) × ((2 ≤ first) × (first + n ≤ y .count + 2)))) ⌝ }
+    ensures { λ r. ⌜ r ≡ allFrom (isUsable y (now (vol .entry)) (now (map .entry))) first n ⌝ }
+{
+    if crate::bitmap::none_marked(vol, y, first, n) {
+        return none_refused(vol, map, y, first, n);
     }
     false
 }

@@ -1,8 +1,8 @@
 -- Bits of a bitmap that are skipped by the byte. Assumes nothing.
 use mathlib.Core.Path.{_≡_, refl, sym, _∙_, ap, ap₂}
-use mathlib.Core.Bool.{true, cond, _&&_, false≢true}
+use mathlib.Core.Bool.{true, false, cond, not, _&&_, false≢true, and-true, and-false, and-assoc}
 use mathlib.Core.List.{List}
-use Prim.Native.Nat.{ℕ, zero, suc, _+_, _-_, _*_, _/_, _≤_, _<_}
+use Prim.Native.Nat.{ℕ, zero, suc, _+_, _-_, _*_, _/_, _%_, _≤_, _<_}
 use native.Mathlib.Decide.{decLt, ℕ-discrete}
 use native.Mathlib.Numerals.{add-one}
 use native.Mathlib.Omega.{arith}
@@ -10,8 +10,8 @@ use lib.Dec.{eqb, ltb, eqb→eq}
 use lib.ListN.{getD, take}
 use lib.Seq.{getD-take}
 use borrow.Author.Tests.{eq-eqb, ne-eqb, lt-ltb, le-ltb}
-use Rattle.primitives.specs.Bits.{bitOf}
-use Rattle.primitives.specs.Internal.{sameBytes, pastBytes}
+use Rattle.primitives.specs.Bits.{bitOf, bitAt}
+use Rattle.primitives.specs.Internal.{sameBytes, pastBytes, clearFrom}
 use Rattle.primitives.proofs.Every.{at}
 
 module _ (l : List ℕ) (b : ℕ) where
@@ -113,6 +113,9 @@ module _ (l : List ℕ) (b : ℕ) where
         | no e ↦ omega (arith, past-stop k (suc n) (omega arith) e)
       ]
 
+  pub within : (k n r : ℕ) → r ≡ pastBytes l b k n → (r ≡ pastBytes l b k n) × ((k ≤ r) × (r ≤ k + n))
+  within k n r e = let t = past-bounds k n in (e, (omega arith, omega arith))
+
   -- each number that is passed has byte b
   pub past-each : (k n j : ℕ) → k ≤ j → j < pastBytes l b k n → getD l (j / 8) 0 ≡ b
   past-each k zero j h t = absurd (omega (arith, past-none k 0 (omega arith)))
@@ -135,3 +138,68 @@ past-take l m b k (suc n) h = rw (getD-take m l (k / 8) 0 (omega arith), past-ta
 pub full-byte : (j : ℕ) → j < 8 → bitOf 255 j ≡ 1
 unfolding bitOf
 full-byte j h = eqb→eq _ _ (at 8 (λ j. eqb (bitOf 255 j) 1) tt j h)
+
+-- each bit of 0 is clear
+zero-byte : (j : ℕ) → j < 8 → bitOf 0 j ≡ 0
+unfolding bitOf
+zero-byte j h = eqb→eq _ _ (at 8 (λ j. eqb (bitOf 0 j) 0) tt j h)
+
+module _ (l : List ℕ) where
+  -- a bit of a byte that is 0 is not set
+  pub clear-bit : (j : ℕ) → getD l (j / 8) 0 ≡ 0 → eqb (bitAt l j) 1 ≡ false
+  unfolding bitAt
+  clear-bit j e = rw (e, zero-byte (j % 8) (omega arith)) refl
+
+  -- ---- bits none of which is set
+
+  pub clear-none : (k n : ℕ) → n ≤ 0 → clearFrom l k n ≡ true
+  unfolding clearFrom
+  clear-none k zero h = refl
+  clear-none k (suc n) h = absurd (omega arith)
+
+  pub clear-not : (k n j : ℕ) → k ≤ j → j < k + n → eqb (bitAt l j) 1 ≡ true → clearFrom l k n ≡ false
+  unfolding clearFrom
+  clear-not k zero j h t e = absurd (omega arith)
+  clear-not k (suc n) j h t e =
+      elim (decLt j (k + n)) [
+        | yes w ↦ rw (clear-not k n j h w e) refl
+        | no w ↦ (let q : k + n ≡ j = omega arith in rw (q, e) (and-false (clearFrom l k n)))
+      ]
+
+  -- m more
+  clear-add : (m k n : ℕ) → clearFrom l k n ≡ true → ((j : ℕ) → k + n ≤ j → j < k + n + m → eqb (bitAt l j) 1 ≡ false) → clearFrom l k (m + n) ≡ true
+  unfolding clearFrom
+  clear-add zero k n e f = let q : zero + n ≡ n = omega arith in ap (clearFrom l k) q ∙ e
+  clear-add (suc m) k n e f =
+      let q : suc m + n ≡ suc (m + n) = omega arith in
+      rw (q, clear-add m k n e (λ j a b. f j a (omega arith)), f (k + (m + n)) (omega arith) (omega arith)) refl
+
+  -- up to a number, and on to the next
+  clear-more : (k at next : ℕ) → k ≤ at → at ≤ next → clearFrom l k (at - k) ≡ true
+      → ((j : ℕ) → at ≤ j → j < next → eqb (bitAt l j) 1 ≡ false) → clearFrom l k (next - k) ≡ true
+  clear-more k at next h t e f =
+      let q : next - k ≡ next - at + (at - k) = omega arith in
+      ap (clearFrom l k) q ∙ clear-add (next - at) k (at - k) e (λ j a b. f j (omega arith) (omega arith))
+
+  pub clear-next : (k at : ℕ) → k ≤ at → clearFrom l k (at - k) ≡ true → eqb (bitAt l at) 1 ≡ false → clearFrom l k (at + 1 - k) ≡ true
+  clear-next k at h e f =
+      clear-more k at (at + 1) h (omega arith) e (λ j a b. let q : j ≡ at = omega arith in ap (λ (x : ℕ). eqb (bitAt l x) 1) q ∙ f)
+
+  -- and the bytes of 0 after it
+  pub clear-past : (k at n next : ℕ) → k ≤ at → clearFrom l k (at - k) ≡ true → eqb (bitAt l at) 1 ≡ false → next ≡ pastBytes l 0 (at + 1) n
+      → clearFrom l k (next - k) ≡ true
+  clear-past k at n next h e f q =
+      let r = past-bounds l 0 (at + 1) n in
+      clear-more k (at + 1) next (omega arith) (omega arith) (clear-next k at h e f)
+      (λ j a b. clear-bit j (past-each l 0 (at + 1) n j a (omega arith)))
+
+  -- the first bit, and those after it
+  pub clear-first : (k n : ℕ) → clearFrom l k (suc n) ≡ not (eqb (bitAt l k) 1) && clearFrom l (k + 1) n
+  unfolding clearFrom
+  clear-first k zero =
+      let q : k + zero ≡ k = omega arith in
+      rw q (sym (and-true (not (eqb (bitAt l k) 1))))
+  clear-first k (suc n) =
+      let q : k + suc n ≡ k + 1 + n = omega arith in
+      ap (λ b. b && not (eqb (bitAt l (k + suc n)) 1)) (clear-first k n)
+      ∙ rw q (and-assoc (not (eqb (bitAt l k) 1)) (clearFrom l (k + 1) n) (not (eqb (bitAt l (k + 1 + n)) 1)))

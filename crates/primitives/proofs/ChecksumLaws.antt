@@ -7,18 +7,52 @@ use Prim.Native.Nat.{ℕ, zero, suc, _+_, _<_, _≤_}
 use native.Mathlib.Nat.{mod-eq-of-lt}
 use native.Mathlib.Numerals.{add-one}
 use native.Mathlib.Omega.{arith}
-use borrow.Author.Tests.{eq-eqb}
+use borrow.Author.Tests.{eq-eqb, ne-eqb}
 use lib.Dec.{eqb}
 use lib.ListN.{length, getD}
 use Rattle.primitives.specs.Checksum.{checksum, checksumStep, rotateRight}
+use Rattle.primitives.specs.Internal.{addByte, addBytes}
 use Rattle.primitives.specs.Words.{getLe, putLe}
 use Rattle.primitives.proofs.Cases.{eq-or-ne}
 use Rattle.primitives.proofs.WordLaws.{get-put, put-below, put-above}
 
--- one byte more
-pub checksum-more : (l : List ℕ) (i sum r : ℕ) → sum ≡ checksum l i → r ≡ checksumStep sum i (getD l i 0) → r ≡ checksum l (i + 1)
-unfolding checksum
-checksum-more l i sum r e s = rw add-one (s ∙ ap (λ (x : ℕ). checksumStep x i (getD l i 0)) e)
+-- ---- as the code adds the bytes: 0 and 1, then from 4 on
+
+module _ (l : List ℕ) where
+  pub bytes-none : (i sum : ℕ) → addBytes l i sum 0 ≡ sum
+  unfolding addBytes
+  bytes-none i sum = refl
+
+  pub bytes-next : (i sum n : ℕ) → addBytes l i sum (n + 1) ≡ addByte (addBytes l i sum n) (getD l (i + n) 0)
+  unfolding addBytes
+  bytes-next i sum n = rw add-one refl
+
+  pub checksum-start : (n : ℕ) → n < 3 → checksum l n ≡ addBytes l 0 0 n
+  unfolding checksum addBytes addByte
+  checksum-start zero h = refl
+  checksum-start (suc zero) h = refl
+  checksum-start (suc (suc zero)) h = refl
+  checksum-start (suc (suc (suc n))) h = absurd (omega arith)
+
+  pub checksum-gap : (n : ℕ) → 2 ≤ n → n < 5 → checksum l n ≡ addBytes l 0 0 2
+  unfolding checksum addBytes addByte
+  checksum-gap zero h t = absurd (omega arith)
+  checksum-gap (suc zero) h t = absurd (omega arith)
+  checksum-gap (suc (suc zero)) h t = refl
+  checksum-gap (suc (suc (suc zero))) h t = refl
+  checksum-gap (suc (suc (suc (suc zero)))) h t = refl
+  checksum-gap (suc (suc (suc (suc (suc n))))) h t = absurd (omega arith)
+
+  checksum-on : (k : ℕ) → 4 ≤ k → checksum l (suc k) ≡ addByte (checksum l k) (getD l k 0)
+  unfolding checksum addByte
+  checksum-on k h = simp (ne-eqb k 2 (omega arith), ne-eqb k 3 (omega arith))
+
+  pub checksum-rest : (n : ℕ) → checksum l (n + 4) ≡ addBytes l 4 (addBytes l 0 0 2) n
+  unfolding addBytes
+  checksum-rest zero = checksum-gap (zero + 4) (omega arith) (omega arith)
+  checksum-rest (suc n) =
+      ap (checksum l) (omega arith) ∙ checksum-on (n + 4) (omega arith)
+      ∙ ap₂ addByte (checksum-rest n) (ap (λ (x : ℕ). getD l x 0) (omega arith))
 
 -- it is a number of 16 bits
 cond-lt : {a b m : ℕ} (t : Bool) → a < m → b < m → cond t a b < m

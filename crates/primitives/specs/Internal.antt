@@ -1,9 +1,11 @@
 -- What only contracts of inner functions, and proofs, speak of: no promise of a public call and no clause of the claim needs it.
-use mathlib.Core.Bool.{Bool, true, cond, _&&_}
+use mathlib.Core.Bool.{Bool, true, cond, not, _&&_}
 use mathlib.Core.List.{List}
-use Prim.Native.Nat.{ℕ, zero, suc, _+_, _/_}
+use Prim.Native.Nat.{ℕ, zero, suc, _+_, _/_, _%_, _^_}
 use lib.Dec.{eqb}
 use lib.ListN.{getD}
+use Rattle.primitives.specs.Bits.{bitAt}
+use Rattle.primitives.specs.Checksum.{rotateRight}
 
 -- the n bytes of a list from i on are all b
 unfoldable pub sameBytes : List ℕ → ℕ → ℕ → ℕ → Bool
@@ -14,3 +16,17 @@ sameBytes l b i (suc n) = eqb (getD l (i + n) 0) b && sameBytes l b i n
 unfoldable pub pastBytes : List ℕ → ℕ → ℕ → ℕ → ℕ
 pastBytes l b k zero = k
 pastBytes l b k (suc n) = cond (eqb (getD l (k / 8) 0) b) (pastBytes l b (k + 1) n) k
+
+-- none of the n bits of a bitmap from k on is set
+unfoldable pub clearFrom : List ℕ → ℕ → ℕ → Bool
+clearFrom l k zero = true
+clearFrom l k (suc n) = clearFrom l k n && not (eqb (bitAt l (k + n)) 1)
+
+-- a checksum's sum after byte b
+unfoldable pub addByte : (sum b : ℕ) → ℕ
+addByte sum b = (rotateRight sum + b) % 2 ^ 16
+
+-- the sum after the n bytes of a list from i on
+unfoldable pub addBytes : (l : List ℕ) (i sum n : ℕ) → ℕ
+addBytes l i sum zero = sum
+addBytes l i sum (suc n) = addByte (addBytes l i sum n) (getD l (i + n) 0)

@@ -5,7 +5,7 @@ ghost use Prim.Native.Nat.{_+_, _*_, _≤_, _<_};
 ghost use lib.Dec.{eqb};
 ghost use lib.ListN.{length};
 ghost use Rattle.primitives.specs.Bits.{bitOf, setBit, clearBit, putBit};
-ghost use Rattle.primitives.specs.Internal.{sameBytes, pastBytes};
+ghost use Rattle.primitives.specs.Internal.{sameBytes, pastBytes, clearFrom};
 
 // Whether bit j of b is set.
 pub fn bit_test(b: u8, j: u8) -> bool
@@ -86,7 +86,7 @@ fn past_each_byte(bitmap: &[u8], b: u8, k: u32, n: u32) -> u32
 // The same, with one test for each block of 64 bytes as long as they are all b.
 pub fn past_bytes(bitmap: &[u8], b: u8, k: u32, n: u32) -> u32
     requires { ⌜ (k + n ≤ 65536) × (k + n ≤ 8 * length (now bitmap)) ⌝ }
-    ensures { λ r. ⌜ r ≡ pastBytes (now (bitmap .entry)) b k n ⌝ }
+    ensures { λ r. ⌜ (r ≡ pastBytes (now (bitmap .entry)) b k n) × ((k ≤ r) × (r ≤ k + n)) ⌝ }
 {
     let end = k + n;
     let mut at = k;
@@ -99,4 +99,26 @@ pub fn past_bytes(bitmap: &[u8], b: u8, k: u32, n: u32) -> u32
         }
     }
     past_each_byte(bitmap, b, at, end - at)
+}
+
+// Whether none of the n bits from k is set. Bytes of 0 are passed at once.
+pub fn clear_from(bitmap: &[u8], k: u32, n: u32) -> bool
+    requires { ⌜ (k + n ≤ 65536) × (k + n ≤ 8 * length (now bitmap)) ⌝ }
+    ensures { λ r. ⌜ r ≡ clearFrom (now (bitmap .entry)) k n ⌝ }
+{
+    let end = k + n;
+    let mut at = k;
+    while at < end {
+        let b = bitmap[(at / 8) as usize];
+        let next = at + 1;
+        if bit_test(b, (at % 8) as u8) {
+            return false;
+        }
+        if next % 8 == 0 {
+            at = past_bytes(bitmap, 0, next, end - next);
+        } else {
+            at = next;
+        }
+    }
+    true
 }

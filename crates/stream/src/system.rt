@@ -16,17 +16,10 @@ fn run_system_cause(map: &[u8], first: u32, n: u32) -> u32
     requires { ⌜ (2 ≤ first) × ((first + n ≤ 65536) × (first + n ≤ 8 * length (now map) + 2)) ⌝ }
     ensures { λ r. ⌜ r ≡ systemCause (now (map .entry)) (consec first n) ⌝ }
 {
-    let mut k = first;
-    let mut left = n;
-    while 0 < left {
-        if boot::geometry::in_map(map, k) {
-            return 9;
-        }
-        let next = primitives::bits::past_bytes(map, 0, k - 1, left - 1) + 2;
-        left -= next - k;
-        k = next;
+    if primitives::bits::clear_from(map, first - 2, n) {
+        return 0;
     }
-    0
+    9
 }
 
 // What refuses n clusters of a stream: a system cluster among them.

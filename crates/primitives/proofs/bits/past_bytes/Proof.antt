@@ -3,7 +3,7 @@ use mathlib.Core.Path.{_≡_, sym, _∙_}
 use native.Mathlib.Omega.{arith}
 use borrow.Author.Needs.{needs}
 use Rattle.primitives.specs.Internal.{pastBytes}
-use Rattle.primitives.proofs.ByteLaws.{pastTo, to-all, to-bytes}
+use Rattle.primitives.proofs.ByteLaws.{pastTo, to-all, to-bytes, within}
 use Rattle.primitives.proofs.bits.past_bytes.Statement.{statement}
 use Rattle.primitives.proofs.bits.past_bytes.Tie as tie
 
@@ -49,7 +49,7 @@ past-each-byte-requires : tie.Need-past-each-byte-requires Inv-loop μ-loop
 past-each-byte-requires c κs = search needs
 
 returns : tie.Need-returns Inv-loop μ-loop
-returns c = c .past-each-byte .ensures ∙ sym (to-all _ _ _ _ _ (omega arith)) ∙ c .before .before .before .before .loop .inv .1
+returns c = within _ _ _ _ _ (c .past-each-byte .ensures ∙ sym (to-all _ _ _ _ _ (omega arith)) ∙ c .before .before .before .before .loop .inv .1)
 
 sub-past-each-byte-2 : tie.Need-sub-past-each-byte-2 Inv-loop μ-loop
 sub-past-each-byte-2 c = search needs
@@ -58,7 +58,7 @@ past-each-byte-requires-2 : tie.Need-past-each-byte-requires-2 Inv-loop μ-loop
 past-each-byte-requires-2 c κs = search needs
 
 returns-2 : tie.Need-returns-2 Inv-loop μ-loop
-returns-2 c = c .past-each-byte2 .ensures ∙ sym (to-all _ _ _ _ _ (omega arith)) ∙ c .before .before .loop .inv .1
+returns-2 c = within _ _ _ _ _ (c .past-each-byte2 .ensures ∙ sym (to-all _ _ _ _ _ (omega arith)) ∙ c .before .before .loop .inv .1)
 
 pub past-bytes-spec : {M : Type 1} → statement M
 past-bytes-spec =

@@ -1,0 +1,111 @@
+-- A row of clusters tested at once: its marks, the system map and the FAT's entries. Assumes nothing.
+use mathlib.Core.Path.{_≡_, refl, sym, _∙_, ap, ap₂}
+use mathlib.Core.Bool.{Bool, true, false, not, _&&_, and-false, and-assoc}
+use mathlib.Core.List.{List}
+use Prim.Native.Nat.{ℕ, zero, suc, _+_, _-_, _*_, _/_, _%_, _≤_, _<_}
+use native.Mathlib.Decide.{ℕ-discrete}
+use native.Mathlib.Omega.{arith}
+use borrow.Author.Tests.{eq-eqb, ne-eqb}
+use lib.Dec.{eqb}
+use lib.ListN.{getD, take, drop}
+use lib.Seq.{getD-take, getD-drop}
+use Rattle.primitives.specs.Bits.{bitOf, bitAt}
+use Rattle.primitives.specs.Internal.{clearFrom}
+use Rattle.tables.proofs.Cases.{clash}
+use Rattle.search.specs.declared.found.Found.{Found}
+use Rattle.search.specs.declared.found.Found.the-variants.{At, Nothing}
+use Rattle.search.specs.Search.{allFrom}
+use Rattle.search.proofs.Runs.{all-none, all-not}
+use Rattle.search.proofs.Lowest.{whole-all}
+use Rattle.boot.specs.declared.layout.Layout.{Layout}
+use Rattle.boot.specs.Limits.{inMap}
+use Rattle.metadata.specs.Fat.{BAD, fatEntry}
+use Rattle.metadata.specs.Marks.{markByte, marked}
+use Rattle.metadata.specs.Usable.{isFree, isUsable}
+use Rattle.metadata.specs.Internal.{firstBad, noneRefused}
+use Rattle.metadata.proofs.Stores.{bad-none, bad-step, bad-hit}
+
+-- a bit of the bitmap's part is the cluster's mark
+bit-mark : (y : Layout) (d : List ℕ) (c k i : ℕ) → i ≡ k - 2 → i < 8 * c → eqb (bitAt (take c (drop (y .bitmap) d)) i) 1 ≡ marked y d k
+unfolding bitAt marked markByte
+bit-mark y d c k i e h =
+    rw (e, getD-take c (drop (y .bitmap) d) ((k - 2) / 8) 0 (omega arith), getD-drop (y .bitmap) d ((k - 2) / 8) 0) refl
+
+-- the test of the bitmap's part
+pub marks-part : (y : Layout) (d : List ℕ) (c k n : ℕ) → 2 ≤ k → k - 2 + n ≤ 8 * c
+    → clearFrom (take c (drop (y .bitmap) d)) (k - 2) n ≡ allFrom (λ j. not (marked y d j)) k n
+unfolding clearFrom allFrom
+marks-part y d c k zero l h = refl
+marks-part y d c k (suc n) l h =
+    ap₂ _&&_ (marks-part y d c k n l (omega arith)) (ap not (bit-mark y d c (k + n) (k - 2 + n) (omega arith) (omega arith)))
+
+-- the test of the map
+pub map-all : (m : List ℕ) (k n : ℕ) → 2 ≤ k → clearFrom m (k - 2) n ≡ allFrom (λ j. not (inMap m j)) k n
+unfolding clearFrom allFrom inMap
+map-all m k zero l = refl
+map-all m k (suc n) l =
+    let q : k - 2 + n ≡ k + n - 2 = omega arith in
+    ap₂ _&&_ (map-all m k n l) (ap (λ (x : ℕ). not (eqb (bitAt m x) 1)) q)
+
+-- two tests at once
+all-and : (p q : ℕ → Bool) (k n : ℕ) → allFrom (λ j. p j && q j) k n ≡ allFrom p k n && allFrom q k n
+unfolding allFrom
+all-and p q k zero = refl
+all-and p q k (suc n) = ap (λ b. b && (p (k + n) && q (k + n))) (all-and p q k n) ∙ swap (allFrom p k n) (allFrom q k n) (p (k + n)) (q (k + n))
+  where
+    swap : (a b c e : Bool) → (a && b) && (c && e) ≡ (a && c) && (b && e)
+    swap true true c e = refl
+    swap true false true e = refl
+    swap true false false e = refl
+    swap false b c e = refl
+
+-- the search for a bad entry
+bad-nothing : (fat : ℕ → ℕ) (k n : ℕ) → firstBad fat k n ≡ Nothing → (j : ℕ) → k ≤ j → j < k + n → not (eqb (fat j) BAD) ≡ true
+bad-nothing fat k zero e j l h = absurd (omega arith)
+bad-nothing fat k (suc n) e j l h =
+    elim (ℕ-discrete (fat k) BAD) [
+      | yes b ↦ clash (cc (e, bad-hit fat k (suc n) (omega arith) b))
+      | no b ↦ elim (ℕ-discrete j k) [
+        | yes q ↦ (rw (q, ne-eqb (fat k) BAD b) refl)
+        | no q ↦ bad-nothing fat (k + 1) n (ap (firstBad fat (k + 1)) (omega arith) ∙ sym (bad-step fat k (suc n) (omega arith) b) ∙ e) j (omega arith) (omega arith)
+      ]
+    ]
+
+bad-at : (fat : ℕ → ℕ) (k n j : ℕ) → firstBad fat k n ≡ At j → (k ≤ j) × (j < k + n) × (fat j ≡ BAD)
+bad-at fat k zero j e = clash (cc (e, bad-none fat k zero (omega arith)))
+bad-at fat k (suc n) j e =
+    elim (ℕ-discrete (fat k) BAD) [
+      | yes b ↦ (let q : k ≡ j = cc (e, bad-hit fat k (suc n) (omega arith) b) in (omega arith, omega arith, ap fat (sym q) ∙ b))
+      | no b ↦ (let r = bad-at fat (k + 1) n j (ap (firstBad fat (k + 1)) (omega arith) ∙ sym (bad-step fat k (suc n) (omega arith) b) ∙ e) in
+          (omega arith, omega arith, r .2))
+    ]
+
+module _ (y : Layout) (d m : List ℕ) (k n : ℕ) where
+  -- by what the searches found
+  pub refused-bad : (j : ℕ) → firstBad (fatEntry y d) k n ≡ At j → noneRefused y d m k n ≡ false
+  unfolding noneRefused
+  refused-bad j e =
+      let r = bad-at (fatEntry y d) k n j e in
+      let q : not (eqb (fatEntry y d j) BAD) ≡ false = ap not (eq-eqb (fatEntry y d j) BAD (r .2)) in
+      rw (all-not (λ j. not (eqb (fatEntry y d j) BAD)) k n j (r .0) (r .1) q) (and-false (allFrom (λ j. not (inMap m j)) k n))
+
+  pub refused-system : allFrom (λ j. not (inMap m j)) k n ≡ false → noneRefused y d m k n ≡ false
+  unfolding noneRefused
+  refused-system e = rw e refl
+
+  pub refused-none : allFrom (λ j. not (inMap m j)) k n ≡ true → firstBad (fatEntry y d) k n ≡ Nothing → noneRefused y d m k n ≡ true
+  unfolding noneRefused
+  refused-none e f = rw e (whole-all (λ j. not (eqb (fatEntry y d j) BAD)) k n (bad-nothing (fatEntry y d) k n f))
+
+  usable-all : allFrom (isUsable y d m) k n ≡ allFrom (λ j. not (marked y d j)) k n && noneRefused y d m k n
+  unfolding isUsable isFree noneRefused
+  usable-all =
+      all-and (λ j. not (marked y d j) && not (inMap m j)) (λ j. not (eqb (fatEntry y d j) BAD)) k n
+      ∙ ap (λ b. b && allFrom (λ j. not (eqb (fatEntry y d j) BAD)) k n) (all-and (λ j. not (marked y d j)) (λ j. not (inMap m j)) k n)
+      ∙ and-assoc (allFrom (λ j. not (marked y d j)) k n) (allFrom (λ j. not (inMap m j)) k n) (allFrom (λ j. not (eqb (fatEntry y d j) BAD)) k n)
+
+  pub window-marked : allFrom (λ j. not (marked y d j)) k n ≡ false → allFrom (isUsable y d m) k n ≡ false
+  window-marked e = usable-all ∙ rw e refl
+
+  pub window-unmarked : allFrom (λ j. not (marked y d j)) k n ≡ true → allFrom (isUsable y d m) k n ≡ noneRefused y d m k n
+  window-unmarked e = usable-all ∙ rw e refl
