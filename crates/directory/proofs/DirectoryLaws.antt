@@ -1,30 +1,27 @@
--- What opens a directory: its clusters, tested one by one, and the root by the walk of its chain. Assumes nothing.
+-- What opens a directory: its clusters, and the root by the walk of its chain. Assumes nothing.
 use mathlib.Core.Path.{_≡_, refl, sym, _∙_, ap}
 use mathlib.Core.Logic.{_≢_}
-use mathlib.Core.Bool.{Bool, true, false, cond}
+use mathlib.Core.Bool.{Bool, true, false, not, cond}
 use mathlib.Core.List.{List, [], _∷_}
-use Prim.Native.Nat.{ℕ, zero, suc, _-_, _≤_, _<_}
-use native.Mathlib.Numerals.{sub-one}
+use Prim.Native.Nat.{ℕ}
 use native.Mathlib.Omega.{arith}
 use lib.ListN.{length}
-use borrow.Author.Tests.{eq-eqb, ne-eqb}
+use borrow.Author.Tests.{ne-eqb}
 use Rattle.tables.specs.Lists.{every, lastOr}
 use Rattle.boot.specs.declared.layout.Layout.{Layout}
-use Rattle.boot.specs.Layout.{inHeap, isBitmapCluster}
-use Rattle.boot.specs.Causes.{firstCause}
+use Rattle.boot.specs.Layout.{inHeap}
 use Rattle.boot.proofs.CauseLaws.{cause-skip, cause-met, cause-last}
 use Rattle.metadata.specs.Fat.{fatEntry}
 use Rattle.metadata.specs.Marks.{marked}
 use Rattle.stream.specs.declared.allocation.Allocation.{Allocation}
 use Rattle.stream.specs.declared.walk.Walked.{Walked}
-use Rattle.stream.specs.Internal.{after, along, walked}
+use Rattle.stream.specs.Internal.{along, barred, walked, walkCause}
 use Rattle.stream.specs.Chain.{Clusters, listed, refused, readChain}
 use Rattle.stream.specs.Stream.{numberOf, streamOf, checkChain, clustersOf, empty, clustersIn}
-use Rattle.stream.proofs.ChainLaws.{chain-out, stream-chain, stream-not-zero}
+use Rattle.stream.proofs.ChainLaws.{chain-out, chain-number, chain-clear, stream-chain, stream-not-zero}
 use Rattle.stream.proofs.StreamLaws.{read-chain-facts}
 use Rattle.stream.proofs.ListingLaws.{stream-read}
 use Rattle.stream.proofs.Distinct.{read-length}
-use Rattle.directory.specs.declared.directory.Directory.{Directory}
 use Rattle.directory.specs.Directory.{chainRecord, rootRecord, bitmapCause, directoryCause}
 use Rattle.directory.specs.Internal.{openRoot}
 
@@ -43,25 +40,6 @@ module _ (y : Layout) (d : List ℕ) (a : Allocation) (e : numberOf (streamOf y 
   unfolding clustersIn
   clusters-length = read-length (y .count) (fatEntry y d) (marked y d) a (clustersOf (streamOf y d a)) (stream-read y d a e)
 
--- ---- bitmap clusters along the way
-
-module _ (y : Layout) (fat : ℕ → ℕ) (run : Bool) where
-  pub bitmap-none : (k n : ℕ) → n ≤ 0 → bitmapCause y (along fat run k n) ≡ 0
-  unfolding bitmapCause along every
-  bitmap-none k zero h = refl
-  bitmap-none k (suc n) h = absurd (omega arith)
-
-  pub bitmap-hit : (k n : ℕ) → 0 < n → isBitmapCluster y k ≡ true → bitmapCause y (along fat run k n) ≡ 9
-  unfolding bitmapCause along every
-  bitmap-hit k zero h e = absurd (omega arith)
-  bitmap-hit k (suc n) h e = rw e refl
-
-  pub bitmap-step : (k n : ℕ) → 0 < n → isBitmapCluster y k ≡ false
-      → bitmapCause y (along fat run k n) ≡ bitmapCause y (along fat run (after fat run k) (n - 1))
-  unfolding bitmapCause along every
-  bitmap-step k zero h e = absurd (omega arith)
-  bitmap-step k (suc n) h e = rw (e, sub-one) refl
-
 -- ---- the root
 
 module _ (y : Layout) (d : List ℕ) (root : ℕ) where
@@ -75,120 +53,91 @@ module _ (y : Layout) (d : List ℕ) (root : ℕ) where
   unfolding streamOf
   rec-stream last count n = stream-chain (y .count) (fatEntry y d) (marked y d) (rec last count) n refl
 
-  cause-of : (a : Allocation)
-      → directoryCause y d a ≡ firstCause (numberOf (streamOf y d a) ∷ bitmapCause y (clustersOf (streamOf y d a)) ∷ [])
-  unfolding directoryCause
-  cause-of a = refl
-
   open-not : (n : ℕ) → directoryCause y d (rootRecord y d root) ≡ n → n ≢ 0 → openRoot y d root ≡ record { number = n; allocation = empty }
   unfolding openRoot
   open-not n e z = rw (e, ne-eqb n 0 z) refl
 
-  -- refused by its walk
-  open-refused : (n : ℕ) → chain ≡ refused n → n ≢ 0 → openRoot y d root ≡ record { number = n; allocation = empty }
-  open-refused n e z =
+  -- the causes of the root: its stream's, then 9
+  abbrev stream : Clusters
+  stream = streamOf y d (rootRecord y d root)
+
+  stream-cause : numberOf stream ≢ 0 → directoryCause y d (rootRecord y d root) ≡ numberOf stream
+  unfolding directoryCause
+  stream-cause z = cause-met (numberOf stream) (bitmapCause y (clustersOf stream) ∷ []) z
+
+  clusters-cause : numberOf stream ≡ 0 → directoryCause y d (rootRecord y d root) ≡ bitmapCause y (clustersOf stream)
+  unfolding directoryCause
+  clusters-cause z = cause-skip (numberOf stream) (bitmapCause y (clustersOf stream) ∷ []) z ∙ cause-last (bitmapCause y (clustersOf stream))
+
+  -- the root's stream is its chain, tested as the record says
+  root-refused : (n : ℕ) → chain ≡ refused n → stream ≡ refused n
+  root-refused n e =
       let r : rootRecord y d root ≡ rec 0 1 = unfold rootRecord in (unfold chainRecord in (rw e refl)) in
-      let s : streamOf y d (rec 0 1) ≡ refused n = rec-stream 0 1 (λ q. omega arith) ∙ ap (checkChain (marked y d) 0 1) e ∙ (unfold checkChain in refl) in
-      let q : numberOf (streamOf y d (rec 0 1)) ≡ n = ap numberOf s ∙ (unfold numberOf in refl) in
-      open-not n (ap (directoryCause y d) r ∙ cause-of (rec 0 1) ∙ cause-met (numberOf (streamOf y d (rec 0 1))) (bitmapCause y (clustersOf (streamOf y d (rec 0 1))) ∷ []) (λ t. z (sym q ∙ t)) ∙ q) z
+      ap (streamOf y d) r ∙ rec-stream 0 1 (λ q. omega arith) ∙ ap (checkChain (marked y d) 0 1) e ∙ (unfold checkChain in refl)
 
-  -- a chain that is listed
-  module _ (ks : List ℕ) (e : chain ≡ listed ks) where
-    abbrev a : Allocation
-    a = rec (lastOr 0 ks) (length ks)
-
-    root-is : rootRecord y d root ≡ a
-    unfolding rootRecord chainRecord
-    root-is = rw e refl
-
-    some : length ks ≢ 0
-    some q = omega (arith, read-chain-facts (y .count) (fatEntry y d) root ks e .1 .some)
-
-    a-stream : streamOf y d a ≡ cond (every (marked y d) ks) (listed ks) (refused 6)
-    unfolding checkChain
-    a-stream =
-        rec-stream (lastOr 0 ks) (length ks) some ∙ ap (checkChain (marked y d) (lastOr 0 ks) (length ks)) e
-        ∙ (rw (eq-eqb (length ks) (length ks) refl, eq-eqb (lastOr 0 ks) (lastOr 0 ks) refl) refl)
-
-    open-unmarked : every (marked y d) ks ≡ false → openRoot y d root ≡ record { number = 6; allocation = empty }
-    open-unmarked m =
-        let s : streamOf y d a ≡ refused 6 = a-stream ∙ (rw m refl) in
-        let q : numberOf (streamOf y d a) ≡ 6 = ap numberOf s ∙ (unfold numberOf in refl) in
-        open-not 6 (ap (directoryCause y d) root-is ∙ cause-of a ∙ cause-met (numberOf (streamOf y d a)) (bitmapCause y (clustersOf (streamOf y d a)) ∷ []) (λ t. omega arith) ∙ q) (λ t. omega arith)
-
-    marked-cause : every (marked y d) ks ≡ true → directoryCause y d (rootRecord y d root) ≡ bitmapCause y ks
-    marked-cause m =
-        let s : streamOf y d a ≡ listed ks = a-stream ∙ (rw m refl) in
-        let q : numberOf (streamOf y d a) ≡ 0 = ap numberOf s ∙ (unfold numberOf in refl) in
-        ap (directoryCause y d) root-is
-        ∙ cause-of a ∙ cause-skip (numberOf (streamOf y d a)) (bitmapCause y (clustersOf (streamOf y d a)) ∷ []) q
-        ∙ cause-last (bitmapCause y (clustersOf (streamOf y d a))) ∙ ap (λ c. bitmapCause y (clustersOf c)) s
-
-    open-done : directoryCause y d (rootRecord y d root) ≡ 0 → openRoot y d root ≡ record { number = 0; allocation = a }
-    unfolding openRoot
-    open-done q = rw (q, root-is) refl
-
-    along-is : along (fatEntry y d) false root (length ks) ≡ ks
-    along-is = sym (read-chain-facts (y .count) (fatEntry y d) root ks e .1 .goes)
-
-    heap-is : every (inHeap (y .count)) (along (fatEntry y d) false root (length ks)) ≡ true
-    heap-is = ap (every (inHeap (y .count))) along-is ∙ read-chain-facts (y .count) (fatEntry y d) root ks e .1 .heap
+  pub root-out : inHeap (y .count) root ≡ false → record { number = 2; allocation = empty } ≡ openRoot y d root
+  root-out h =
+      let n : numberOf stream ≡ 2 = ap numberOf (root-refused 2 (chain-out (y .count) (fatEntry y d) root h)) ∙ (unfold numberOf in refl) in
+      sym (open-not 2 (stream-cause (λ t. omega arith) ∙ n) (λ t. omega arith))
 
   -- ---- by what the walk answers
 
-  pub root-out : inHeap (y .count) root ≡ false → record { number = 2; allocation = empty } ≡ openRoot y d root
-  root-out h = sym (open-refused 2 (chain-out (y .count) (fatEntry y d) root h) (λ t. omega arith))
+  module _ (m : List ℕ) (w : Walked) (e : w ≡ walked (marked y d) (λ k. not (barred y m true k)) chain) (h : inHeap (y .count) root ≡ true)
+      (c : ℕ) (q : c ≡ walkCause w (w .last) (w .count)) where
+    abbrev tested : Clusters
+    tested = checkChain (marked y d) (w .last) (w .count) chain
 
-  module _ (w : Walked) (e : w ≡ walked (marked y d) chain) where
-    pub root-walk : w .number ≢ 0 → record { number = w .number; allocation = empty } ≡ openRoot y d root
-    unfolding walked
-    root-walk z = by chain refl e
+    walk-number : c ≡ numberOf tested
+    walk-number = q ∙ chain-number (y .count) (fatEntry y d) (marked y d) (λ k. not (barred y m true k)) root (w .last) (w .count) w h e
+
+    -- a chain that is listed has the record that the walk gives
+    root-is : (ks : List ℕ) → chain ≡ listed ks → (rootRecord y d root ≡ rec (w .last) (w .count)) × (stream ≡ tested)
+    root-is ks r = (same, ap (streamOf y d) same ∙ rec-stream (w .last) (w .count) (λ z. omega (arith, long, read-chain-facts (y .count) (fatEntry y d) root ks r .1 .some)))
       where
-        by : (c : Clusters) → chain ≡ c → w ≡ walked (marked y d) c → record { number = w .number; allocation = empty } ≡ openRoot y d root
-        by (listed ks) q r = absurd (z (ap (λ (v : Walked). v .number) r))
-        by (refused n) q r =
-            let t : w .number ≡ n = ap (λ (v : Walked). v .number) r in
-            sym (open-refused (w .number) (q ∙ ap refused (sym t)) z)
+        v : w ≡ walked (marked y d) (λ k. not (barred y m true k)) (listed ks)
+        v = e ∙ ap (walked (marked y d) (λ k. not (barred y m true k))) r
 
-    module _ (z : w .number ≡ 0) where
-      -- the walk of a chain that is listed
-      walk-listed : (ks : List ℕ) × ((chain ≡ listed ks) × ((w .last ≡ lastOr 0 ks) × ((w .count ≡ length ks) × (w .marked ≡ every (marked y d) ks))))
-      unfolding walked
-      walk-listed = by chain refl e
+        last : w .last ≡ lastOr 0 ks
+        last = unfold walked in (ap (λ (x : Walked). x .last) v)
+
+        long : w .count ≡ length ks
+        long = unfold walked in (ap (λ (x : Walked). x .count) v)
+
+        same : rootRecord y d root ≡ rec (w .last) (w .count)
+        same = unfold rootRecord in (unfold chainRecord in (rw (r, last, long) refl))
+
+    number-is : c ≡ numberOf stream
+    number-is = by chain refl
+      where
+        by : (x : Clusters) → chain ≡ x → c ≡ numberOf stream
+        by (listed ks) r = walk-number ∙ ap numberOf (sym (root-is ks r .1))
+        by (refused n) r =
+            let t : tested ≡ refused n = ap (checkChain (marked y d) (w .last) (w .count)) r ∙ (unfold checkChain in refl) in
+            walk-number ∙ ap numberOf (t ∙ sym (root-refused n r))
+
+    pub root-not : c ≢ 0 → record { number = c; allocation = empty } ≡ openRoot y d root
+    root-not z = sym (open-not c (stream-cause (λ t. z (number-is ∙ t)) ∙ sym number-is) z)
+
+    module _ (z : c ≡ 0) where
+      read : (rootRecord y d root ≡ rec (w .last) (w .count)) × (stream ≡ tested)
+      read = by chain refl
         where
-          not-zero : (n : ℕ) → chain ≡ refused n → n ≡ 0 → ⊥
-          not-zero n q t =
-              stream-not-zero (y .count) (fatEntry y d) (marked y d) (rec 0 1) n
-              (stream-chain (y .count) (fatEntry y d) (marked y d) (rec 0 1) (λ r. omega arith) refl ∙ ap (checkChain (marked y d) 0 1) q ∙ (unfold checkChain in refl)) t
+          by : (x : Clusters) → chain ≡ x → (rootRecord y d root ≡ rec (w .last) (w .count)) × (stream ≡ tested)
+          by (listed ks) r = root-is ks r
+          by (refused n) r =
+              absurd (stream-not-zero (y .count) (fatEntry y d) (marked y d) (rootRecord y d root) n (unfold streamOf in (root-refused n r))
+              (unfold numberOf in (ap numberOf (sym (root-refused n r)) ∙ sym number-is ∙ z)))
 
-          by : (c : Clusters) → chain ≡ c → w ≡ walked (marked y d) c
-              → (ks : List ℕ) × ((chain ≡ listed ks) × ((w .last ≡ lastOr 0 ks) × ((w .count ≡ length ks) × (w .marked ≡ every (marked y d) ks))))
-          by (listed ks) q r =
-              (ks, (q, (ap (λ (v : Walked). v .last) r, (ap (λ (v : Walked). v .count) r, ap (λ (v : Walked). v .marked) r))))
-          by (refused n) q r = absurd (not-zero n q (sym (ap (λ (v : Walked). v .number) r) ∙ z))
+      cause-is : (b : Bool) → w .clear ≡ b → directoryCause y d (rootRecord y d root) ≡ cond b 0 9
+      unfolding bitmapCause barred
+      cause-is b f =
+          clusters-cause (sym number-is ∙ z) ∙ ap (λ (x : Clusters). bitmapCause y (clustersOf x)) (read .1)
+          ∙ ap (λ (x : Bool). cond x 0 9)
+          (sym (chain-clear (y .count) (fatEntry y d) (marked y d) (λ k. not (barred y m true k)) root (w .last) (w .count) w h e (sym walk-number ∙ z)) ∙ f)
 
-      pub root-unmarked : w .marked ≡ false → record { number = 6; allocation = empty } ≡ openRoot y d root
-      root-unmarked m = let l = walk-listed in sym (open-unmarked (l .0) (l .1 .0) (sym (l .1 .1 .1 .1) ∙ m))
+      pub root-nine : w .clear ≡ false → record { number = 9; allocation = empty } ≡ openRoot y d root
+      root-nine f = sym (open-not 9 (cause-is false f) (λ t. omega arith))
 
-      pub walk-heap : every (inHeap (y .count)) (along (fatEntry y d) false root (w .count)) ≡ true
-      walk-heap =
-          let l = walk-listed in
-          ap (λ (n : ℕ). every (inHeap (y .count)) (along (fatEntry y d) false root n)) (l .1 .1 .1 .0) ∙ heap-is (l .0) (l .1 .0)
-
-      module _ (m : w .marked ≡ true) (n : ℕ) (c : n ≡ bitmapCause y (along (fatEntry y d) false root (w .count))) where
-        cause-is : directoryCause y d (rootRecord y d root) ≡ n
-        cause-is =
-            let l = walk-listed in
-            marked-cause (l .0) (l .1 .0) (sym (l .1 .1 .1 .1) ∙ m)
-            ∙ sym (c ∙ ap (λ (x : ℕ). bitmapCause y (along (fatEntry y d) false root x)) (l .1 .1 .1 .0) ∙ ap (bitmapCause y) (along-is (l .0) (l .1 .0)))
-
-        pub root-bitmap : n ≢ 0 → record { number = n; allocation = empty } ≡ openRoot y d root
-        root-bitmap t = sym (open-not n cause-is t)
-
-        pub root-done : n ≡ 0 → record { number = 0; allocation = record { first = root; last = w .last; count = w .count; «no_fat_chain» = false } } ≡ openRoot y d root
-        root-done t =
-            let l = walk-listed in
-            let p : w .last ≡ lastOr 0 (l .0) = l .1 .1 .0 in
-            let q : w .count ≡ length (l .0) = l .1 .1 .1 .0 in
-            let s : _≡_ {A = Directory} (record { number = 0; allocation = rec (w .last) (w .count) }) (record { number = 0; allocation = rec (lastOr 0 (l .0)) (length (l .0)) }) = cc in
-            s ∙ sym (open-done (l .0) (l .1 .0) (cause-is ∙ t))
+      pub root-done : w .clear ≡ true → record { number = 0; allocation = record { first = root; last = w .last; count = w .count; «no_fat_chain» = false } } ≡ openRoot y d root
+      unfolding openRoot
+      root-done f = sym (rw (cause-is true f, read .0) refl)

@@ -40,7 +40,7 @@ pub fn open_target(vol: &[u8], map: &[u8], y: Layout, root: u32, slot: u32, hint
     ensures { λ r. ⌜ r ≡ target y (now (vol .entry)) (now (map .entry)) (rootRecord y (now (vol .entry)) root) slot hint ⌝ }
 {
     if boot::layout::in_heap(y.count, hint) {
-        let dir = directory::directory::root_dir(vol, y, root);
+        let dir = directory::directory::root_dir(vol, map, y, root);
         if dir.number != 0 {
             return no_target(dir.number);
         }

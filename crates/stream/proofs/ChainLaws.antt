@@ -17,7 +17,7 @@ use Rattle.stream.specs.declared.walk.Next.the-variants.{End, More, Wron
 use Rattle.stream.specs.declared.allocation.Allocation.{Allocation}
 use Rattle.stream.specs.declared.walk.Walked.{Walked}
 use Rattle.stream.specs.Chain.{Clusters, listed, refused, nextOf, byNext, withFirst, chainFrom, readChain}
-use Rattle.stream.specs.Stream.{numberOf, runCause, readRun, checkChain, readStream}
+use Rattle.stream.specs.Stream.{numberOf, clustersOf, runCause, readRun, checkChain, readStream}
 use Rattle.stream.specs.Internal.{walked, walkCause}
 
 pub next-end : (C v : ℕ) → v ≡ END → nextOf C v ≡ End
@@ -32,73 +32,80 @@ pub next-wrong : (C v : ℕ) → (v ≡ END → ⊥) → inHeap C v ≡ false �
 unfolding nextOf
 next-wrong C v n h = rw (ne-eqb v END n, h) refl
 
--- ---- what a walk answers that has passed b clusters, all marked where f says so
+-- ---- what a walk answers that has passed b clusters, all marked where f says so, none barred where g says so
 
-abbrev pub walkAt : (ℕ → Bool) → ℕ → ℕ → Bool → Clusters → Walked
-walkAt mark z b f (listed ks) = record { number = 0; last = lastOr z ks; count = b + length ks; marked = f && every mark ks }
-walkAt mark z b f (refused n) = record { number = n; last = 0; count = 0; marked = false }
+abbrev pub walkAt : (mark free : ℕ → Bool) (z b : ℕ) (f g : Bool) → Clusters → Walked
+walkAt mark free z b f g (listed ks) =
+    record { number = 0; last = lastOr z ks; count = b + length ks; marked = f && every mark ks; clear = g && every free ks }
+walkAt mark free z b f g (refused n) = record { number = n; last = 0; count = 0; marked = false; clear = false }
 
-walk-onto : (mark : ℕ → Bool) (z b : ℕ) (f : Bool) (k : ℕ) (c : Clusters) → walkAt mark z b f (withFirst k c) ≡ walkAt mark k (b + 1) (f && mark k) c
-unfolding lastOr every
-walk-onto mark z b f k (listed ks) =
-    let e : b + suc (length ks) ≡ b + 1 + length ks = omega arith in
-    rw (e, and-assoc f (mark k) (every mark ks)) refl
-walk-onto mark z b f k (refused n) = refl
+module _ (mark free : ℕ → Bool) where
+  walk-onto : (z b : ℕ) (f g : Bool) (k : ℕ) (c : Clusters)
+      → walkAt mark free z b f g (withFirst k c) ≡ walkAt mark free k (b + 1) (f && mark k) (g && free k) c
+  unfolding lastOr every
+  walk-onto z b f g k (listed ks) =
+      let e : b + suc (length ks) ≡ b + 1 + length ks = omega arith in
+      rw (e, and-assoc f (mark k) (every mark ks), and-assoc g (free k) (every free ks)) refl
+  walk-onto z b f g k (refused n) = refl
 
--- a chain has a cluster, so what came before it does not matter
-module _ (mark : ℕ → Bool) (C : ℕ) (fat : ℕ → ℕ) (z z′ b : ℕ) (f : Bool) where
-  by-any : (x : Next) (k : ℕ) (c : Clusters) (n : ℕ)
-      → walkAt mark z b f (byNext x (listed (k ∷ [])) (withFirst k c) (refused n)) ≡ walkAt mark z′ b f (byNext x (listed (k ∷ [])) (withFirst k c) (refused n))
-  unfolding lastOr
-  by-any End k c n = refl
-  by-any More k c n = walk-onto mark z b f k c ∙ sym (walk-onto mark z′ b f k c)
-  by-any Wrong k c n = refl
+  -- a chain has a cluster, so what came before it does not matter
+  module _ (C : ℕ) (fat : ℕ → ℕ) (z z′ b : ℕ) (f g : Bool) where
+    by-any : (x : Next) (k : ℕ) (c : Clusters) (n : ℕ) → walkAt mark free z b f g (byNext x (listed (k ∷ [])) (withFirst k c) (refused n))
+        ≡ walkAt mark free z′ b f g (byNext x (listed (k ∷ [])) (withFirst k c) (refused n))
+    unfolding lastOr
+    by-any End k c n = refl
+    by-any More k c n = walk-onto z b f g k c ∙ sym (walk-onto z′ b f g k c)
+    by-any Wrong k c n = refl
 
-  by-last : (x : Next) (k m n : ℕ)
-      → walkAt mark z b f (byNext x (listed (k ∷ [])) (refused m) (refused n)) ≡ walkAt mark z′ b f (byNext x (listed (k ∷ [])) (refused m) (refused n))
-  unfolding lastOr
-  by-last End k m n = refl
-  by-last More k m n = refl
-  by-last Wrong k m n = refl
+    by-last : (x : Next) (k m n : ℕ) → walkAt mark free z b f g (byNext x (listed (k ∷ [])) (refused m) (refused n))
+        ≡ walkAt mark free z′ b f g (byNext x (listed (k ∷ [])) (refused m) (refused n))
+    unfolding lastOr
+    by-last End k m n = refl
+    by-last More k m n = refl
+    by-last Wrong k m n = refl
 
-  walk-any : (n k : ℕ) → walkAt mark z b f (chainFrom C fat n k) ≡ walkAt mark z′ b f (chainFrom C fat n k)
-  unfolding chainFrom
-  walk-any zero k = by-last (nextOf C (fat k)) k 4 3
-  walk-any (suc n) k = by-any (nextOf C (fat k)) k (chainFrom C fat n (fat k)) 3
+    walk-any : (n k : ℕ) → walkAt mark free z b f g (chainFrom C fat n k) ≡ walkAt mark free z′ b f g (chainFrom C fat n k)
+    unfolding chainFrom
+    walk-any zero k = by-last (nextOf C (fat k)) k 4 3
+    walk-any (suc n) k = by-any (nextOf C (fat k)) k (chainFrom C fat n (fat k)) 3
 
-module _ (mark : ℕ → Bool) (C : ℕ) (fat : ℕ → ℕ) (b : ℕ) (f : Bool) where
-  pub walk-end : (n k : ℕ) → nextOf C (fat k) ≡ End → walkAt mark 0 b f (chainFrom C fat n k) ≡ record { number = 0; last = k; count = b + 1; marked = f && mark k }
-  unfolding chainFrom lastOr every
-  walk-end zero k e = rw (e, and-true (mark k)) refl
-  walk-end (suc n) k e = rw (e, and-true (mark k)) refl
+  module _ (C : ℕ) (fat : ℕ → ℕ) (b : ℕ) (f g : Bool) where
+    pub walk-end : (n k : ℕ) → fat k ≡ END
+        → walkAt mark free 0 b f g (chainFrom C fat n k) ≡ record { number = 0; last = k; count = b + 1; marked = f && mark k; clear = g && free k }
+    unfolding chainFrom lastOr every
+    walk-end zero k e = rw (next-end C (fat k) e, and-true (mark k), and-true (free k)) refl
+    walk-end (suc n) k e = rw (next-end C (fat k) e, and-true (mark k), and-true (free k)) refl
 
-  pub walk-wrong : (n k : ℕ) → nextOf C (fat k) ≡ Wrong → walkAt mark 0 b f (chainFrom C fat n k) ≡ record { number = 3; last = 0; count = 0; marked = false }
-  unfolding chainFrom
-  walk-wrong zero k e = rw e refl
-  walk-wrong (suc n) k e = rw e refl
+    pub walk-wrong : (n k : ℕ) → (fat k ≡ END → ⊥) → inHeap C (fat k) ≡ false
+        → walkAt mark free 0 b f g (chainFrom C fat n k) ≡ record { number = 3; last = 0; count = 0; marked = false; clear = false }
+    unfolding chainFrom
+    walk-wrong zero k e h = rw (next-wrong C (fat k) e h) refl
+    walk-wrong (suc n) k e h = rw (next-wrong C (fat k) e h) refl
 
-  pub walk-over : (n k : ℕ) → n ≡ 0 → nextOf C (fat k) ≡ More → walkAt mark 0 b f (chainFrom C fat n k) ≡ record { number = 4; last = 0; count = 0; marked = false }
-  unfolding chainFrom
-  walk-over zero k z e = rw e refl
-  walk-over (suc n) k z e = absurd (omega arith)
+    pub walk-over : (n k : ℕ) → n ≡ 0 → (fat k ≡ END → ⊥) → inHeap C (fat k) ≡ true
+        → walkAt mark free 0 b f g (chainFrom C fat n k) ≡ record { number = 4; last = 0; count = 0; marked = false; clear = false }
+    unfolding chainFrom
+    walk-over zero k z e h = rw (next-more C (fat k) e h) refl
+    walk-over (suc n) k z e h = absurd (omega arith)
 
-  pub walk-more : (n k : ℕ) → (n ≡ 0 → ⊥) → nextOf C (fat k) ≡ More
-      → walkAt mark 0 b f (chainFrom C fat n k) ≡ walkAt mark 0 (b + 1) (f && mark k) (chainFrom C fat (n - 1) (fat k))
-  unfolding chainFrom
-  walk-more zero k z e = absurd (z refl)
-  walk-more (suc n) k z e =
-      rw (e, sub-one) (walk-onto mark 0 b f k (chainFrom C fat n (fat k)) ∙ walk-any mark C fat k 0 (b + 1) (f && mark k) n (fat k))
+    pub walk-more : (n k : ℕ) → (n ≡ 0 → ⊥) → (fat k ≡ END → ⊥) → inHeap C (fat k) ≡ true
+        → walkAt mark free 0 b f g (chainFrom C fat n k) ≡ walkAt mark free 0 (b + 1) (f && mark k) (g && free k) (chainFrom C fat (n - 1) (fat k))
+    unfolding chainFrom
+    walk-more zero k z e h = absurd (z refl)
+    walk-more (suc n) k z e h =
+        rw (next-more C (fat k) e h, sub-one)
+        (walk-onto 0 b f g k (chainFrom C fat n (fat k)) ∙ walk-any C fat k 0 (b + 1) (f && mark k) (g && free k) n (fat k))
 
--- the whole walk
-walk-all : (mark : ℕ → Bool) (c : Clusters) → walked mark c ≡ walkAt mark 0 0 true c
-unfolding walked
-walk-all mark (listed ks) = let e : 0 + length ks ≡ length ks = omega arith in rw e refl
-walk-all mark (refused n) = refl
+  -- the whole walk
+  walk-all : (c : Clusters) → walked mark free c ≡ walkAt mark free 0 0 true true c
+  unfolding walked
+  walk-all (listed ks) = let e : 0 + length ks ≡ length ks = omega arith in rw e refl
+  walk-all (refused n) = refl
 
-pub walk-start : (mark : ℕ → Bool) (C : ℕ) (fat : ℕ → ℕ) (first : ℕ) → inHeap C first ≡ true
-    → walkAt mark 0 0 true (chainFrom C fat (C - 1) first) ≡ walked mark (readChain C fat first)
-unfolding readChain
-walk-start mark C fat first h = rw h (sym (walk-all mark (chainFrom C fat (C - 1) first)))
+  pub walk-start : (C : ℕ) (fat : ℕ → ℕ) (first : ℕ) → inHeap C first ≡ true
+      → walkAt mark free 0 0 true true (chainFrom C fat (C - 1) first) ≡ walked mark free (readChain C fat first)
+  unfolding readChain
+  walk-start C fat first h = rw h (sym (walk-all (chainFrom C fat (C - 1) first)))
 
 pub chain-out : (C : ℕ) (fat : ℕ → ℕ) (first : ℕ) → inHeap C first ≡ false → readChain C fat first ≡ refused 2
 unfolding readChain
@@ -170,16 +177,28 @@ module _ (w : Walked) (last count : ℕ) where
   cause-marked b e f h i = rw (eq-eqb (w .number) 0 e, eq-eqb (w .count) count f, eq-eqb (w .last) last h, i) refl
 
 -- a refused chain has a number that is not 0
-pub chain-cause : (mark : ℕ → Bool) (last count : ℕ) (c : Clusters) → ((n : ℕ) → c ≡ refused n → n ≡ 0 → ⊥)
-    → walkCause (walked mark c) last count ≡ numberOf (checkChain mark last count c)
+chain-cause : (mark free : ℕ → Bool) (last count : ℕ) (c : Clusters) → ((n : ℕ) → c ≡ refused n → n ≡ 0 → ⊥)
+    → walkCause (walked mark free c) last count ≡ numberOf (checkChain mark last count c)
 unfolding walkCause numberOf checkChain walked
-chain-cause mark last count (listed ks) h = by (eqb (length ks) count && eqb (lastOr 0 ks) last) (every mark ks)
+chain-cause mark free last count (listed ks) h = by (eqb (length ks) count && eqb (lastOr 0 ks) last) (every mark ks)
   where
     by : (a b : Bool) → cond a (cond b 0 6) 5 ≡ numberOf (cond a (cond b (listed ks) (refused 6)) (refused 5))
     by true true = refl
     by true false = refl
     by false b = refl
-chain-cause mark last count (refused n) h = rw (ne-eqb n 0 (h n refl)) refl
+chain-cause mark free last count (refused n) h = rw (ne-eqb n 0 (h n refl)) refl
+
+check-clear : (mark free : ℕ → Bool) (last count : ℕ) (c : Clusters) → ((n : ℕ) → c ≡ refused n → n ≡ 0 → ⊥)
+    → numberOf (checkChain mark last count c) ≡ 0 → walked mark free c .clear ≡ every free (clustersOf (checkChain mark last count c))
+unfolding walked checkChain numberOf
+check-clear mark free last count (refused n) h e = absurd (h n refl e)
+check-clear mark free last count (listed ks) h e = by (eqb (length ks) count && eqb (lastOr 0 ks) last) (every mark ks) e
+  where
+    by : (p q : Bool) → numberOf (cond p (cond q (listed ks) (refused 6)) (refused 5)) ≡ 0
+        → every free ks ≡ every free (clustersOf (cond p (cond q (listed ks) (refused 6)) (refused 5)))
+    by true true r = refl
+    by true false r = absurd (omega arith)
+    by false q r = absurd (omega arith)
 
 -- ---- what a FAT value that goes on says
 
@@ -220,10 +239,25 @@ module _ (C : ℕ) (fat : ℕ → ℕ) where
   unfolding readChain
   chain-not-zero first m h e z = from-not-zero (C - 1) first m (rw h at e) z
 
-  pub chain-number : (mark : ℕ → Bool) (first last count : ℕ) (w : Walked) → inHeap C first ≡ true → w ≡ walked mark (readChain C fat first)
+  pub chain-number : (mark free : ℕ → Bool) (first last count : ℕ) (w : Walked) → inHeap C first ≡ true → w ≡ walked mark free (readChain C fat first)
       → walkCause w last count ≡ numberOf (checkChain mark last count (readChain C fat first))
-  chain-number mark first last count w h e =
-      ap (λ v. walkCause v last count) e ∙ chain-cause mark last count (readChain C fat first) (λ n q z. chain-not-zero first n h q z)
+  chain-number mark free first last count w h e =
+      ap (λ v. walkCause v last count) e ∙ chain-cause mark free last count (readChain C fat first) (λ n q z. chain-not-zero first n h q z)
+
+  -- the last cluster of a walk; and where its record does not refuse the chain, its clusters are the record's
+  pub chain-last : (mark free : ℕ → Bool) (first : ℕ) (w : Walked) → w ≡ walked mark free (readChain C fat first)
+      → w .last ≡ lastOr 0 (clustersOf (readChain C fat first))
+  chain-last mark free first w e = ap (λ (v : Walked). v .last) e ∙ by (readChain C fat first)
+    where
+      by : (c : Clusters) → walked mark free c .last ≡ lastOr 0 (clustersOf c)
+      by (listed ks) = unfold walked in refl
+      by (refused n) = unfold walked in (unfold lastOr in refl)
+
+  pub chain-clear : (mark free : ℕ → Bool) (first last count : ℕ) (w : Walked) → inHeap C first ≡ true → w ≡ walked mark free (readChain C fat first)
+      → numberOf (checkChain mark last count (readChain C fat first)) ≡ 0
+      → w .clear ≡ every free (clustersOf (checkChain mark last count (readChain C fat first)))
+  chain-clear mark free first last count w h e z =
+      ap (λ (v : Walked). v .clear) e ∙ check-clear mark free last count (readChain C fat first) (λ n q. chain-not-zero first n h q) z
 
   pub chain-out-number : (mark : ℕ → Bool) (first last count : ℕ) → inHeap C first ≡ false
       → numberOf (checkChain mark last count (readChain C fat first)) ≡ 2

@@ -6,6 +6,8 @@ use mathlib.Core.Path.{_≡_}
 use lib.Dec.{eqb}
 use lib.ListN.{length}
 use Rattle.boot.specs.declared.layout.Layout.{Layout}
+use Rattle.boot.specs.Limits.{inMap}
+use Rattle.boot.specs.Layout.{isBitmapCluster}
 use Rattle.metadata.specs.Fat.{fatEntry}
 use Rattle.stream.specs.declared.allocation.Allocation.{Allocation}
 use Rattle.stream.specs.declared.bytes.Place.{Place}
@@ -32,10 +34,15 @@ pub record Known (y : Layout) (d : List ℕ) (a : Allocation) (p : Place) : Type
   pub reaches : reached (fatEntry y d) (a .«no_fat_chain») (a .first) (p .steps) ≡ p .cluster
   pub inside : p .steps ≤ a .count - 1
 
--- what a walk of a chain answers
-unfoldable pub walked : (ℕ → Bool) → Clusters → Walked
-walked mark (listed ks) = record { number = 0; last = lastOr 0 ks; count = length ks; marked = every mark ks }
-walked mark (refused n) = record { number = n; last = 0; count = 0; marked = false }
+-- cluster k may not be in a stream (number 9): a bitmap's cluster in the root directory, a system cluster in any other stream
+unfoldable pub barred : (y : Layout) (m : List ℕ) (root : Bool) (k : ℕ) → Bool
+barred y m root k = cond root (isBitmapCluster y k) (inMap m k)
+
+-- what a walk of a chain answers, by two tests of its clusters: whether all are marked, and whether none is barred
+unfoldable pub walked : (mark free : ℕ → Bool) → Clusters → Walked
+walked mark free (listed ks) =
+    record { number = 0; last = lastOr 0 ks; count = length ks; marked = every mark ks; clear = every free ks }
+walked mark free (refused n) = record { number = n; last = 0; count = 0; marked = false; clear = false }
 
 -- the number of a walk under a record: the walk's, then 5, then 6
 unfoldable pub walkCause : (w : Walked) (last count : ℕ) → ℕ

@@ -1,7 +1,7 @@
 // Listing: the clusters of a record written to a lent list (Rust: `clusters`).
 ghost use mathlib.Core.Path.{_≡_};
 ghost use mathlib.Core.Bool.{true};
-ghost use Prim.Native.Nat.{_+_, _≤_, _<_};
+ghost use Prim.Native.Nat.{_+_, _*_, _≤_, _<_};
 ghost use lib.ListN.{length};
 ghost use Rattle.primitives.specs.Splice.{splice};
 ghost use Rattle.tables.specs.Lists.{every};
@@ -31,14 +31,14 @@ fn write_clusters(vol: &[u8], y: Layout, a: Allocation, list: &mut [u32])
 }
 
 // The same once the limits are known to hold.
-fn list_clusters(vol: &[u8], y: Layout, a: Allocation, list: &mut [u32]) -> u32
-    requires { ⌜ Laid y × (length (now vol) ≡ y .len) ⌝ }
+fn list_clusters(vol: &[u8], map: &[u8], y: Layout, a: Allocation, list: &mut [u32]) -> u32
+    requires { ⌜ Laid y × ((length (now vol) ≡ y .len) × (y .count ≤ 8 * length (now map))) ⌝ }
     ensures { λ r. ⌜ (r ≡ listedNumber y (now (vol .entry)) a (length (now (list .entry)))) × (now (list .exit) ≡ listedList y (now (vol .entry)) a (now (list .entry))) ⌝ }
 {
     if list.len() < a.count as usize {
         return 14;
     }
-    let number = crate::walk::stream_cause(vol, y, a);
+    let number = crate::walk::stream_cause(vol, map, y, a);
     if number != 0 {
         return number;
     }
@@ -54,5 +54,5 @@ pub fn clusters(vol: &[u8], map: &[u8], g: Geometry, a: Allocation, list: &mut [
     if admission.number != 0 {
         return admission.number;
     }
-    list_clusters(vol, admission.layout, a, list)
+    list_clusters(vol, map, admission.layout, a, list)
 }

@@ -1,18 +1,18 @@
 // A record's clusters walked and tested: what refuses it.
 ghost use mathlib.Core.Path.{_≡_};
-ghost use mathlib.Core.Bool.{_&&_};
-ghost use Prim.Native.Nat.{_+_, _-_, _≤_, _<_};
+ghost use mathlib.Core.Bool.{not, false};
+ghost use Prim.Native.Nat.{_+_, _-_, _*_, _≤_, _<_};
 ghost use lib.ListN.{length};
 ghost use Rattle.boot.specs.Internal.{Laid};
-ghost use Rattle.boot.specs.Layout.{inHeap};
 ghost use Rattle.metadata.specs.Fat.{fatEntry};
 ghost use Rattle.metadata.specs.Marks.{marked};
 ghost use Rattle.metadata.specs.Internal.{pastFull};
-ghost use Rattle.stream.specs.Chain.{nextOf, readChain};
-ghost use Rattle.stream.specs.Internal.{after, walked, walkCause};
+ghost use Rattle.stream.specs.Chain.{readChain};
+ghost use Rattle.stream.specs.Internal.{after, barred, walked, walkCause};
 ghost use Rattle.stream.specs.Stream.{runCause, readRun, checkChain, streamOf, numberOf};
 use crate::allocation::Allocation;
 use boot::layout::Layout;
+use primitives::bits::both;
 
 // What a FAT value says: the end of the chain, another cluster, or neither.
 pub enum Next {
@@ -21,80 +21,72 @@ pub enum Next {
     Wrong,
 }
 
-// A chain walked to its end: its last cluster, its length, and whether all its clusters are marked; or the number of the refusal.
+// A chain walked to its end: its last cluster, its length, whether all its clusters are marked, and whether none of them is barred (number 9);
+// or the number of the refusal.
 pub struct Walked {
     pub number: u32,
     pub last: u32,
     pub count: u32,
     pub marked: bool,
+    pub clear: bool,
 }
 
-fn next_of(count: u32, v: u32) -> Next
-    ensures { λ r. ⌜ r ≡ nextOf count v ⌝ }
+// Whether cluster k may not be in a stream (number 9): a bitmap's cluster in the root directory, a system cluster in any other stream.
+fn is_barred(map: &[u8], y: Layout, root: bool, k: u32) -> bool
+    requires { ⌜ (y .count ≤ 8 * length (now map)) × ((2 ≤ k) × (k < y .count + 2)) ⌝ }
+    ensures { λ r. ⌜ r ≡ barred y (now (map .entry)) root k ⌝ }
 {
-    if v == 0xFFFF_FFFF {
-        return Next::End;
+    if root {
+        return boot::layout::is_bitmap_cluster(y, k);
     }
-    if boot::layout::in_heap(count, v) {
-        return Next::More;
-    }
-    Next::Wrong
+    boot::geometry::in_map(map, k)
 }
 
-// Whether cluster k is marked as those before it were.
-fn still_marked(vol: &[u8], y: Layout, k: u32, so_far: bool) -> bool
-    requires { ⌜ Laid y × ((length (now vol) ≡ y .len) × ((2 ≤ k) × (k < y .count + 2))) ⌝ }
-    ensures { λ r. ⌜ r ≡ «so_far» && marked y (now (vol .entry)) k ⌝ }
+// A chain refused by its walk.
+fn not_walked(number: u32) -> Walked
+    ensures { λ r. ⌜ r ≡ record { number = number; last = 0; count = 0; marked = false; clear = false } ⌝ }
 {
-    if so_far {
-        return metadata::bitmap::allocated(vol, y, k);
+    Walked {
+        number: number,
+        last: 0,
+        count: 0,
+        marked: false,
+        clear: false,
     }
-    false
 }
 
-// The chain from first, a cluster of the heap (Rust: `fat_chain`).
-pub fn fat_chain(vol: &[u8], y: Layout, first: u32) -> Walked
-    requires { ⌜ Laid y × ((length (now vol) ≡ y .len) × ((2 ≤ first) × (first < y .count + 2))) ⌝ }
-    ensures { λ r. ⌜ r ≡ walked (marked y (now (vol .entry))) (readChain (y .count) (fatEntry y (now (vol .entry))) first) ⌝ }
+// The chain from first, a cluster of the heap, walked once (Rust: `fat_chain`).
+pub fn fat_chain(vol: &[u8], map: &[u8], y: Layout, root: bool, first: u32) -> Walked
+    requires { ⌜ Laid y × ((length (now vol) ≡ y .len) × ((y .count ≤ 8 * length (now map)) × ((2 ≤ first) × (first < y .count + 2)))) ⌝ }
+    ensures { λ r. ⌜ r ≡ walked (marked y (now (vol .entry))) (λ k. not (barred y (now (map .entry)) root k)) (readChain (y .count) (fatEntry y (now (vol .entry))) first) ⌝ }
 {
     let mut k = first;
     let mut before: u32 = 0;
     let mut all = true;
+    let mut clear = true;
     let mut left = y.count - 1;
     loop {
         let v = metadata::fat::fat_entry(vol, y, k);
-        all = still_marked(vol, y, k, all);
-        let next = next_of(y.count, v);
-        match next {
-            Next::End => {
-                return Walked {
-                    number: 0,
-                    last: k,
-                    count: before + 1,
-                    marked: all,
-                };
+        all = both(all, metadata::bitmap::allocated(vol, y, k));
+        clear = both(clear, !is_barred(map, y, root, k));
+        if v == 0xFFFF_FFFF {
+            return Walked {
+                number: 0,
+                last: k,
+                count: before + 1,
+                marked: all,
+                clear: clear,
+            };
+        }
+        if boot::layout::in_heap(y.count, v) {
+            if left == 0 {
+                return not_walked(4);
             }
-            Next::Wrong => {
-                return Walked {
-                    number: 3,
-                    last: 0,
-                    count: 0,
-                    marked: false,
-                };
-            }
-            Next::More => {
-                if left == 0 {
-                    return Walked {
-                        number: 4,
-                        last: 0,
-                        count: 0,
-                        marked: false,
-                    };
-                }
-                k = v;
-                before += 1;
-                left -= 1;
-            }
+            k = v;
+            before += 1;
+            left -= 1;
+        } else {
+            return not_walked(3);
         }
     }
 }
@@ -145,17 +137,17 @@ fn read_run(vol: &[u8], y: Layout, a: Allocation) -> u32
     run_cause(vol, y, a.first, a.count)
 }
 
-// The number of a walked chain under a record.
-fn chain_cause(w: Walked, a: Allocation) -> u32
-    ensures { λ r. ⌜ r ≡ walkCause w (a .last) (a .count) ⌝ }
+// The number of a walked chain that should have this last cluster and so many clusters.
+pub fn walk_cause(w: Walked, last: u32, count: u32) -> u32
+    ensures { λ r. ⌜ r ≡ walkCause w last count ⌝ }
 {
     if w.number != 0 {
         return w.number;
     }
-    if w.count != a.count {
+    if w.count != count {
         return 5;
     }
-    if w.last != a.last {
+    if w.last != last {
         return 5;
     }
     if w.marked {
@@ -165,20 +157,20 @@ fn chain_cause(w: Walked, a: Allocation) -> u32
 }
 
 // What refuses a chain: its walk, then its length and last cluster, then its marks.
-fn read_chain(vol: &[u8], y: Layout, a: Allocation) -> u32
-    requires { ⌜ Laid y × (length (now vol) ≡ y .len) ⌝ }
+fn read_chain(vol: &[u8], map: &[u8], y: Layout, a: Allocation) -> u32
+    requires { ⌜ Laid y × ((length (now vol) ≡ y .len) × (y .count ≤ 8 * length (now map))) ⌝ }
     ensures { λ r. ⌜ r ≡ numberOf (checkChain (marked y (now (vol .entry))) (a .last) (a .count) (readChain (y .count) (fatEntry y (now (vol .entry))) (a .first))) ⌝ }
 {
     if boot::layout::in_heap(y.count, a.first) {
-        let w = fat_chain(vol, y, a.first);
-        return chain_cause(w, a);
+        let w = fat_chain(vol, map, y, false, a.first);
+        return walk_cause(w, a.last, a.count);
     }
     2
 }
 
 // What refuses a record's clusters (Rust: `clusters`, and the test of it).
-pub fn stream_cause(vol: &[u8], y: Layout, a: Allocation) -> u32
-    requires { ⌜ Laid y × (length (now vol) ≡ y .len) ⌝ }
+pub fn stream_cause(vol: &[u8], map: &[u8], y: Layout, a: Allocation) -> u32
+    requires { ⌜ Laid y × ((length (now vol) ≡ y .len) × (y .count ≤ 8 * length (now map))) ⌝ }
     ensures { λ r. ⌜ r ≡ numberOf (streamOf y (now (vol .entry)) a) ⌝ }
 {
     if a.count == 0 {
@@ -187,7 +179,7 @@ pub fn stream_cause(vol: &[u8], y: Layout, a: Allocation) -> u32
     if a.no_fat_chain {
         return read_run(vol, y, a);
     }
-    read_chain(vol, y, a)
+    read_chain(vol, map, y, a)
 }
 
 // The cluster after k in a stream.

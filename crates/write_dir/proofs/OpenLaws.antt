@@ -6,7 +6,7 @@ use mathlib.Core.List.{List, [], _∷_}
 use Prim.Native.Nat.{ℕ, zero, suc, _+_, _-_, _*_, _/_, _%_, _≤_, _<_}
 use native.Mathlib.Nat.{mul-left-comm, div-add-mod', mod-lt, div-eq-of-lt}
 use native.Mathlib.Omega.{arith}
-use lib.Dec.{eqb, leb}
+use lib.Dec.{leb}
 use lib.ListN.{length, getD, take, drop, replicate}
 use borrow.Author.Tests.{eq-eqb, ne-eqb, leb-true, le-leb}
 use Rattle.primitives.specs.Splice.{splice}
@@ -24,12 +24,12 @@ use Rattle.metadata.specs.Cluster.{clusterByte}
 use Rattle.metadata.proofs.Frame.{Fits}
 use Rattle.stream.specs.declared.allocation.Allocation.{Allocation}
 use Rattle.stream.specs.declared.walk.Walked.{Walked}
-use Rattle.stream.specs.Internal.{along, reached, walked, walkCause}
+use Rattle.stream.specs.Internal.{along, reached, barred, walked, walkCause}
 use Rattle.stream.specs.Bytes.{bytesOf, bytesIn}
-use Rattle.stream.specs.Chain.{Clusters, listed, refused, readChain}
+use Rattle.stream.specs.Chain.{Clusters, listed, readChain}
 use Rattle.stream.specs.Stream.{numberOf, streamOf, checkChain, clustersOf, empty, systemCause, clustersIn}
 use Rattle.stream.proofs.StreamLaws.{length-along, along-head}
-use Rattle.stream.proofs.ChainLaws.{chain-number, stream-empty, stream-chain, stream-not-zero}
+use Rattle.stream.proofs.ChainLaws.{chain-number, chain-last, chain-clear, stream-empty, stream-chain}
 use Rattle.stream.proofs.ListingLaws.{stream-read}
 use Rattle.stream.proofs.BytesSteps.{some-left, drop-along, Sought, sought}
 use Rattle.stream.proofs.BytesLaws.{byte-of}
@@ -207,53 +207,6 @@ module _ (y : Layout) (d : List ℕ) (w : Fits y d) (dir : Allocation) (reads : 
 
 -- ---- the record of a stream
 
--- the last cluster of a walk
-walked-last : (mark : ℕ → Bool) (c : Clusters) → walked mark c .last ≡ lastOr 0 (clustersOf c)
-unfolding walked lastOr
-walked-last mark (listed ks) = refl
-walked-last mark (refused n) = refl
-
--- the clusters of a chain that its record does not refuse are the walk's, and so is the flag of any test of them
-check-flag : (mark free : ℕ → Bool) (last n : ℕ) (c : Clusters) → ((k : ℕ) → c ≡ refused k → k ≡ 0 → ⊥) → numberOf (checkChain mark last n c) ≡ 0
-    → walked free c .marked ≡ every free (clustersOf (checkChain mark last n c))
-unfolding walked checkChain numberOf
-check-flag mark free last n (refused k) h e = absurd (h k refl e)
-check-flag mark free last n (listed ks) h e = by (eqb (length ks) n && eqb (lastOr 0 ks) last) (every mark ks) e
-  where
-    by : (p q : Bool) → numberOf (cond p (cond q (listed ks) (refused 6)) (refused 5)) ≡ 0
-        → every free ks ≡ every free (clustersOf (cond p (cond q (listed ks) (refused 6)) (refused 5)))
-    by true true r = refl
-    by true false r = absurd (omega arith)
-    by false q r = absurd (omega arith)
-
-module _ (y : Layout) (d : List ℕ) (first n : ℕ) (v : Walked) (e : v ≡ walked (marked y d) (readChain (y .count) (fatEntry y d) first)) where
-  abbrev chainRec : Allocation
-  chainRec = record { first = first; last = v .last; count = n; «no_fat_chain» = false }
-
-  pub chain-last : v .last ≡ lastOr 0 (clustersOf (readChain (y .count) (fatEntry y d) first))
-  chain-last = ap (λ (x : Walked). x .last) e ∙ walked-last (marked y d) (readChain (y .count) (fatEntry y d) first)
-
-  module _ (h : inHeap (y .count) first ≡ true) (l : 1 ≤ n) where
-    chain-stream : streamOf y d chainRec ≡ checkChain (marked y d) (v .last) n (readChain (y .count) (fatEntry y d) first)
-    unfolding streamOf
-    chain-stream = stream-chain (y .count) (fatEntry y d) (marked y d) chainRec (λ z. omega arith) refl
-
-    pub chain-read : walkCause v (v .last) n ≡ numberOf (streamOf y d chainRec)
-    chain-read = chain-number (y .count) (fatEntry y d) (marked y d) first (v .last) n v h e ∙ ap numberOf (sym chain-stream)
-
-    -- 9 by the flag that the walk gives
-    pub chain-system : (m : List ℕ) (f : Bool) → numberOf (streamOf y d chainRec) ≡ 0
-        → f ≡ walked (λ k. not (inMap m k)) (readChain (y .count) (fatEntry y d) first) .marked → cond f 0 9 ≡ systemCause m (along (fatEntry y d) false first n)
-    unfolding systemCause
-    chain-system m f z q =
-        let c = readChain (y .count) (fatEntry y d) first in
-        let t : (k : ℕ) → c ≡ refused k → k ≡ 0 → ⊥ =
-        λ k r. stream-not-zero (y .count) (fatEntry y d) (marked y d) chainRec k (unfold streamOf in (chain-stream ∙ ap (checkChain (marked y d) (v .last) n) r ∙ (unfold checkChain in refl))) in
-        let b : f ≡ every (λ k. not (inMap m k)) (along (fatEntry y d) false first n) =
-        q ∙ check-flag (marked y d) (λ k. not (inMap m k)) (v .last) n c t (ap numberOf (sym chain-stream) ∙ z)
-        ∙ ap (λ (x : Clusters). every (λ k. not (inMap m k)) (clustersOf x)) (sym chain-stream) ∙ ap (every (λ k. not (inMap m k))) (stream-read y d chainRec z .goes) in
-        ap (λ (x : Bool). cond x 0 9) b
-
 -- a length takes clusters
 pub takes-none : (size len : ℕ) → 1 ≤ size → len ≡ 0 → clustersFor size len ≡ 0
 unfolding clustersFor
@@ -332,32 +285,48 @@ module _ (y : Layout) (d m : List ℕ) (a : Allocation) where
 
 -- ---- a chain opened by its walk
 
-module _ (y : Layout) (d m : List ℕ) (first n : ℕ) (v : Walked) (e : v ≡ walked (marked y d) (readChain (y .count) (fatEntry y d) first))
-    (h : inHeap (y .count) first ≡ true) (l : 1 ≤ n) (c : ℕ) (q : c ≡ walkCause v (v .last) n) where
+module _ (y : Layout) (d m : List ℕ) (first n : ℕ) (w : Walked)
+    (e : w ≡ walked (marked y d) (λ k. not (barred y m false k)) (readChain (y .count) (fatEntry y d) first)) (h : inHeap (y .count) first ≡ true) (l : 1 ≤ n)
+    (c : ℕ) (q : c ≡ walkCause w (w .last) n) where
   abbrev rec : ℕ → Allocation
   rec last = record { first = first; last = last; count = n; «no_fat_chain» = false }
 
   abbrev end : ℕ
   end = lastOr 0 (clustersOf (readChain (y .count) (fatEntry y d) first))
 
-  last-is : openedStream y d m (rec (v .last)) ≡ openedStream y d m (rec end)
-  last-is = ap (λ (x : ℕ). openedStream y d m (rec x)) (chain-last y d first n v e)
+  last-is : openedStream y d m (rec (w .last)) ≡ openedStream y d m (rec end)
+  last-is =
+      ap (λ (x : ℕ). openedStream y d m (rec x)) (chain-last (y .count) (fatEntry y d) (marked y d) (λ k. not (barred y m false k)) first w e)
+
+  chain-stream : streamOf y d (rec (w .last)) ≡ checkChain (marked y d) (w .last) n (readChain (y .count) (fatEntry y d) first)
+  unfolding streamOf
+  chain-stream = stream-chain (y .count) (fatEntry y d) (marked y d) (rec (w .last)) (λ z. omega arith) refl
+
+  chain-read : c ≡ numberOf (streamOf y d (rec (w .last)))
+  chain-read =
+      q ∙ chain-number (y .count) (fatEntry y d) (marked y d) (λ k. not (barred y m false k)) first (w .last) n w h e ∙ ap numberOf (sym chain-stream)
 
   pub chain-not : c ≢ 0 → record { number = c; allocation = empty } ≡ openedStream y d m (rec end)
-  chain-not z = stream-not y d m (rec (v .last)) c (q ∙ chain-read y d first n v e h l) z ∙ last-is
+  chain-not z = stream-not y d m (rec (w .last)) c chain-read z ∙ last-is
 
-  module _ (z : c ≡ 0) (f : Bool) (g : f ≡ walked (λ k. not (inMap m k)) (readChain (y .count) (fatEntry y d) first) .marked) where
-    reads : numberOf (streamOf y d (rec (v .last))) ≡ 0
-    reads = sym (q ∙ chain-read y d first n v e h l) ∙ z
+  module _ (z : c ≡ 0) where
+    reads : numberOf (streamOf y d (rec (w .last))) ≡ 0
+    reads = sym chain-read ∙ z
 
-    by-flag : cond f 0 9 ≡ systemCause m (along (fatEntry y d) false first n)
-    by-flag = chain-system y d first n v e h l m f reads g
+    -- 9 by the flag that the walk gives
+    by-flag : (f : Bool) → w .clear ≡ f → cond f 0 9 ≡ systemCause m (along (fatEntry y d) false first n)
+    unfolding systemCause barred
+    by-flag f b =
+        ap (λ (x : Bool). cond x 0 9)
+        (sym b
+        ∙ chain-clear (y .count) (fatEntry y d) (marked y d) (λ k. not (barred y m false k)) first (w .last) n w h e (ap numberOf (sym chain-stream) ∙ reads)
+        ∙ ap (every (λ k. not (inMap m k))) (ap clustersOf (sym chain-stream) ∙ stream-read y d (rec (w .last)) reads .goes))
 
-    pub chain-nine : f ≡ false → record { number = 9; allocation = empty } ≡ openedStream y d m (rec end)
-    chain-nine b = stream-system y d m (rec (v .last)) reads 9 (sym (cond-no f 0 9 b) ∙ by-flag) (λ t. omega arith) ∙ last-is
+    pub chain-nine : w .clear ≡ false → record { number = 9; allocation = empty } ≡ openedStream y d m (rec end)
+    chain-nine b = stream-system y d m (rec (w .last)) reads 9 (by-flag false b) (λ t. omega arith) ∙ last-is
 
-    pub chain-done : f ≡ true → record { number = 0; allocation = rec (v .last) } ≡ openedStream y d m (rec end)
-    chain-done b = stream-done y d m (rec (v .last)) reads 0 (sym (cond-yes f 0 9 b) ∙ by-flag) refl ∙ last-is
+    pub chain-done : w .clear ≡ true → record { number = 0; allocation = rec (w .last) } ≡ openedStream y d m (rec end)
+    chain-done b = stream-done y d m (rec (w .last)) reads 0 (by-flag true b) refl ∙ last-is
 
 -- ---- the bytes of a set
 

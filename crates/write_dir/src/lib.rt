@@ -1,4 +1,3 @@
 // A file opened by its slot, a set stored, and a directory that grows (from write_dir.rs).
-pub mod chain;
 pub mod open_file;
 pub mod place;

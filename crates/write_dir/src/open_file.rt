@@ -10,7 +10,6 @@ ghost use Rattle.metadata.specs.Fat.{fatEntry};
 ghost use Rattle.metadata.specs.Cluster.{clusterByte};
 ghost use Rattle.stream.specs.Chain.{readChain};
 ghost use Rattle.stream.specs.Stream.{numberOf, streamOf, clustersOf, empty};
-ghost use Rattle.stream.specs.Internal.{walkCause};
 ghost use Rattle.entry_set.specs.Sound.{wellFormed};
 ghost use Rattle.stream.specs.Bytes.{bytesIn};
 ghost use Rattle.directory.specs.Entries.{entryCount, beforeEnd, entriesAt, isSound};
@@ -20,7 +19,6 @@ ghost use Rattle.write_dir.specs.Internal.{openedStream, openFile};
 use crate::place::Spot;
 use boot::layout::Layout;
 use stream::allocation::Allocation;
-use stream::walk::Walked;
 
 // A file's record, or the number of what refuses it.
 pub struct Opened {
@@ -97,22 +95,6 @@ pub fn copy_set(vol: &[u8], y: Layout, dir: Allocation, slot: u32) -> [u8; 608]
     copy_entries(vol, y, dir, slot, n)
 }
 
-// The number of a walked chain that should have n clusters.
-fn walk_number(w: Walked, n: u32) -> u32
-    ensures { λ r. ⌜ r ≡ walkCause w (w .last) n ⌝ }
-{
-    if w.number != 0 {
-        return w.number;
-    }
-    if w.count != n {
-        return 5;
-    }
-    if w.marked {
-        return 0;
-    }
-    6
-}
-
 // A number with the empty record.
 fn not_opened(number: u32) -> Opened
     ensures { λ r. ⌜ r ≡ record { number = number; allocation = empty } ⌝ }
@@ -134,13 +116,12 @@ fn open_chain(vol: &[u8], map: &[u8], y: Layout, first: u32, n: u32) -> Opened
     requires { ⌜ Laid y × ((length (now vol) ≡ y .len) × ((y .count ≤ 8 * length (now map)) × ((inHeap (y .count) first ≡ true) × (1 ≤ n)))) ⌝ }
     ensures { λ r. ⌜ r ≡ openedStream y (now (vol .entry)) (now (map .entry)) (record { first = first; last = lastOr 0 (clustersOf (readChain (y .count) (fatEntry y (now (vol .entry))) first)); count = n; «no_fat_chain» = false }) ⌝ }
 {
-    let c = crate::chain::file_chain(vol, map, y, first);
-    let w = c.walk;
-    let number = walk_number(w, n);
+    let w = stream::walk::fat_chain(vol, map, y, false, first);
+    let number = stream::walk::walk_cause(w, w.last, n);
     if number != 0 {
         return not_opened(number);
     }
-    if c.clear {
+    if w.clear {
         let a = Allocation {
             first: first,
             last: w.last,
@@ -166,7 +147,7 @@ fn open_run(vol: &[u8], map: &[u8], y: Layout, first: u32, n: u32) -> Opened
         count: n,
         no_fat_chain: true,
     };
-    let number = stream::walk::stream_cause(vol, y, a);
+    let number = stream::walk::stream_cause(vol, map, y, a);
     if number != 0 {
         return not_opened(number);
     }

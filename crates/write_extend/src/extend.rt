@@ -30,7 +30,7 @@ fn more_cause(vol: &[u8], map: &[u8], y: Layout, a: Allocation, n: u32) -> u32
     if metadata::bitmap::free_count(vol, y) < n {
         return 7;
     }
-    let number = stream::walk::stream_cause(vol, y, a);
+    let number = stream::walk::stream_cause(vol, map, y, a);
     if number != 0 {
         return number;
     }

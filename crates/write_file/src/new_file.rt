@@ -105,7 +105,7 @@ pub fn make_in(
         return file::target::refused(admission.number, hint);
     }
     if boot::layout::in_heap(admission.layout.count, hint) {
-        let root = directory::directory::root_dir(vol, admission.layout, g.root_cluster);
+        let root = directory::directory::root_dir(vol, map, admission.layout, g.root_cluster);
         if root.number == 0 {
             return new_file_in(
                 vol,

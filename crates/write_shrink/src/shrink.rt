@@ -160,7 +160,7 @@ pub fn shrink_in(
                 hint: hint,
             };
         }
-        let number = stream::walk::stream_cause(vol, y, a);
+        let number = stream::walk::stream_cause(vol, map, y, a);
         if number != 0 {
             return Answer {
                 number: number,

@@ -16,7 +16,7 @@ list-clusters-requires : tie.Need-list-clusters-requires
 list-clusters-requires c κs =
     let i = c .before .before .before .before .before .before .before .args in
     let a = admission (i .g) (i .vol .now) (i .map .now) _ (c .before .before .before .admit .ensures) (omega arith) in
-    (a .laid, a .long)
+    (a .laid, (a .long, a .wide))
 
 same-length : tie.Need-same-length
 same-length c = search needs

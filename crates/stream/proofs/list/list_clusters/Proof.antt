@@ -19,16 +19,16 @@ returns-2 c = listed-cause _ _ _ _ _ (omega arith) (c .before .stream-cause .ens
 
 write-clusters-requires : tie.Need-write-clusters-requires
 write-clusters-requires c κs =
-    let p = c .before .before .before .before .before .before .before .pre in
+    let p = c .before .before .before .before .before .before .before .before .pre in
     let z : c .before .before .stream-cause .result ≡ 0 = omega arith in
-    (p .0, (p .1, (omega arith, along-heap _ _ _ (sym (c .before .before .stream-cause .ensures) ∙ z))))
+    (p .0, (p .1 .0, (omega arith, along-heap _ _ _ (sym (c .before .before .stream-cause .ensures) ∙ z))))
 
 same-length : tie.Need-same-length
 same-length c = search needs
 
 returns-3 : tie.Need-returns-3
 returns-3 c =
-    let a = c .before .before .before .before .before .before .before .before .before .before .args in
+    let a = c .before .before .before .before .before .before .before .before .before .before .before .args in
     let r = c .before .before .before .before .before .stream-cause in
     let d = listed-done (a .y) (a .vol .now) (a .a) (a .list .now) (r .result) (omega arith) (r .ensures) (omega arith) in
     (d .0, (cc) ∙ d .1)

@@ -1,59 +1,60 @@
 use Prim.Native.Nat.{_+_, _≤_, _<_}
-use mathlib.Core.Path.{_≡_, sym, _∙_, refl}
+use mathlib.Core.Bool.{not}
+use mathlib.Core.Path.{_≡_, sym, _∙_}
 use native.Mathlib.Omega.{arith}
 use borrow.Author.Needs.{needs}
 use Rattle.boot.proofs.Apart.{in-heap, heap-in}
 use Rattle.metadata.specs.Fat.{fatEntry}
 use Rattle.metadata.specs.Marks.{marked}
 use Rattle.stream.specs.Chain.{chainFrom, readChain}
-use Rattle.stream.specs.Internal.{walked}
-use Rattle.stream.proofs.ChainLaws.{walkAt, walk-end, walk-wrong, walk-over, walk-more, walk-start, more-in}
+use Rattle.stream.specs.Internal.{barred, walked}
+use Rattle.stream.proofs.ChainLaws.{walkAt, walk-end, walk-wrong, walk-over, walk-more, walk-start}
 use Rattle.stream.proofs.walk.fat_chain.Statement.{statement}
 use Rattle.stream.proofs.walk.fat_chain.Tie as tie
 
 abbrev Inv-loop : tie.InvT-loop
-Inv-loop vol y first k₀ before₀ all₀ left₀ k before all left = (2 ≤ k) × ((k < y .count + 2) × ((before + left < y .count) × (walkAt (marked y vol) 0 before all (chainFrom (y .count) (fatEntry y vol) left k) ≡ walked (marked y vol) (readChain (y .count) (fatEntry y vol) first))))
+Inv-loop vol map y root first k₀ before₀ all₀ clear₀ left₀ k before all clear left = (2 ≤ k) × ((k < y .count + 2) × ((before + left < y .count) × (walkAt (marked y vol) (λ j. not (barred y map root j)) 0 before all clear (chainFrom (y .count) (fatEntry y vol) left k) ≡ walked (marked y vol) (λ j. not (barred y map root j)) (readChain (y .count) (fatEntry y vol) first))))
 
 abbrev μ-loop : tie.MeasureT-loop
-μ-loop vol y first k₀ before₀ all₀ left₀ k before all left = left
+μ-loop vol map y root first k₀ before₀ all₀ clear₀ left₀ k before all clear left = left
 
 sub-left : tie.Need-sub-left Inv-loop μ-loop
 sub-left c = search needs
 
 loop-holds : tie.Need-loop-holds Inv-loop μ-loop
-loop-holds c = (omega arith, (omega arith, (omega arith, walk-start _ _ _ _ (heap-in _ _ (omega arith) (omega arith)))))
+loop-holds c = (omega arith, (omega arith, (omega arith, walk-start _ _ _ _ _ (heap-in _ _ (omega arith) (omega arith)))))
 
 fat-entry-requires : tie.Need-fat-entry-requires Inv-loop μ-loop
 fat-entry-requires c κs = search needs
 
-still-marked-requires : tie.Need-still-marked-requires Inv-loop μ-loop
-still-marked-requires c κs = search needs
+allocated-requires : tie.Need-allocated-requires Inv-loop μ-loop
+allocated-requires c κs = search needs
 
-next-of-requires : tie.Need-next-of-requires Inv-loop μ-loop
-next-of-requires c κs = search needs
+both-requires : tie.Need-both-requires Inv-loop μ-loop
+both-requires c κs = search needs
 
-enum-told : tie.Need-enum-told Inv-loop μ-loop
-enum-told c = search needs
+is-barred-requires : tie.Need-is-barred-requires Inv-loop μ-loop
+is-barred-requires c κs = search needs
 
-add-t10 : tie.Need-add-t10 Inv-loop μ-loop
-add-t10 c = omega arith
+both-requires-2 : tie.Need-both-requires-2 Inv-loop μ-loop
+both-requires-2 c κs = search needs
+
+add-t14 : tie.Need-add-t14 Inv-loop μ-loop
+add-t14 c = omega arith
 
 returns : tie.Need-returns Inv-loop μ-loop
-returns c =
-    let i = c .before .before .before .before .before .loop .inv .1 .1 .1 in
-    (cc) ∙ (sym (walk-end _ _ _ _ _ _ _ (cc)) ∙ i)
+returns c = (cc) ∙ (sym (walk-end _ _ _ _ _ _ _ _ _ (cc)) ∙ c .before .before .before .before .before .before .loop .inv .1 .1 .1)
 
-enum-told-2 : tie.Need-enum-told-2 Inv-loop μ-loop
-enum-told-2 c = search needs
+in-heap-requires : tie.Need-in-heap-requires Inv-loop μ-loop
+in-heap-requires c κs = search needs
+
+not-walked-requires : tie.Need-not-walked-requires Inv-loop μ-loop
+not-walked-requires c κs = search needs
 
 returns-2 : tie.Need-returns-2 Inv-loop μ-loop
-returns-2 c = sym (walk-wrong _ _ _ _ _ _ _ (cc)) ∙ c .before .before .before .before .before .loop .inv .1 .1 .1
-
-enum-told-3 : tie.Need-enum-told-3 Inv-loop μ-loop
-enum-told-3 c = search needs
-
-returns-3 : tie.Need-returns-3 Inv-loop μ-loop
-returns-3 c = sym (walk-over _ _ _ _ _ _ _ (omega arith) (cc)) ∙ c .before .before .before .before .before .before .loop .inv .1 .1 .1
+returns-2 c =
+    c .not-walked .ensures
+    ∙ (sym (walk-over _ _ _ _ _ _ _ _ _ (omega arith) (λ z. omega arith) (cc)) ∙ c .before .before .before .before .before .before .before .before .before .before .loop .inv .1 .1 .1)
 
 add-before : tie.Need-add-before Inv-loop μ-loop
 add-before c = omega arith
@@ -66,11 +67,18 @@ loop-less c = omega arith
 
 loop-again : tie.Need-loop-again Inv-loop μ-loop
 loop-again c =
-    let y = c .before .before .before .before .before .before .before .before .before .args .y in
-    let v = c .before .before .before .before .before .fat-entry .result in
-    let h = in-heap (y .count) v (more-in (y .count) v (cc)) in
-    let i = c .before .before .before .before .before .before .loop .inv .1 .1 .1 in
-    (h .0, (h .1, (omega arith, (cc) ∙ (sym (walk-more _ _ _ _ _ _ _ (λ z. omega arith) (cc)) ∙ i))))
+    let v = c .before .before .before .before .before .before .before .before .fat-entry .result in
+    let h = in-heap (c .before .before .before .before .before .before .before .before .before .before .before .before .before .args .y .count) v (cc) in
+    let i = c .before .before .before .before .before .before .before .before .before .loop .inv .1 .1 .1 in
+    (h .0, (h .1, (omega arith, (cc) ∙ (sym (walk-more _ _ _ _ _ _ _ _ _ (λ z. omega arith) (λ z. omega arith) (cc)) ∙ i))))
+
+not-walked-requires-2 : tie.Need-not-walked-requires-2 Inv-loop μ-loop
+not-walked-requires-2 c κs = search needs
+
+returns-3 : tie.Need-returns-3 Inv-loop μ-loop
+returns-3 c =
+    c .not-walked2 .ensures
+    ∙ (sym (walk-wrong _ _ _ _ _ _ _ _ _ (λ z. omega arith) (cc)) ∙ c .before .before .before .before .before .before .before .before .before .loop .inv .1 .1 .1)
 
 pub fat-chain-spec : {M : Type 1} → statement M
 fat-chain-spec =
@@ -81,16 +89,18 @@ fat-chain-spec =
     sub-left
     loop-holds
     fat-entry-requires
-    still-marked-requires
-    next-of-requires
-    enum-told
-    add-t10
+    allocated-requires
+    both-requires
+    is-barred-requires
+    both-requires-2
+    add-t14
     returns
-    enum-told-2
+    in-heap-requires
+    not-walked-requires
     returns-2
-    enum-told-3
-    returns-3
     add-before
     sub-left-2
     loop-less
-    loop-again)
+    loop-again
+    not-walked-requires-2
+    returns-3)

@@ -14,15 +14,15 @@ fat-chain-requires c κs =
     let h = in-heap _ _ (sym (c .before .in-heap .ensures) ∙ c .if1 .taken) in
     search needs
 
-chain-cause-requires : tie.Need-chain-cause-requires
-chain-cause-requires c κs = search needs
+walk-cause-requires : tie.Need-walk-cause-requires
+walk-cause-requires c κs = search needs
 
 returns : tie.Need-returns
-returns c = (cc) ∙ chain-number _ _ _ _ _ _ _ (sym (c .before .before .before .in-heap .ensures) ∙ c .before .before .if1 .taken) (c .before .fat-chain .ensures)
+returns c = (cc) ∙ chain-number _ _ _ _ _ _ _ _ (sym (c .before .before .before .in-heap .ensures) ∙ c .before .before .if1 .taken) (c .before .fat-chain .ensures)
 
 returns-2 : tie.Need-returns-2
 returns-2 c = sym (chain-out-number _ _ _ _ _ _ (cc))
 
 pub read-chain-spec : {M : Type 1} → statement M
 read-chain-spec =
-    tie.close (tie.spec in-heap-requires fat-chain-requires chain-cause-requires returns returns-2)
+    tie.close (tie.spec in-heap-requires fat-chain-requires walk-cause-requires returns returns-2)

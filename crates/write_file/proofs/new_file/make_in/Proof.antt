@@ -25,7 +25,7 @@ root-dir-requires : tie.Need-root-dir-requires
 root-dir-requires c κs =
     let i = c .before .before .before .before .before .before .before .before .before .args in
     let a = admission (i .g) (i .vol .now) (i .map .now) _ (c .before .before .before .before .before .admit .ensures) (omega arith) in
-    (a .laid, a .long)
+    (a .laid, (a .long, a .wide))
 
 new-file-in-requires : tie.Need-new-file-in-requires
 new-file-in-requires c κs =

@@ -2,8 +2,8 @@ use mathlib.Core.Bool.{true, false}
 use mathlib.Core.Path.{sym, _∙_}
 use native.Mathlib.Omega.{arith}
 use Rattle.stream.proofs.ChainLaws.{cause-walk, cause-count, cause-last, cause-marked}
-use Rattle.stream.proofs.walk.chain_cause.Statement.{statement}
-use Rattle.stream.proofs.walk.chain_cause.Tie as tie
+use Rattle.stream.proofs.walk.walk_cause.Statement.{statement}
+use Rattle.stream.proofs.walk.walk_cause.Tie as tie
 
 returns : tie.Need-returns
 returns c = sym (cause-walk _ _ _ (λ z. omega arith))
@@ -20,5 +20,5 @@ returns-4 c = sym (cause-marked _ _ _ true (omega arith) (omega arith) (omega ar
 returns-5 : tie.Need-returns-5
 returns-5 c = sym (cause-marked _ _ _ false (omega arith) (omega arith) (omega arith) (cc))
 
-pub chain-cause-spec : {M : Type 1} → statement M
-chain-cause-spec = tie.close (tie.spec returns returns-2 returns-3 returns-4 returns-5)
+pub walk-cause-spec : {M : Type 1} → statement M
+walk-cause-spec = tie.close (tie.spec returns returns-2 returns-3 returns-4 returns-5)
