@@ -2,7 +2,7 @@
 use mathlib.Core.Path.{_≡_, refl, sym, _∙_, ap, ap₂}
 use mathlib.Core.Bool.{Bool, true, cond}
 use mathlib.Core.List.{List, [], _∷_, _++_, append-assoc, append-nil}
-use Prim.Native.Nat.{ℕ, zero, suc, _+_, _-_, _*_, _/_, _%_, _≤_, _<_}
+use Prim.Native.Nat.{ℕ, zero, suc, _+_, _-_, _*_, _/_, _%_, _≤_, _<_, min}
 use native.Mathlib.Decide.{decLe}
 use native.Mathlib.Nat.{sub-zero, zero-sub, suc-mul, add-mul, mul-le-mul-right, div-add-mod', mod-lt}
 use native.Mathlib.Numerals.{sub-one}
@@ -219,7 +219,7 @@ left-less : (n s p m : ℕ) → p + m ≤ n * s → s - p < m → m - (s - p) �
 left-less zero s p m h b = absurd (omega arith)
 left-less (suc n) s p m h b = rw sub-one (omega (arith, suc-mul n s))
 
-pub left-after : (n s p m r : ℕ) → p < s → p + m ≤ n * s → r ≡ s - p - (s - p - m) → 0 + (m - r) ≤ (n - 1) * s
+pub left-after : (n s p m r : ℕ) → p < s → p + m ≤ n * s → r ≡ min (s - p) m → 0 + (m - r) ≤ (n - 1) * s
 left-after n s p m r i h e =
     elim (decLe m (s - p)) [
       | yes b ↦ omega arith

@@ -1,7 +1,7 @@
 // The bytes of a stream: a part of them read, stored, or filled with zeros. Each cluster is gone through once.
 ghost use mathlib.Core.Path.{_≡_};
 ghost use mathlib.Core.Bool.{true, false};
-ghost use Prim.Native.Nat.{_+_, _-_, _*_, _≤_, _<_};
+ghost use Prim.Native.Nat.{_+_, _*_, _≤_, _<_, min};
 ghost use lib.ListN.{length, take, drop, replicate};
 ghost use Rattle.primitives.specs.Splice.{splice};
 ghost use Rattle.tables.specs.Lists.{every};
@@ -22,7 +22,7 @@ pub struct Place {
 
 // The lesser of two numbers.
 fn lesser(a: usize, b: usize) -> usize
-    ensures { λ r. ⌜ r ≡ a - (a - b) ⌝ }
+    ensures { λ r. ⌜ r ≡ min a b ⌝ }
 {
     if a < b {
         return a;
@@ -67,9 +67,9 @@ pub fn put_piece(vol: &mut [u8], y: Layout, k: u32, at: usize, src: &[u8], from:
     primitives::slices::copy_in(vol, start + at, src, from, n);
 }
 
-// Stores n zeros in cluster k, from its byte `at` on.
+// Stores n zeros in cluster k, from its byte `at` on, and past its end in those that follow it in the heap.
 pub fn put_zeros(vol: &mut [u8], y: Layout, k: u32, at: usize, n: usize)
-    requires { ⌜ Laid y × ((length (now vol) ≡ y .len) × ((2 ≤ k) × ((k < y .count + 2) × (at + n ≤ y .size)))) ⌝ }
+    requires { ⌜ Laid y × ((length (now vol) ≡ y .len) × ((2 ≤ k) × ((k < y .count + 2) × (clusterAt y k + at + n ≤ y .len)))) ⌝ }
     ensures { λ _. ⌜ now (vol .exit) ≡ putBytes y (now (vol .entry)) k at (replicate n 0) ⌝ }
 {
     let start = boot::layout::cluster_offset(y, k);
@@ -91,6 +91,7 @@ fn store_chain(vol: &mut [u8], y: Layout, first: u32, count: u32, at: usize, src
     ensures { λ _. ⌜ now (vol .exit) ≡ storeAt y (now (vol .entry)) (along (fatEntry y (now (vol .entry))) false first count) at (now (src .entry)) ⌝ }
 {
     let mut k = first;
+    // The clusters from k on: only the proof needs their number.
     let mut left = count;
     let mut place = at;
     let mut from: usize = 0;
@@ -122,23 +123,39 @@ fn store_from(vol: &mut [u8], y: Layout, run: bool, first: u32, count: u32, at: 
     }
 }
 
-// Fills n bytes of count clusters with zeros, from byte `at` of the first one on.
-fn fill_from(vol: &mut [u8], y: Layout, run: bool, first: u32, count: u32, at: usize, n: usize)
-    requires { ⌜ Laid y × ((length (now vol) ≡ y .len) × ((every (inHeap (y .count)) (along (fatEntry y (now vol)) run first count) ≡ true) × ((at < y .size) × ((at + n ≤ count * y .size) × Apart y)))) ⌝ }
-    ensures { λ _. ⌜ now (vol .exit) ≡ storeAt y (now (vol .entry)) (along (fatEntry y (now (vol .entry))) run first count) at (replicate n 0) ⌝ }
+// Fills n bytes of count clusters of a chain with zeros, from byte `at` of the first one on.
+fn fill_chain(vol: &mut [u8], y: Layout, first: u32, count: u32, at: usize, n: usize)
+    requires { ⌜ Laid y × ((length (now vol) ≡ y .len) × ((every (inHeap (y .count)) (along (fatEntry y (now vol)) false first count) ≡ true) × ((at < y .size) × ((at + n ≤ count * y .size) × Apart y)))) ⌝ }
+    ensures { λ _. ⌜ now (vol .exit) ≡ storeAt y (now (vol .entry)) (along (fatEntry y (now (vol .entry))) false first count) at (replicate n 0) ⌝ }
 {
     let mut k = first;
+    // The clusters from k on: only the proof needs their number.
     let mut left = count;
     let mut place = at;
     let mut more = n;
     while 0 < more {
         let m = lesser(y.size - place, more);
-        let next = crate::walk::next_cluster(vol, y, run, k);
+        let next = crate::walk::next_cluster(vol, y, false, k);
         put_zeros(vol, y, k, place, m);
         k = next;
         left -= 1;
         place = 0;
         more -= m;
+    }
+}
+
+// Fills n bytes of count clusters with zeros, from byte `at` of the first one on. A run's clusters are one piece of the volume, and take one fill.
+fn fill_from(vol: &mut [u8], y: Layout, run: bool, first: u32, count: u32, at: usize, n: usize)
+    requires { ⌜ Laid y × ((length (now vol) ≡ y .len) × ((every (inHeap (y .count)) (along (fatEntry y (now vol)) run first count) ≡ true) × ((at < y .size) × ((at + n ≤ count * y .size) × Apart y)))) ⌝ }
+    ensures { λ _. ⌜ now (vol .exit) ≡ storeAt y (now (vol .entry)) (along (fatEntry y (now (vol .entry))) run first count) at (replicate n 0) ⌝ }
+{
+    if n == 0 {
+        return;
+    }
+    if run {
+        put_zeros(vol, y, first, at, n);
+    } else {
+        fill_chain(vol, y, first, count, at, n);
     }
 }
 
@@ -158,6 +175,7 @@ fn read_from(
     ensures { λ _. ⌜ now (dst .exit) ≡ splice (now (dst .entry)) to (take n (drop at (bytesOf y (now (vol .entry)) (along (fatEntry y (now (vol .entry))) run first count)))) ⌝ }
 {
     let mut k = first;
+    // The clusters from k on: only the proof needs their number.
     let mut left = count;
     let mut place = at;
     let mut put = to;

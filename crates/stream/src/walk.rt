@@ -1,7 +1,7 @@
 // A record's clusters walked and tested: what refuses it.
 ghost use mathlib.Core.Path.{_≡_};
 ghost use mathlib.Core.Bool.{not, false};
-ghost use Prim.Native.Nat.{_+_, _-_, _*_, _≤_, _<_};
+ghost use Prim.Native.Nat.{_+_, _-_, _*_, _≤_, _<_, min};
 ghost use lib.ListN.{length};
 ghost use Rattle.boot.specs.Internal.{Laid};
 ghost use Rattle.metadata.specs.Fat.{fatEntry};
@@ -94,7 +94,7 @@ pub fn fat_chain(vol: &[u8], map: &[u8], y: Layout, root: bool, first: u32) -> W
 // The first of the clusters from k on, so many being left, that is outside the heap or not in a byte of marks alone.
 fn past_marked(vol: &[u8], y: Layout, k: u32, left: u32) -> u32
     requires { ⌜ Laid y × ((length (now vol) ≡ y .len) × ((2 ≤ k) × (k ≤ y .count + 2))) ⌝ }
-    ensures { λ r. ⌜ (r ≡ pastFull y (now (vol .entry)) k (left - (left - (y .count + 2 - k)))) × ((k ≤ r) × (r ≤ k + (left - (left - (y .count + 2 - k))))) ⌝ }
+    ensures { λ r. ⌜ (r ≡ pastFull y (now (vol .entry)) k (min left (y .count + 2 - k))) × ((k ≤ r) × (r ≤ k + min left (y .count + 2 - k))) ⌝ }
 {
     let room = y.count + 2 - k;
     if left < room {

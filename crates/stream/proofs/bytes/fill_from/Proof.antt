@@ -1,117 +1,68 @@
-use Prim.Native.Nat.{ℕ, _+_, _-_, _*_, _≤_, _<_}
-use mathlib.Core.Path.{_≡_, refl, sym, _∙_, ap}
-use mathlib.Core.Bool.{true}
+use Prim.Native.Nat.{ℕ}
+use mathlib.Core.Path.{sym, _∙_, ap}
+use mathlib.Core.Bool.{Bool}
 use native.Mathlib.Omega.{arith}
 use borrow.Author.Needs.{needs}
-use lib.ListN.{length, replicate, length-replicate}
+use lib.ListN.{replicate, length-replicate}
 use Rattle.tables.specs.Lists.{every}
 use Rattle.boot.specs.Layout.{inHeap}
-use Rattle.boot.proofs.Apart.{in-heap}
 use Rattle.metadata.specs.Fat.{fatEntry}
-use Rattle.metadata.specs.Cluster.{putBytes}
 use Rattle.metadata.proofs.Frame.{Fits}
 use Rattle.stream.specs.Internal.{along}
 use Rattle.stream.specs.Bytes.{storeAt}
-use Rattle.stream.proofs.StreamLaws.{along-head}
-use Rattle.stream.proofs.BytesSteps.{some-left, left-after, store-next, store-empty, take-zeros, drop-zeros}
+use Rattle.stream.proofs.BytesSteps.{store-empty}
+use Rattle.stream.proofs.RowLaws.{run-first, run-inside, store-run}
 use Rattle.stream.proofs.bytes.fill_from.Statement.{statement}
 use Rattle.stream.proofs.bytes.fill_from.Tie as tie
 
-abbrev Inv-loop : tie.InvT-loop
-Inv-loop vol₀ y run first count at n k₀ left₀ place₀ more₀ vol k left place more = (length vol ≡ length vol₀) × ((place < y .size) × ((place + more ≤ left * y .size) × ((every (inHeap (y .count)) (along (fatEntry y vol) run k left) ≡ true) × (storeAt y vol (along (fatEntry y vol) run k left) place (replicate more 0) ≡ storeAt y vol₀ (along (fatEntry y vol₀) run first count) at (replicate n 0)))))
+returns : tie.Need-returns
+returns c = sym (store-empty _ _ _ _ _ (omega (arith, length-replicate {A = ℕ} (c .before .before .args .n) 0)))
 
-abbrev μ-loop : tie.MeasureT-loop
-μ-loop vol₀ y run first count at n k₀ left₀ place₀ more₀ vol k left place more = more
-
-loop-holds : tie.Need-loop-holds Inv-loop μ-loop
-loop-holds c = let p = c .before .pre in (refl, (p .1 .1 .1 .0, (p .1 .1 .1 .1 .0, (p .1 .1 .0, refl))))
-
-sub-lesser : tie.Need-sub-lesser Inv-loop μ-loop
-sub-lesser c = search needs
-
-lesser-requires : tie.Need-lesser-requires Inv-loop μ-loop
-lesser-requires c κs = search needs
-
-next-cluster-requires : tie.Need-next-cluster-requires Inv-loop μ-loop
-next-cluster-requires c κs =
-    let p = c .before .before .before .before .before .before .pre in
-    let a = c .before .before .before .before .before .before .args in
-    let l = c .before .before .before .before .loop in
-    let n = some-left (l .left) (a .y .size) (l .place) (l .more) (l .inv .1 .1 .0) (omega arith) in
-    let h = in-heap _ _ (along-head _ _ _ _ _ n (l .inv .1 .1 .1 .0)) in
-    (p .0, (l .inv .0 ∙ p .1 .0, omega arith))
-
-put-zeros-requires : tie.Need-put-zeros-requires Inv-loop μ-loop
+put-zeros-requires : tie.Need-put-zeros-requires
 put-zeros-requires c κs =
-    let p = c .before .before .before .before .before .before .before .before .pre in
-    let a = c .before .before .before .before .before .before .before .before .args in
-    let l = c .before .before .before .before .before .before .loop in
-    let r = c .before .before .before .lesser .ensures in
-    let n = some-left (l .left) (a .y .size) (l .place) (l .more) (l .inv .1 .1 .0) (omega arith) in
-    let h = in-heap _ _ (along-head _ _ _ _ _ n (l .inv .1 .1 .1 .0)) in
-    (p .0, (l .inv .0 ∙ p .1 .0, (omega arith, (omega arith, omega arith))))
+    let p = c .before .before .before .before .pre in
+    let a = c .before .before .before .before .args in
+    let w : Fits (a .y) (a .vol .now) = record { laid = p .0; apart = p .1 .1 .1 .1 .1; long = p .1 .0 } in
+    let r = c .before .if2 .taken in
+    let f = run-first (a .y) (a .vol .now) w (a .run) r (a .first) (a .count) (p .1 .1 .0) (a .at) (a .n) (p .1 .1 .1 .0) (omega arith) (p .1 .1 .1 .1 .0) in
+    (p .0, (p .1 .0, (f .0, (f .1, run-inside (a .y) (a .vol .now) w (a .run) r (a .first) (a .count) (p .1 .1 .0) (a .at) (a .n) (p .1 .1 .1 .0) (omega arith) (p .1 .1 .1 .1 .0)))))
 
-sub-left : tie.Need-sub-left Inv-loop μ-loop
-sub-left c =
-    let a = c .before .before .before .before .before .before .before .before .before .before .before .args in
-    let l = c .before .before .before .before .before .before .before .before .before .loop in
-    some-left (l .left) (a .y .size) (l .place) (l .more) (l .inv .1 .1 .0) (omega arith)
+fill-chain-requires : tie.Need-fill-chain-requires
+fill-chain-requires c κs =
+    let p = c .before .before .before .before .pre in
+    let a = c .before .before .before .before .args in
+    let r = c .before .if2 .left in
+    (p .0, (p .1 .0, (ap (λ (b : Bool). every (inHeap (a .y .count)) (along (fatEntry (a .y) (a .vol .now)) b (a .first) (a .count))) (sym r) ∙ p .1 .1 .0, p .1 .1 .1)))
 
-sub-more : tie.Need-sub-more Inv-loop μ-loop
-sub-more c = search needs
-
-loop-less : tie.Need-loop-less Inv-loop μ-loop
-loop-less c = search needs
-
-loop-again : tie.Need-loop-again Inv-loop μ-loop
-loop-again c =
-    let p = c .before .before .before .before .before .before .before .before .before .before .before .pre in
-    let a = c .before .before .before .before .before .before .before .before .before .before .before .args in
-    let l = c .before .before .before .before .before .before .before .before .before .loop in
-    let r = c .before .before .before .before .before .before .lesser in
-    let z = c .before .before .put-zeros in
-    let q = c .before .before .before .before .next-cluster in
-    let n = some-left (l .left) (a .y .size) (l .place) (l .more) (l .inv .1 .1 .0) (omega arith) in
-    let w : Fits (a .y) (l .vol) = record { laid = p .0; apart = p .1 .1 .1 .1 .1; long = l .inv .0 ∙ p .1 .0 } in
-    let t =
-    store-next (a .y) (l .vol) w (a .run) (l .k) (l .left) n (l .inv .1 .1 .1 .0) (l .place) (l .inv .1 .0) (replicate (l .more) 0)
-    (z .last .0) (r .result) (q .result) (omega (arith, r .ensures, length-replicate {A = ℕ} (l .more) 0))
-    (z .ensures ∙ ap (putBytes (a .y) (l .vol) (l .k) (l .place)) (sym (take-zeros (r .result) (l .more) (omega arith)))) (q .ensures) in (
-      z .kept .0 ∙ l .inv .0,
-      (
-        omega arith,
-        (
-          left-after (l .left) (a .y .size) (l .place) (l .more) (r .result) (l .inv .1 .0) (l .inv .1 .1 .0) (r .ensures),
-          (
-            t .0,
-            ap (storeAt (a .y) (z .last .0) _ 0) (sym (drop-zeros (r .result) (l .more) (omega arith))) ∙ t .1 ∙ l .inv .1 .1 .1 .1,
-          ),
-        ),
-      ),
-    )
-
-same-length : tie.Need-same-length Inv-loop μ-loop
+same-length : tie.Need-same-length
 same-length c = search needs
 
-returns : tie.Need-returns Inv-loop μ-loop
-returns c =
-    let l = c .before .loop in
-    sym (store-empty _ _ _ _ _ (omega (arith, length-replicate {A = ℕ} (l .more) 0))) ∙ l .inv .1 .1 .1 .1
+returns-2 : tie.Need-returns-2
+returns-2 c =
+    let p = c .before .before .before .before .before .before .before .pre in
+    let a = c .before .before .before .before .before .before .before .args in
+    let w : Fits (a .y) (a .vol .now) = record { laid = p .0; apart = p .1 .1 .1 .1 .1; long = p .1 .0 } in
+    let r = c .before .before .before .before .if2 .taken in
+    c .before .before .put-zeros .ensures
+    ∙ sym (store-run (a .y) (a .vol .now) w (a .run) r (a .first) (a .count) (p .1 .1 .0) (a .at) (a .n) (p .1 .1 .1 .0) (omega arith) (p .1 .1 .1 .1 .0) (replicate (a .n) 0) (length-replicate {A = ℕ} (a .n) 0))
+
+same-length-2 : tie.Need-same-length-2
+same-length-2 c = search needs
+
+returns-3 : tie.Need-returns-3
+returns-3 c =
+    let a = c .before .before .before .before .before .before .before .args in
+    let r = c .before .before .before .before .if2 .left in
+    c .before .before .fill-chain .ensures ∙ ap (λ (b : Bool). storeAt (a .y) (a .vol .now) (along (fatEntry (a .y) (a .vol .now)) b (a .first) (a .count)) (a .at) (replicate (a .n) 0)) (sym r)
 
 pub fill-from-spec : {M : Type 1} → statement M
 fill-from-spec =
     tie.close
     (tie.spec
-    Inv-loop
-    μ-loop
-    loop-holds
-    sub-lesser
-    lesser-requires
-    next-cluster-requires
+    returns
     put-zeros-requires
-    sub-left
-    sub-more
-    loop-less
-    loop-again
+    fill-chain-requires
     same-length
-    returns)
+    returns-2
+    same-length-2
+    returns-3)

@@ -75,7 +75,7 @@ loop-again c =
     let n = some-left (l .left) (a .y .size) (l .place) (l .more) (l .inv .1 .1 .0) (omega arith) in
     let t =
     read-next (a .y) (a .vol .now) (p .0) (p .1 .0) (fatEntry (a .y) (a .vol .now)) (a .run) (l .k) (l .left) n (l .inv .1 .1 .1 .1 .0) (l .place) (l .inv .1 .0)
-    (l .dst) (g .last .1 .1 .1 .1 .0) (l .put) (l .more) (r .result) (c .next-cluster .result) (r .ensures) (l .inv .1 .1 .1 .0) (g .ensures) (c .next-cluster .ensures) in (
+    (l .dst) (g .last .1 .1 .1 .1 .0) (l .put) (l .more) (r .result) (c .next-cluster .result) (omega (arith, r .ensures)) (l .inv .1 .1 .1 .0) (g .ensures) (c .next-cluster .ensures) in (
       omega arith,
       (omega arith, (left-after (l .left) (a .y .size) (l .place) (l .more) (r .result) (l .inv .1 .0) (l .inv .1 .1 .0) (r .ensures), (omega arith, (t .0, t .1 ∙ l .inv .1 .1 .1 .1 .1)))),
     )

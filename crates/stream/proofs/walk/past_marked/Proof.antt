@@ -1,4 +1,4 @@
-use Prim.Native.Nat.{_+_, _-_}
+use Prim.Native.Nat.{_+_, _-_, min}
 use mathlib.Core.Path.{_≡_}
 use native.Mathlib.Omega.{arith}
 use borrow.Author.Needs.{needs}
@@ -17,7 +17,7 @@ past-full-requires c κs = search needs
 returns : tie.Need-returns
 returns c =
     let a = c .before .before .before .before .args in
-    let e : a .left - (a .left - (a .y .count + 2 - a .k)) ≡ a .left = omega arith in
+    let e : min (a .left) (a .y .count + 2 - a .k) ≡ a .left = omega arith in
     rw e (c .past-full .ensures)
 
 past-full-requires-2 : tie.Need-past-full-requires-2
@@ -26,7 +26,7 @@ past-full-requires-2 c κs = search needs
 returns-2 : tie.Need-returns-2
 returns-2 c =
     let a = c .before .before .before .before .args in
-    let e : a .left - (a .left - (a .y .count + 2 - a .k)) ≡ a .y .count + 2 - a .k = omega arith in
+    let e : min (a .left) (a .y .count + 2 - a .k) ≡ a .y .count + 2 - a .k = omega arith in
     rw e (c .past-full2 .ensures)
 
 pub past-marked-spec : {M : Type 1} → statement M
