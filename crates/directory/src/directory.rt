@@ -18,15 +18,9 @@ pub struct Directory {
 fn no_directory(number: u32) -> Directory
     ensures { λ r. ⌜ r ≡ record { number = number; allocation = empty } ⌝ }
 {
-    let a = Allocation {
-        first: 0,
-        last: 0,
-        count: 0,
-        no_fat_chain: false,
-    };
     Directory {
         number: number,
-        allocation: a,
+        allocation: stream::allocation::empty_record(),
     }
 }
 

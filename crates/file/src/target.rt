@@ -21,12 +21,7 @@ pub struct Target {
 fn no_target(number: u32) -> Target
     ensures { λ r. ⌜ r ≡ record { number = number; directory = empty; stream = empty } ⌝ }
 {
-    let a = Allocation {
-        first: 0,
-        last: 0,
-        count: 0,
-        no_fat_chain: false,
-    };
+    let a = stream::allocation::empty_record();
     Target {
         number: number,
         directory: a,

@@ -102,15 +102,9 @@ fn new_chain(vol: &mut [u8], map: &[u8], y: Layout, start: u32, n: u32) -> Answe
 fn no_stream(number: u32, hint: u32) -> Answer
     ensures { λ r. ⌜ r ≡ record { number = number; allocation = empty; hint = hint } ⌝ }
 {
-    let a = Allocation {
-        first: 0,
-        last: 0,
-        count: 0,
-        no_fat_chain: false,
-    };
     Answer {
         number: number,
-        allocation: a,
+        allocation: stream::allocation::empty_record(),
         hint: hint,
     }
 }

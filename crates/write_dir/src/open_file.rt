@@ -99,15 +99,9 @@ pub fn copy_set(vol: &[u8], y: Layout, dir: Allocation, slot: u32) -> [u8; 608]
 fn not_opened(number: u32) -> Opened
     ensures { λ r. ⌜ r ≡ record { number = number; allocation = empty } ⌝ }
 {
-    let a = Allocation {
-        first: 0,
-        last: 0,
-        count: 0,
-        no_fat_chain: false,
-    };
     Opened {
         number: number,
-        allocation: a,
+        allocation: stream::allocation::empty_record(),
     }
 }
 

@@ -96,12 +96,7 @@ pub fn kept_record(first: u32, keep: u32, part: Kept) -> Allocation
     ensures { λ r. ⌜ r ≡ partRecord first keep part ⌝ }
 {
     if keep == 0 {
-        return Allocation {
-            first: 0,
-            last: 0,
-            count: 0,
-            no_fat_chain: false,
-        };
+        return stream::allocation::empty_record();
     }
     Allocation {
         first: first,
