@@ -9,7 +9,7 @@ use lib.Dec.{eqb}
 use lib.ListN.{length}
 use borrow.Author.Tests.{eq-eqb, ne-eqb, eqb-true, eqb-false}
 use Rattle.tables.specs.Lists.{every, lastOr, consec}
-use Rattle.tables.proofs.Cases.{clash, and-true, and-assoc}
+use Rattle.tables.proofs.Cases.{and-true, and-assoc}
 use Rattle.boot.specs.Layout.{inHeap}
 use Rattle.metadata.specs.Fat.{END}
 use Rattle.stream.specs.declared.walk.Next.{Next}

@@ -14,15 +14,14 @@ use crate::allocation::Allocation;
 use boot::layout::Layout;
 use primitives::bits::both;
 
-// What a FAT value says: the end of the chain, another cluster, or neither.
+// What a FAT value says: the end of the chain, another cluster, or neither. The definitions speak of it; the code tests the value itself.
 pub enum Next {
     End,
     More,
     Wrong,
 }
 
-// A chain walked to its end: its last cluster, its length, whether all its clusters are marked, and whether none of them is barred (number 9);
-// or the number of the refusal.
+// A chain walked to its end: its last cluster, its length, whether all are marked, whether none is barred (number 9); or what refuses it.
 pub struct Walked {
     pub number: u32,
     pub last: u32,
@@ -55,7 +54,7 @@ fn not_walked(number: u32) -> Walked
     }
 }
 
-// The chain from first, a cluster of the heap, walked once (Rust: `fat_chain`).
+// The chain from first, a cluster of the heap, walked once, as the root directory's or as another stream's (Rust: `fat_chain`).
 pub fn fat_chain(vol: &[u8], map: &[u8], y: Layout, root: bool, first: u32) -> Walked
     requires { ⌜ Laid y × ((length (now vol) ≡ y .len) × ((y .count ≤ 8 * length (now map)) × ((2 ≤ first) × (first < y .count + 2)))) ⌝ }
     ensures { λ r. ⌜ r ≡ walked (marked y (now (vol .entry))) (λ k. not (barred y (now (map .entry)) root k)) (readChain (y .count) (fatEntry y (now (vol .entry))) first) ⌝ }

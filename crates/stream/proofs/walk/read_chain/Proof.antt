@@ -1,5 +1,4 @@
 use mathlib.Core.Path.{sym, _∙_}
-use native.Mathlib.Omega.{arith}
 use Rattle.boot.proofs.Apart.{in-heap}
 use Rattle.stream.proofs.ChainLaws.{chain-number, chain-out-number}
 use borrow.Author.Needs.{needs}

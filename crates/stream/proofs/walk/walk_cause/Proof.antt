@@ -1,5 +1,5 @@
 use mathlib.Core.Bool.{true, false}
-use mathlib.Core.Path.{sym, _∙_}
+use mathlib.Core.Path.{sym}
 use native.Mathlib.Omega.{arith}
 use Rattle.stream.proofs.ChainLaws.{cause-walk, cause-count, cause-last, cause-marked}
 use Rattle.stream.proofs.walk.walk_cause.Statement.{statement}
