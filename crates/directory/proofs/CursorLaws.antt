@@ -30,7 +30,7 @@ use Rattle.stream.proofs.ListingLaws.{stream-read, along-heap}
 use Rattle.stream.proofs.Distinct.{few, read-length, read-distinct}
 use Rattle.directory.specs.declared.entries.Cursor.{Cursor}
 use Rattle.directory.specs.Entries.{entryCount, typeAt, inUse}
-use Rattle.directory.specs.Internal.{nextEntry, entryAt}
+use Rattle.directory.specs.Internal.{nextEntry, entryAt, entryPlace}
 use Rattle.directory.proofs.DirectoryLaws.{clusters-along}
 
 -- ---- going along
@@ -213,6 +213,13 @@ pub record Counted (y : Layout) (d : List ℕ) (dir : Allocation) (i cluster mor
   pub there : cluster ≡ reached (fatEntry y d) (dir .«no_fat_chain») (dir .first) ((i - more) / (y .size / 32))
   pub whole : (i - more) / (y .size / 32) * (y .size / 32) + more ≡ i
 
+-- quotient and rest of j s and r, r less than s
+place-of : (s j r i : ℕ) → r < s → j * s + r ≡ i → (i / s ≡ j) × (i % s ≡ r)
+place-of s j r i h e =
+    let z : i ≡ r + j * s = omega arith in
+    let q : i / s ≡ j = ap (λ (x : ℕ). x / s) z ∙ add-mul-div-right r j (omega arith) ∙ omega (arith, div-eq-of-lt {n = r} {m = s} h) in
+    (q, omega (arith, div-add-mod' i s, ap (λ (x : ℕ). x * s) q))
+
 quotient : (p j : ℕ) → 1 ≤ p → j * p / p ≡ j
 quotient p j h = let e : j * p ≡ 0 + j * p = omega arith in ap (λ (x : ℕ). x / p) e ∙ add-mul-div-right 0 j h ∙ omega (arith, div-eq-of-lt {n = 0} {m = p} h)
 
@@ -231,6 +238,9 @@ module _ (y : Layout) (d : List ℕ) (w : Fits y d) (dir : Allocation) (reads : 
         there = c ∙ ap (reached (fatEntry y d) (dir .«no_fat_chain») (dir .first)) (sym q);
         whole = ap (λ (x : ℕ). x * p + more) q ∙ e;
       }
+
+  pub counted-first : (i : ℕ) → Counted y d dir i (dir .first) i
+  counted-first i = counted-by i 0 (dir .first) i (omega arith) (unfold reached in refl)
 
   pub counted-start : (k m : ℕ) → k < entryCount (bytesIn y d dir) → (e : Cursor) → e ≡ entryAt y (fatEntry y d) (dir .«no_fat_chain») (dir .first) k
       → Counted y d dir (k + m) (e .cluster) (e .at / 32 + m)
@@ -262,3 +272,9 @@ module _ (y : Layout) (d : List ℕ) (w : Fits y d) (dir : Allocation) (reads : 
     counted-end h =
         ap (λ (x : ℕ). record { cluster = x; at = 32 * more }) (c .there)
         ∙ sym (ap (entryAt y (fatEntry y d) (dir .«no_fat_chain») (dir .first)) (sym (c .whole)) ∙ entry-place y (fatEntry y d) (dir .«no_fat_chain») p (w .laid .whole) (dir .first) j more h)
+
+    -- by its byte
+    pub counted-place : more < p → record { cluster = cluster; at = 32 * more } ≡ entryPlace y d dir i
+    counted-place h =
+        let q = place-of (y .size) j (32 * more) (32 * i) (omega (arith, w .laid .whole)) (omega (arith, c .whole, in-bytes y d w dir reads j)) in
+        ap₂ (λ (k x : ℕ). record { cluster = k; at = x }) (c .there ∙ ap (reached (fatEntry y d) (dir .«no_fat_chain») (dir .first)) (sym (q .0))) (sym (q .1))

@@ -4,6 +4,7 @@ use mathlib.Core.Logic.{_≢_}
 use mathlib.Core.Bool.{Bool, true, false, not, _&&_, and-true, and-assoc}
 use mathlib.Core.List.{List, _++_}
 use Prim.Native.Nat.{ℕ, zero, suc, _+_, _-_, _*_, _/_, _≤_, _<_}
+use native.Mathlib.Decide.{decLe}
 use native.Mathlib.Nat.{sub-zero, suc-mul}
 use native.Mathlib.Omega.{arith}
 use lib.Dec.{eqb}
@@ -24,6 +25,7 @@ use Rattle.stream.proofs.BytesSteps.{length-cluster}
 use Rattle.search.specs.Search.{allFrom}
 use Rattle.search.proofs.Runs.{all-none, all-next, all-not}
 use Rattle.directory.specs.Entries.{entryCount, typeAt, beforeEnd}
+use Rattle.directory.specs.Internal.{entryPlace, slotEntry}
 use Rattle.directory.proofs.CursorLaws.{bytes-along, dir-heap, entries-is}
 
 -- ---- entry by entry
@@ -169,3 +171,23 @@ module _ (y : Layout) (d : List ℕ) (w : Fits y d) (dir : Allocation) where
 
         pub ahead-not : beforeEnd (clusterBytes y d k) per ≡ false → beforeEnd (bytesIn y d dir) slot ≡ false
         ahead-not e = sym joined ∙ ap (λ (b : Bool). b && beforeEnd rest (left - per)) e
+
+    -- the entries in the slot's own cluster
+    pub ahead-end : left < per → beforeEnd (clusterBytes y d k) left ≡ beforeEnd (bytesIn y d dir) slot
+    ahead-end h =
+        elim (decLe 1 left) [
+          | yes b ↦ ahead-last b (omega arith)
+          | no b ↦
+              let z : left ≡ 0 = omega arith in
+              ap (beforeEnd (clusterBytes y d k)) z ∙ before-none (clusterBytes y d k) ∙ sym (ahead-none z)
+        ]
+
+-- the entry of a slot by what stands before it
+module _ (y : Layout) (d : List ℕ) (dir : Allocation) (slot : ℕ) where
+  pub slot-ends : beforeEnd (bytesIn y d dir) slot ≡ false → record { cluster = 0; at = 0 } ≡ slotEntry y d dir slot
+  unfolding slotEntry
+  slot-ends e = rw e refl
+
+  pub slot-stands : beforeEnd (bytesIn y d dir) slot ≡ true → entryPlace y d dir slot ≡ slotEntry y d dir slot
+  unfolding slotEntry
+  slot-stands e = rw e refl

@@ -8,3 +8,5 @@ pub mod CursorLaws
 pub mod EndLaws
 pub mod RoomLaws
 pub mod WindowLaws
+pub mod SpotLaws
+pub mod OpenLaws

@@ -1,19 +1,28 @@
 -- What only contracts of inner functions, and proofs, speak of: no promise of a public call and no clause of the claim needs it.
-use mathlib.Core.Bool.{Bool, cond, _&&_}
-use mathlib.Core.List.{List}
-use Prim.Native.Nat.{ℕ, zero, suc, _+_, _-_, _*_}
-use lib.Dec.{ltb, eqb, leb}
-use lib.ListN.{length}
+use mathlib.Core.Path.{_≡_}
+use mathlib.Core.Bool.{Bool, true, cond, _&&_}
+use mathlib.Core.List.{List, [], _∷_}
 use mathlib.Core.Option.{Option, none, some}
+use Prim.Native.Nat.{ℕ, zero, suc, _+_, _-_, _*_, _/_, _%_, _≤_, _<_}
+use lib.Dec.{ltb, eqb, leb}
+use lib.ListN.{length, getD, drop, replicate}
 use Rattle.boot.specs.declared.layout.Layout.{Layout}
-use Rattle.stream.specs.Internal.{after}
-use Rattle.directory.specs.declared.entries.Cursor.{Cursor}
-use Rattle.directory.specs.Entries.{inUse, entryCount, isFile, entriesAt, setAt}
-use Rattle.stream.specs.Stream.{empty}
+use Rattle.boot.specs.Layout.{inHeap}
+use Rattle.metadata.specs.Fat.{fatEntry}
+use Rattle.stream.specs.declared.allocation.Allocation.{Allocation}
+use Rattle.stream.specs.Internal.{after, reached}
+use Rattle.stream.specs.Bytes.{bytesIn}
+use Rattle.stream.specs.Stream.{empty, clustersIn}
 use Rattle.directory.specs.declared.directory.Directory.{Directory}
+use Rattle.directory.specs.declared.entries.Cursor.{Cursor}
 use Rattle.directory.specs.declared.entries.Room.{Room}
+use Rattle.directory.specs.declared.open_file.Opened.{Opened}
+use Rattle.directory.specs.declared.open_file.OpenFile.{OpenFile}
+use Rattle.directory.specs.declared.spot.Spot.{Spot}
 use Rattle.directory.specs.Directory.{rootRecord, directoryCause}
+use Rattle.directory.specs.Entries.{inUse, entryCount, beforeEnd, isFile, entriesAt, setAt}
 use Rattle.directory.specs.Room.{freeRun, slotOf, withZeros, growth}
+use Rattle.directory.specs.Open.{fileRecord, streamCause, setIn, fileCause}
 
 -- the entry after one: 32 bytes on, in the next cluster where this one ends
 unfoldable pub nextEntry : Layout → (ℕ → ℕ) → Bool → Cursor → Cursor
@@ -25,6 +34,15 @@ nextEntry y fat run c =
 unfoldable pub entryAt : Layout → (ℕ → ℕ) → Bool → ℕ → ℕ → Cursor
 entryAt y fat run first zero = record { cluster = first; at = 0 }
 entryAt y fat run first (suc i) = nextEntry y fat run (entryAt y fat run first i)
+
+-- the entry of a slot by its byte: the cluster that it lies in, and its byte there
+abbrev pub entryPlace : (y : Layout) (d : List ℕ) (a : Allocation) (slot : ℕ) → Cursor
+entryPlace y d a slot =
+    record { cluster = reached (fatEntry y d) (a .«no_fat_chain») (a .first) (32 * slot / y .size); at = 32 * slot % y .size }
+
+-- the same, with cluster 0 where an entry of type 0 stands before it
+unfoldable pub slotEntry : (y : Layout) (d : List ℕ) (a : Allocation) (slot : ℕ) → Cursor
+slotEntry y d a slot = cond (beforeEnd (bytesIn y d a) slot) (entryPlace y d a slot) (record { cluster = 0; at = 0 })
 
 -- windows of n entries from entry i on, passed one after the other while the last entry of each is in use, `more` at most: where that stops
 unfoldable pub pastWindows : List ℕ → ℕ → ℕ → ℕ → ℕ
@@ -48,11 +66,50 @@ roomFor size bs n =
     let g = growth size bs n in
     record { slot = slotOf (freeRun (withZeros bs (g * size)) n); clusters = g }
 
--- the same where slot i has a file entry and its set has at most 19 entries and fits the directory; else 0
+-- the entries of the set at slot i where that has a file entry and its set has at most 19 entries and fits the directory; else 0
 unfoldable pub wholeSet : List ℕ → ℕ → ℕ
 wholeSet bs i =
     cond (isFile bs i && (leb (entriesAt bs i) 19 && leb (i + entriesAt bs i) (entryCount bs))) (entriesAt bs i) 0
 
+-- the 608 bytes that opening fills: the set where there is one, else zeros
+unfoldable pub setRead : List ℕ → ℕ → List ℕ
+setRead bs i = cond (eqb (wholeSet bs i) 0) (replicate 608 0) (setAt bs i)
+
 -- the set at each slot that has a file entry
 unfoldable pub sets : List ℕ → ℕ → Option (List ℕ)
 sets bs i = cond (isFile bs i) (some (setAt bs i)) none
+
+-- a number with a record, which is empty beside a refusal
+unfoldable pub opened : ℕ → Allocation → Opened
+opened n a = cond (eqb n 0) (record { number = 0; allocation = a }) (record { number = n; allocation = empty })
+
+-- a stream's record, or the number of what refuses it
+abbrev pub openedStream : (y : Layout) (d m : List ℕ) (a : Allocation) → Opened
+openedStream y d m a = opened (streamCause y d m a) a
+
+-- the clusters from that of a slot on, three of them, 0 where the directory ends, and the slot's byte in the first
+unfoldable pub spotOf : Layout → List ℕ → Allocation → ℕ → Spot
+spotOf y d a slot =
+    let ks = drop (32 * slot / y .size) (clustersIn y d a) in
+    record { first = getD ks 0 0; second = getD ks 1 0; third = getD ks 2 0; at = 32 * slot % y .size }
+
+unfoldable pub spotClusters : Spot → List ℕ
+spotClusters s = s .first ∷ s .second ∷ s .third ∷ []
+
+-- n entries from a spot on, at most 19, lie in clusters of the heap
+pub record Reaches (y : Layout) (s : Spot) (n : ℕ) : Type 0 where
+  pub inside : s .at < y .size
+  pub few : n ≤ 19
+  pub one : 0 < n → inHeap (y .count) (s .first) ≡ true
+  pub two : y .size < s .at + 32 * n → inHeap (y .count) (s .second) ≡ true
+  pub three : 2 * y .size < s .at + 32 * n → inHeap (y .count) (s .third) ≡ true
+
+-- no file: a number with no spot and the empty record
+abbrev pub noFile : ℕ → OpenFile
+noFile n = record { number = n; spot = record { first = 0; second = 0; third = 0; at = 0 }; stream = empty }
+
+-- the file at a slot of directory a opened: where its set stands and its stream's record, or the number
+unfoldable pub openFile : (y : Layout) (d m : List ℕ) (a : Allocation) (slot : ℕ) → OpenFile
+openFile y d m a slot =
+    let n = fileCause y d m a slot in
+    cond (eqb n 0) (record { number = 0; spot = spotOf y d a slot; stream = fileRecord y d (setIn y d a slot) }) (noFile n)

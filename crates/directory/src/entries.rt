@@ -12,7 +12,7 @@ ghost use Rattle.stream.specs.Bytes.{clusterBytes, bytesIn};
 ghost use Rattle.stream.specs.Stream.{numberOf, streamOf};
 ghost use Rattle.search.specs.Internal.{pastFailing};
 ghost use Rattle.directory.specs.Entries.{entryCount, inUse, beforeEnd};
-ghost use Rattle.directory.specs.Internal.{nextEntry, entryAt, pastUsed, roomFor};
+ghost use Rattle.directory.specs.Internal.{nextEntry, entryAt, slotEntry, pastUsed, roomFor};
 use boot::layout::Layout;
 use stream::allocation::Allocation;
 
@@ -34,13 +34,13 @@ pub struct Room {
     pub clusters: u32,
 }
 
-// The type byte of an entry.
-fn type_at(vol: &[u8], y: Layout, e: Cursor) -> u8
-    requires { ⌜ Laid y × ((length (now vol) ≡ y .len) × ((2 ≤ e .cluster) × ((e .cluster < y .count + 2) × (e .at + 32 ≤ y .size)))) ⌝ }
-    ensures { λ r. ⌜ r ≡ clusterByte y (now (vol .entry)) (e .cluster) (e .at) ⌝ }
+// One byte of a cluster.
+pub fn byte_at(vol: &[u8], y: Layout, k: u32, at: usize) -> u8
+    requires { ⌜ Laid y × ((length (now vol) ≡ y .len) × ((2 ≤ k) × ((k < y .count + 2) × (at < y .size)))) ⌝ }
+    ensures { λ r. ⌜ r ≡ clusterByte y (now (vol .entry)) k at ⌝ }
 {
-    let start = boot::layout::cluster_offset(y, e.cluster);
-    vol[start + e.at]
+    let start = boot::layout::cluster_offset(y, k);
+    vol[start + at]
 }
 
 // Whether an entry is in use.
@@ -48,7 +48,7 @@ fn in_use(vol: &[u8], y: Layout, e: Cursor) -> bool
     requires { ⌜ Laid y × ((length (now vol) ≡ y .len) × ((2 ≤ e .cluster) × ((e .cluster < y .count + 2) × (e .at + 32 ≤ y .size)))) ⌝ }
     ensures { λ r. ⌜ r ≡ eqb (bitOf (clusterByte y (now (vol .entry)) (e .cluster) (e .at)) 7) 1 ⌝ }
 {
-    primitives::bits::bit_test(type_at(vol, y, e), 7)
+    primitives::bits::bit_test(byte_at(vol, y, e.cluster, e.at), 7)
 }
 
 // The entry after one.
@@ -103,10 +103,10 @@ fn none_ends_in(vol: &[u8], y: Layout, k: u32, n: u32) -> bool
     none_ends(&vol[a..e], n)
 }
 
-// Whether none of the entries before a slot has type 0.
-pub fn before_end(vol: &[u8], y: Layout, dir: Allocation, slot: u32) -> bool
-    requires { ⌜ Laid y × ((length (now vol) ≡ y .len) × (Apart y × ((numberOf (streamOf y (now vol) dir) ≡ 0) × (slot ≤ entryCount (bytesIn y (now vol) dir))))) ⌝ }
-    ensures { λ r. ⌜ r ≡ beforeEnd (bytesIn y (now (vol .entry)) dir) slot ⌝ }
+// The entry of a slot, with cluster 0 where an entry of type 0 stands before it.
+pub fn slot_entry(vol: &[u8], y: Layout, dir: Allocation, slot: u32) -> Cursor
+    requires { ⌜ Laid y × ((length (now vol) ≡ y .len) × (Apart y × ((numberOf (streamOf y (now vol) dir) ≡ 0) × (slot < entryCount (bytesIn y (now vol) dir))))) ⌝ }
+    ensures { λ r. ⌜ r ≡ slotEntry y (now (vol .entry)) dir slot ⌝ }
 {
     let per = (y.size / 32) as u32;
     let mut k = dir.first;
@@ -116,13 +116,16 @@ pub fn before_end(vol: &[u8], y: Layout, dir: Allocation, slot: u32) -> bool
             k = stream::walk::next_cluster(vol, y, dir.no_fat_chain, k);
             left -= per;
         } else {
-            return false;
+            return Cursor { cluster: 0, at: 0 };
         }
     }
-    if left == 0 {
-        return true;
+    if none_ends_in(vol, y, k, left) {
+        return Cursor {
+            cluster: k,
+            at: 32 * (left as usize),
+        };
     }
-    none_ends_in(vol, y, k, left)
+    Cursor { cluster: 0, at: 0 }
 }
 
 // The entry m entries after entry k, which e is.

@@ -3,9 +3,8 @@ ghost use mathlib.Core.Path.{_≡_};
 ghost use mathlib.Core.Bool.{cond};
 ghost use Prim.Native.Nat.{_+_, _≤_, _<_};
 ghost use lib.ListN.{length};
-ghost use Rattle.primitives.specs.Words.{putLe};
 ghost use Rattle.entry_set.specs.Fields.{nameEntries};
-ghost use Rattle.entry_set.specs.Put.{putCreated, putModified, putAccessed, putStream, archived, refreshed, cleared};
+ghost use Rattle.entry_set.specs.Put.{putCreated, putModified, putAccessed, putStream, archived, sealed, refreshed, cleared};
 ghost use Rattle.entry_set.specs.New.{newFileEntry, newStreamEntry, putTypes, unitAt, putUnits, newSet};
 use crate::stamp::Stamp;
 use crate::stamp::Stamps;
@@ -69,63 +68,52 @@ fn set_archive(set: &mut [u8])
     set[4] = primitives::bits::bit_set(set[4], 5);
 }
 
-// The set with a checksum stored.
-fn seal(set: [u8; 608], sum: u16) -> [u8; 608]
-    ensures { λ r. ⌜ r ≡ putLe 2 set 2 sum ⌝ }
+// Puts the stream, the modified and accessed stamps and the Archive attribute; the checksum stays as it was.
+fn changed(set: &mut [u8; 608], first: u32, no_fat_chain: bool, valid: u64, len: u64, t: Stamp)
+    ensures { λ _. ⌜ now (set .exit) ≡ archived (putAccessed (putModified (putStream (now (set .entry)) first «no_fat_chain» valid len) t) t) ⌝ }
 {
-    let mut out = set;
-    primitives::words::put_u16(&mut out, 2, sum);
-    out
+    set_stream(set, first, no_fat_chain, valid, len);
+    set_modified(set, t);
+    set_accessed(set, t);
+    set_archive(set);
 }
 
-// The set with its stream, the modified and accessed stamps and the Archive attribute put, and its checksum as it was.
-fn changed(
-    set: [u8; 608],
-    first: u32,
-    no_fat_chain: bool,
-    valid: u64,
-    len: u64,
-    t: Stamp,
-) -> [u8; 608]
-    ensures { λ r. ⌜ r ≡ archived (putAccessed (putModified (putStream set first «no_fat_chain» valid len) t) t) ⌝ }
+// Puts the checksum of a set's n entries (Rust: `seal`).
+fn seal(set: &mut [u8; 608], n: usize)
+    requires { ⌜ n ≤ 19 ⌝ }
+    ensures { λ _. ⌜ now (set .exit) ≡ sealed (now (set .entry)) n ⌝ }
 {
-    let mut out = set;
-    set_stream(&mut out, first, no_fat_chain, valid, len);
-    set_modified(&mut out, t);
-    set_accessed(&mut out, t);
-    set_archive(&mut out);
-    out
+    let sum = array_checksum(set, 32 * n);
+    primitives::words::put_u16(set, 2, sum);
 }
 
 // What write and set length make of a set of n entries (Rust: `record`).
 pub fn refreshed(
-    set: [u8; 608],
+    set: &mut [u8; 608],
     n: usize,
     first: u32,
     no_fat_chain: bool,
     valid: u64,
     len: u64,
     t: Stamp,
-) -> [u8; 608]
+)
     requires { ⌜ n ≤ 19 ⌝ }
-    ensures { λ r. ⌜ r ≡ refreshed set n first «no_fat_chain» valid len t ⌝ }
+    ensures { λ _. ⌜ now (set .exit) ≡ refreshed (now (set .entry)) n first «no_fat_chain» valid len t ⌝ }
 {
-    let out = changed(set, first, no_fat_chain, valid, len, t);
-    seal(out, array_checksum(&out, 32 * n))
+    changed(set, first, no_fat_chain, valid, len, t);
+    seal(set, n);
 }
 
-// The set with the InUse bit of its n entries cleared.
-pub fn cleared(set: [u8; 608], n: usize) -> [u8; 608]
+// Clears the InUse bit of a set's n entries.
+pub fn cleared(set: &mut [u8; 608], n: usize)
     requires { ⌜ n ≤ 19 ⌝ }
-    ensures { λ r. ⌜ r ≡ cleared set n ⌝ }
+    ensures { λ _. ⌜ now (set .exit) ≡ cleared (now (set .entry)) n ⌝ }
 {
-    let mut out = set;
     let mut i = 0;
     while i < n {
-        out[32 * i] = primitives::bits::bit_clear(set[32 * i], 7);
+        set[32 * i] = primitives::bits::bit_clear(set[32 * i], 7);
         i += 1;
     }
-    out
 }
 
 // The name entries that a name of n units takes.
@@ -206,5 +194,6 @@ pub fn new_set(name: &[u16], attributes: u16, hash: u16, t: Stamps) -> [u8; 608]
     new_stream_entry(&mut set, name.len(), hash);
     put_types(&mut set, names);
     put_units(&mut set, name);
-    seal(set, array_checksum(&set, 32 * (2 + names)))
+    seal(&mut set, 2 + names);
+    set
 }

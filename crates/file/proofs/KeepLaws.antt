@@ -32,7 +32,7 @@ use Rattle.write_extend.proofs.EnoughLaws.{Extended, extend-done}
 use Rattle.write_extend.proofs.KeepLaws.{extend-on}
 use Rattle.directory.specs.Directory.{directoryCause}
 use Rattle.file.specs.Outcome.{carried}
-use Rattle.write_dir.specs.Open.{fileRecord}
+use Rattle.directory.specs.Open.{fileRecord}
 use Rattle.file.specs.Refresh.{stored, refreshedOnly}
 use Rattle.file.proofs.RefreshLaws.{stream-is}
 use Rattle.file.proofs.CallLaws.{directory-plain}

@@ -1,23 +1,30 @@
 -- What is known of a file that opens, and what refuses one. Assumes nothing.
 use mathlib.Core.Path.{_≡_, refl, sym, _∙_, ap, subst}
-use mathlib.Core.Bool.{Bool, true, false, cond}
+use mathlib.Core.Bool.{Bool, true, false, not, cond}
 use mathlib.Core.List.{List, [], _∷_}
 use Prim.Native.Nat.{ℕ, _+_, _-_, _*_, _/_, _≤_, _<_}
 use native.Mathlib.Nat.{mul-le-mul-right}
 use native.Mathlib.Omega.{arith}
 use lib.Dec.{eqb}
-use lib.ListN.{length, take}
+use lib.ListN.{length, take, drop, replicate}
 use borrow.Author.Tests.{ne-eqb, eqb-true}
+use Rattle.tables.specs.Lists.{every}
 use Rattle.boot.specs.declared.layout.Layout.{Layout}
+use Rattle.boot.specs.Limits.{inMap}
 use Rattle.boot.specs.Internal.{Laid}
 use Rattle.boot.specs.Layout.{inHeap}
 use Rattle.boot.specs.Causes.{firstCause, heapCause}
 use Rattle.boot.proofs.CauseLaws.{cause-skip, cause-met, cause-last, heap-met, heap-kept, cause-none}
+use Rattle.boot.proofs.Apart.{in-heap}
+use Rattle.metadata.specs.Fat.{fatEntry}
 use Rattle.metadata.proofs.Frame.{Fits}
 use Rattle.stream.specs.Bytes.{storeAt, bytesIn}
 use Rattle.stream.specs.declared.allocation.Allocation.{Allocation}
-use Rattle.stream.specs.Stream.{numberOf, streamOf, clustersOf, systemCause, empty, clustersIn}
-use Rattle.stream.proofs.BytesLaws.{take-short}
+use Rattle.stream.specs.Stream.{numberOf, streamOf, clustersOf, systemCause, clustersIn}
+use Rattle.stream.proofs.ListingLaws.{stream-read}
+use Rattle.stream.proofs.BytesSteps.{every-drop}
+use Rattle.stream.proofs.BytesLaws.{take-short, fat-store}
+use Rattle.stream.proofs.KeepLaws.{stream-store}
 use Rattle.entry_set.specs.declared.stamp.Stamp.{Stamp}
 use Rattle.entry_set.specs.Fields.{validLength, dataLength, clustersFor}
 use Rattle.entry_set.proofs.LengthLaws.{clusters-hold}
@@ -26,23 +33,52 @@ use Rattle.file.specs.declared.answer.FileAnswer.{FileAnswer}
 use Rattle.file.specs.Outcome.{Outcome, refuse, carried}
 use Rattle.directory.specs.declared.directory.Directory.{Directory}
 use Rattle.directory.specs.Directory.{rootRecord, bitmapCause, directoryCause}
-use Rattle.directory.specs.Internal.{openRoot}
+use Rattle.directory.specs.Internal.{openRoot, spotOf, spotClusters, Reaches, noFile, openFile, setRead}
 use Rattle.directory.proofs.DirectoryLaws.{clusters-length}
 use Rattle.directory.specs.Entries.{entryCount, entriesAt, setAt, isSound}
-use Rattle.directory.proofs.EntryLaws.{sound-few, sound-room, sound-formed, set-count}
+use Rattle.directory.proofs.EntryLaws.{sound-file, sound-few, sound-room, sound-formed, set-count}
+use Rattle.directory.proofs.OpenLaws.{whole-yes, entries-low, read-some}
+use Rattle.directory.specs.declared.open_file.OpenFile.{OpenFile}
 use Rattle.directory.proofs.CursorLaws.{length-in, count-few}
-use Rattle.write_dir.specs.declared.«open_file».Opened.{Opened}
-use Rattle.write_dir.specs.declared.place.Spot.{Spot}
-use Rattle.write_dir.specs.Internal.{spotOf, spotClusters, Reaches, opened, openFile}
-use Rattle.write_dir.proofs.PlaceLaws.{spot-reaches, spot-store}
-use Rattle.write_dir.specs.Open.{fileRecord, entryCause, directoryAttributeCause, streamCause, setIn, fileCause}
+use Rattle.directory.specs.declared.spot.Spot.{Spot}
+use Rattle.directory.proofs.SpotLaws.{spot-reaches, spot-store}
+use Rattle.directory.specs.Open.{fileRecord, entryCause, directoryAttributeCause, streamCause, setIn, fileCause}
 use Rattle.file.specs.Refresh.{entriesOf, recorded, stored, openCause}
-use Rattle.file.specs.declared.target.Target.{Target}
-use Rattle.file.specs.Internal.{Opens, Stands, target}
+use Rattle.file.proofs.CallLaws.{directory-plain}
+use Rattle.file.specs.Internal.{Opens, Stands, target, targetSet}
+
+-- ---- none of a list is a system cluster, so none of a part is
+
+system-every : (m ks : List ℕ) → systemCause m ks ≡ 0 → every (λ k. not (inMap m k)) ks ≡ true
+system-every m ks e = by (every (λ k. not (inMap m k)) ks) refl
+  where
+    by : (t : Bool) → every (λ k. not (inMap m k)) ks ≡ t → every (λ k. not (inMap m k)) ks ≡ true
+    by true q = q
+    by false q = absurd (let z : systemCause m ks ≡ 9 = unfold systemCause in (rw q refl) in omega arith)
+
+system-drop : (m : List ℕ) (n : ℕ) (ks : List ℕ) → systemCause m ks ≡ 0 → systemCause m (drop n ks) ≡ 0
+unfolding systemCause
+system-drop m n ks e = rw (every-drop (λ k. not (inMap m k)) n ks (system-every m ks e)) refl
+
+-- ---- a file that nothing refuses is sound
+
+sound-at : (y : Layout) (d m : List ℕ) (a : Allocation) (slot : ℕ) → fileCause y d m a slot ≡ 0 → isSound (y .count) (y .size) (bytesIn y d a) slot ≡ true
+sound-at y d m a slot f = by (isSound (y .count) (y .size) (bytesIn y d a) slot) refl
+  where
+    by : (t : Bool) → isSound (y .count) (y .size) (bytesIn y d a) slot ≡ t → t ≡ true
+    by true e = refl
+    by false e =
+        let q : entryCause y (bytesIn y d a) slot ≡ 10 = unfold entryCause in (rw e refl) in
+        let c : firstCause (entryCause y (bytesIn y d a) slot ∷ directoryAttributeCause (setIn y d a slot) ∷ streamCause y d m (fileRecord y d (setIn y d a slot)) ∷ []) ≡ 0 =
+        unfold fileCause in f in
+        absurd (let z = cause-none _ _ c .0 in omega arith)
 
 -- ---- a file that opens
 
-module _ (y : Layout) (d m : List ℕ) (a : Allocation) (slot : ℕ) (s : List ℕ) (b : Allocation) (hint : ℕ) (o : Opens y d m a slot s b hint) where
+module _ (y : Layout) (d m : List ℕ) (a : Allocation) (slot : ℕ) (s : List ℕ) (f : OpenFile) (hint : ℕ) (o : Opens y d m a slot s f hint) where
+  abbrev b : Allocation
+  b = f .stream
+
   pub open-fits : Fits y d
   open-fits = record { laid = o .laid; apart = o .apart; long = o .long }
 
@@ -54,22 +90,24 @@ module _ (y : Layout) (d m : List ℕ) (a : Allocation) (slot : ℕ) (s : List �
   causes : firstCause (entryCause y (bytesIn y d a) slot ∷ directoryAttributeCause (setIn y d a slot) ∷ streamCause y d m (fileRecord y d (setIn y d a slot)) ∷ []) ≡ 0
   causes = unfold fileCause in (o .file)
 
-  pub open-sound : isSound (y .count) (y .size) (bytesIn y d a) slot ≡ true
-  open-sound = by (isSound (y .count) (y .size) (bytesIn y d a) slot) refl
-    where
-      by : (t : Bool) → isSound (y .count) (y .size) (bytesIn y d a) slot ≡ t → t ≡ true
-      by true e = refl
-      by false e =
-          let q : entryCause y (bytesIn y d a) slot ≡ 10 = unfold entryCause in (rw e refl) in
-          absurd (let z = cause-none _ _ causes .0 in omega arith)
+  open-sound : isSound (y .count) (y .size) (bytesIn y d a) slot ≡ true
+  open-sound = sound-at y d m a slot (o .file)
+
+  stream-none : streamCause y d m (f .stream) ≡ 0
+  stream-none =
+      ap (streamCause y d m) (o .stream ∙ ap (fileRecord y d) (o .set))
+      ∙ cause-none (streamCause y d m (fileRecord y d (setIn y d a slot))) [] (cause-none _ _ (cause-none _ _ causes .1) .1) .0
+
+  stream-causes : (numberOf (streamOf y d (f .stream)) ≡ 0) × (firstCause (systemCause m (clustersIn y d (f .stream)) ∷ []) ≡ 0)
+  stream-causes = cause-none (numberOf (streamOf y d (f .stream))) (systemCause m (clustersIn y d (f .stream)) ∷ []) (unfold streamCause in stream-none)
 
   -- the stream reads
-  pub open-stream : numberOf (streamOf y d b) ≡ 0
-  open-stream =
-      let r = fileRecord y d (setIn y d a slot) in
-      let k = cause-none _ _ (cause-none _ _ (cause-none _ _ causes .1) .1) .0 in
-      let q : numberOf (streamOf y d r) ≡ 0 = cause-none (numberOf (streamOf y d r)) (systemCause m (clustersIn y d r) ∷ []) (unfold streamCause in k) .0 in
-      subst (λ (x : Allocation). numberOf (streamOf y d x) ≡ 0) (sym (o .stream ∙ ap (fileRecord y d) (o .set))) q
+  pub open-stream : numberOf (streamOf y d (f .stream)) ≡ 0
+  open-stream = stream-causes .0
+
+  -- and has no system cluster
+  pub open-system : systemCause m (clustersIn y d (f .stream)) ≡ 0
+  open-system = sym (cause-last (systemCause m (clustersIn y d (f .stream)))) ∙ stream-causes .1
 
   entries-are : entriesOf s ≡ entriesAt (bytesIn y d a) slot
   entries-are =
@@ -94,7 +132,7 @@ module _ (y : Layout) (d m : List ℕ) (a : Allocation) (slot : ℕ) (s : List �
       subst (λ (x : List ℕ). validLength x ≤ dataLength x) (sym q)
       (formed-lengths (y .count) (y .size) (setAt (bytesIn y d a) slot) (sound-formed (y .count) (y .size) (bytesIn y d a) slot open-sound) .valid)
 
-  pub open-count : b .count ≡ clustersFor (y .size) (dataLength s)
+  pub open-count : f .stream .count ≡ clustersFor (y .size) (dataLength s)
   open-count = ap (λ (x : Allocation). x .count) (o .stream) ∙ by (eqb n 0) refl
     where
       n : ℕ
@@ -104,7 +142,7 @@ module _ (y : Layout) (d m : List ℕ) (a : Allocation) (slot : ℕ) (s : List �
       by true e = unfold fileRecord in (rw e (sym (eqb-true n 0 e)))
       by false e = unfold fileRecord in (rw e refl)
 
-  pub open-few : b .count ≤ y .count
+  pub open-few : f .stream .count ≤ y .count
   open-few = count-few y d open-fits b open-stream
 
   pub open-stands : Stands y d a slot (entriesOf s)
@@ -164,6 +202,46 @@ module _ (y : Layout) (d m : List ℕ) (a : Allocation) (slot hint : ℕ) where
     pub open-is : directoryCause y d a ≡ 0 → openCause y d m a slot hint ≡ fileCause y d m a slot
     open-is e = past-hint ∙ cause-skip (directoryCause y d a) (fileCause y d m a slot ∷ []) e ∙ cause-last (fileCause y d m a slot)
 
+-- ---- the set of a file that opens, stored at its spot
+
+module _ (y : Layout) (d m : List ℕ) (a : Allocation) (slot : ℕ) (s : List ℕ) (f : OpenFile) (hint : ℕ) (o : Opens y d m a slot s f hint) where
+  pub open-reaches : Reaches y (f .spot) (entriesOf s)
+  open-reaches = stands-reaches y d a slot (o .laid) (entriesOf s) (f .spot) (open-stands y d m a slot s f hint o) (o .spot)
+
+  pub open-stored : (e e′ : List ℕ) (b : Allocation) (valid len : ℕ) (t : Stamp)
+      → e′ ≡ storeAt y e (spotClusters (f .spot)) (f .spot .at) (take (32 * entriesOf s) (recorded s b valid len t))
+      → e′ ≡ stored y e (clustersIn y d a) slot s b valid len t
+  open-stored e e′ b valid len t q = stored-spot y d a slot (o .laid) s e e′ b valid len t (f .spot) (open-stands y d m a slot s f hint o) (o .spot) q
+
+  -- nothing refuses it
+  pub opens-none : openCause y d m a slot hint ≡ 0
+  opens-none = open-is y d m a slot hint (o .hint-in) (o .directory) ∙ o .file
+
+-- ---- bytes stored in the directory leave the stream of a file that opens as it was
+
+module _ (y : Layout) (d m : List ℕ) (a : Allocation) (slot : ℕ) (s : List ℕ) (f : OpenFile) (hint : ℕ) (o : Opens y d m a slot s f hint) (at : ℕ) (bs e : List ℕ)
+    (q : e ≡ storeAt y d (clustersIn y d a) at bs) where
+  heap-in : every (inHeap (y .count)) (clustersIn y d a) ≡ true
+  heap-in = unfold clustersIn in (stream-read y d a (open-directory y d m a slot s f hint o) .heap)
+
+  same-stream : streamOf y e (f .stream) ≡ streamOf y d (f .stream)
+  same-stream =
+      ap (λ (l : List ℕ). streamOf y l (f .stream)) q
+      ∙ stream-store y d (open-fits y d m a slot s f hint o) (clustersIn y d a) (directory-plain y d a (o .directory)) at bs (f .stream) (open-stream y d m a slot s f hint o)
+
+  pub same-reads : numberOf (streamOf y e (f .stream)) ≡ 0
+  same-reads = ap numberOf same-stream ∙ open-stream y d m a slot s f hint o
+
+  pub same-fat : (k : ℕ) → inHeap (y .count) k ≡ true → fatEntry y e k ≡ fatEntry y d k
+  same-fat k h =
+      ap (λ (l : List ℕ). fatEntry y l k) q ∙ fat-store y d (open-fits y d m a slot s f hint o) (clustersIn y d a) heap-in at bs k (in-heap (y .count) k h .1)
+
+  -- none of its clusters is a system cluster
+  pub same-system : (keep : ℕ) → systemCause m (drop keep (clustersIn y e (f .stream))) ≡ 0
+  same-system keep =
+      let ks : clustersIn y e (f .stream) ≡ clustersIn y d (f .stream) = unfold clustersIn in (ap clustersOf same-stream) in
+      ap (λ (l : List ℕ). systemCause m (drop keep l)) ks ∙ system-drop m keep (clustersIn y d (f .stream)) (open-system y d m a slot s f hint o)
+
 -- ---- outcomes
 
 -- shown of one outcome, shown of an equal one
@@ -183,27 +261,39 @@ refuse-shown n hint d r e = (e, refl)
 -- ---- the target of a call
 
 module _ (y : Layout) (d m : List ℕ) (a : Allocation) (slot hint : ℕ) where
-  abbrev none : ℕ → Target
-  none n = record { number = n; directory = empty; stream = empty }
-
-  target-refused : (n : ℕ) → n ≡ openCause y d m a slot hint → (n ≡ 0 → ⊥) → none n ≡ target y d m a slot hint
+  target-refused : (n : ℕ) → n ≡ openCause y d m a slot hint → (n ≡ 0 → ⊥) → noFile n ≡ target y d m a slot hint
   unfolding target
   target-refused n e z = rw (← e, ne-eqb n 0 z) refl
 
-  pub target-hint : inHeap (y .count) hint ≡ false → none 2 ≡ target y d m a slot hint
-  target-hint h = target-refused 2 (sym (open-hint y d m a slot hint h)) (λ z. omega arith)
+  set-refused : (firstCause (heapCause (y .count) hint ∷ directoryCause y d a ∷ []) ≡ 0 → ⊥) → replicate 608 0 ≡ targetSet y d a slot hint
+  unfolding targetSet
+  set-refused z = rw (ne-eqb (firstCause (heapCause (y .count) hint ∷ directoryCause y d a ∷ [])) 0 z) refl
+
+  pub target-hint : inHeap (y .count) hint ≡ false → (noFile 2 ≡ target y d m a slot hint) × (replicate 608 0 ≡ targetSet y d a slot hint)
+  target-hint h =
+      let q = heap-met (y .count) hint h in (
+        target-refused 2 (sym (open-hint y d m a slot hint h)) (λ z. omega arith),
+        set-refused (λ z. omega (arith, z, q, cause-met (heapCause (y .count) hint) (directoryCause y d a ∷ []) (λ t. omega arith))),
+      )
 
   module _ (h : inHeap (y .count) hint ≡ true) where
-    pub target-directory : (n : ℕ) → n ≡ directoryCause y d a → (n ≡ 0 → ⊥) → none n ≡ target y d m a slot hint
-    target-directory n e z = target-refused n (e ∙ sym (open-not-read y d m a slot hint h (λ q. z (e ∙ q)))) z
+    set-cause : firstCause (heapCause (y .count) hint ∷ directoryCause y d a ∷ []) ≡ directoryCause y d a
+    set-cause = cause-skip (heapCause (y .count) hint) (directoryCause y d a ∷ []) (heap-kept (y .count) hint h) ∙ cause-last (directoryCause y d a)
 
-    pub target-file : (n : ℕ) → directoryCause y d a ≡ 0 → n ≡ fileCause y d m a slot → (n ≡ 0 → ⊥) → none n ≡ target y d m a slot hint
-    target-file n q e z = target-refused n (e ∙ sym (open-is y d m a slot hint h q)) z
+    pub target-directory : (n : ℕ) → n ≡ directoryCause y d a → (n ≡ 0 → ⊥)
+        → (noFile n ≡ target y d m a slot hint) × (replicate 608 0 ≡ targetSet y d a slot hint)
+    target-directory n e z = (
+      target-refused n (e ∙ sym (open-not-read y d m a slot hint h (λ q. z (e ∙ q)))) z,
+      set-refused (λ q. z (e ∙ sym set-cause ∙ q)),
+    )
 
-    pub target-done : (b : Allocation) → directoryCause y d a ≡ 0 → fileCause y d m a slot ≡ 0 → b ≡ fileRecord y d (setIn y d a slot)
-        → record { number = 0; directory = a; stream = b } ≡ target y d m a slot hint
-    unfolding target
-    target-done b q e f = rw (open-is y d m a slot hint h q ∙ e) (ap (λ (x : Allocation). record { number = 0; directory = a; stream = x }) f)
+    set-read : directoryCause y d a ≡ 0 → setRead (bytesIn y d a) slot ≡ targetSet y d a slot hint
+    unfolding targetSet
+    set-read q = rw (set-cause ∙ q) refl
+
+    pub target-file : directoryCause y d a ≡ 0 → (openFile y d m a slot ≡ target y d m a slot hint) × (setRead (bytesIn y d a) slot ≡ targetSet y d a slot hint)
+    unfolding target openFile
+    target-file q = (rw (open-is y d m a slot hint h q) refl, set-read q)
 
   -- its number, and the file where that is 0
   pub target-number : target y d m a slot hint .number ≡ openCause y d m a slot hint
@@ -211,12 +301,12 @@ module _ (y : Layout) (d m : List ℕ) (a : Allocation) (slot hint : ℕ) where
   target-number = by (eqb (openCause y d m a slot hint) 0) refl
     where
       by : (t : Bool) → eqb (openCause y d m a slot hint) 0 ≡ t
-          → cond t (record { number = 0; directory = a; stream = fileRecord y d (setIn y d a slot) }) (none (openCause y d m a slot hint)) .number
+          → cond t (record { number = 0; spot = spotOf y d a slot; stream = fileRecord y d (setIn y d a slot) }) (noFile (openCause y d m a slot hint)) .number
           ≡ openCause y d m a slot hint
       by true e = sym (eqb-true (openCause y d m a slot hint) 0 e)
       by false e = refl
 
-  pub target-is : openCause y d m a slot hint ≡ 0 → target y d m a slot hint ≡ record { number = 0; directory = a; stream = fileRecord y d (setIn y d a slot) }
+  target-is : openCause y d m a slot hint ≡ 0 → target y d m a slot hint ≡ record { number = 0; spot = spotOf y d a slot; stream = fileRecord y d (setIn y d a slot) }
   unfolding target
   target-is e = rw e refl
 
@@ -227,44 +317,39 @@ module _ (y : Layout) (d m : List ℕ) (a : Allocation) (slot hint : ℕ) where
       by true q = q
       by false q = absurd (let z = heap-met (y .count) hint q in omega arith)
 
-  module _ (w : Fits y d) (k : y .count ≤ 8 * length m) (f : Target) (e : f ≡ target y d m a slot hint) (z : f .number ≡ 0) where
+  -- a sound file entry has its set read
+  set-sound : fileCause y d m a slot ≡ 0 → setRead (bytesIn y d a) slot ≡ setIn y d a slot
+  set-sound e =
+      let s = sound-at y d m a slot e in
+      let f = sound-file (y .count) (y .size) (bytesIn y d a) slot s in
+      let w = whole-yes (bytesIn y d a) slot f (sound-few (y .count) (y .size) (bytesIn y d a) slot s) (sound-room (y .count) (y .size) (bytesIn y d a) slot s) in
+      sym (read-some y d a slot (λ z. omega (arith, z, w, entries-low (bytesIn y d a) slot)))
+
+  module _ (w : Fits y d) (k : y .count ≤ 8 * length m) (f : OpenFile) (e : f ≡ target y d m a slot hint) (s : List ℕ) (q : s ≡ targetSet y d a slot hint)
+      (z : f .number ≡ 0) where
     open-none : openCause y d m a slot hint ≡ 0
-    open-none = sym target-number ∙ ap (λ (x : Target). x .number) (sym e) ∙ z
+    open-none = sym target-number ∙ ap (λ (x : OpenFile). x .number) (sym e) ∙ z
 
-    pub found-directory : f .directory ≡ a
-    found-directory = ap (λ (x : Target). x .directory) (e ∙ target-is open-none)
-
-    opens-at : (x : Allocation) → x ≡ a → Opens y d m x slot (setIn y d x slot) (f .stream) hint
-    opens-at x q =
+    pub found-opens : Opens y d m a slot s f hint
+    found-opens =
         let c = cause-none (heapCause (y .count) hint) (directoryCause y d a ∷ fileCause y d m a slot ∷ []) (unfold openCause in open-none) in
         let u = cause-none (directoryCause y d a) (fileCause y d m a slot ∷ []) (c .1) in
         let v = cause-none (fileCause y d m a slot) [] (u .1) in
+        let i : s ≡ setIn y d a slot = q ∙ sym (set-read (hint-of (c .0)) (u .0)) ∙ set-sound (v .0) in
         record {
           laid = w .laid;
           apart = w .apart;
           long = w .long;
           map = k;
-          directory = ap (directoryCause y d) q ∙ u .0;
-          file = ap (λ (r : Allocation). fileCause y d m r slot) q ∙ v .0;
-          set = refl;
-          stream = ap (λ (r : Target). r .stream) (e ∙ target-is open-none) ∙ ap (λ (r : Allocation). fileRecord y d (setIn y d r slot)) (sym q);
+          directory = u .0;
+          file = v .0;
+          set = i;
+          spot = ap (λ (x : OpenFile). x .spot) (e ∙ target-is open-none);
+          stream = ap (λ (x : OpenFile). x .stream) (e ∙ target-is open-none) ∙ ap (fileRecord y d) (sym i);
           hint-in = hint-of (c .0);
         }
 
-    pub found-opens : Opens y d m (f .directory) slot (setIn y d (f .directory) slot) (f .stream) hint
-    found-opens = opens-at (f .directory) found-directory
-
--- the set copied is the set there
-pub opens-set : (y : Layout) (d m : List ℕ) (a : Allocation) (slot : ℕ) (s : List ℕ) (b : Allocation) (hint : ℕ)
-    → Opens y d m a slot (setIn y d a slot) b hint → s ≡ setIn y d a slot → Opens y d m a slot s b hint
-opens-set y d m a slot s b hint o e = subst (λ (x : List ℕ). Opens y d m a slot x b hint) (sym e) o
-
--- of a file that opens nothing is refused
-pub opens-none : (y : Layout) (d m : List ℕ) (a : Allocation) (slot : ℕ) (s : List ℕ) (b : Allocation) (hint : ℕ) → Opens y d m a slot s b hint
-    → openCause y d m a slot hint ≡ 0
-opens-none y d m a slot s b hint o = open-is y d m a slot hint (o .hint-in) (o .directory) ∙ o .file
-
--- ---- root and file as code opens them
+-- ---- the root as code opens it
 
 module _ (y : Layout) (d : List ℕ) (root : ℕ) (r : Directory) (e : r ≡ openRoot y d root) where
   abbrev cause : ℕ
@@ -291,20 +376,3 @@ module _ (y : Layout) (d : List ℕ) (root : ℕ) (r : Directory) (e : r ≡ ope
       let x = rootRecord y d root in
       ap (λ (u : Allocation). numberOf (streamOf y d u)) (root-record z)
       ∙ cause-none (numberOf (streamOf y d x)) (bitmapCause y (clustersOf (streamOf y d x)) ∷ []) (unfold directoryCause in (sym root-number ∙ z)) .0
-
-module _ (y : Layout) (d m : List ℕ) (a : Allocation) (slot : ℕ) (r : Opened) (e : r ≡ openFile y d m a slot) where
-  pub file-number : r .number ≡ fileCause y d m a slot
-  file-number = ap (λ (x : Opened). x .number) e ∙ by (eqb (fileCause y d m a slot) 0) refl
-    where
-      by : (t : Bool) → eqb (fileCause y d m a slot) 0 ≡ t → openFile y d m a slot .number ≡ fileCause y d m a slot
-      by true q = unfold openFile in (unfold opened in (rw q (sym (eqb-true (fileCause y d m a slot) 0 q))))
-      by false q = unfold openFile in (unfold opened in (rw q refl))
-
-  stream-is : fileCause y d m a slot ≡ 0 → openFile y d m a slot .allocation ≡ fileRecord y d (setIn y d a slot)
-  unfolding openFile opened
-  stream-is q = rw q refl
-
-  pub file-record : r .number ≡ 0 → r .allocation ≡ fileRecord y d (setIn y d a slot)
-  file-record z =
-      let q : fileCause y d m a slot ≡ 0 = sym file-number ∙ z in
-      ap (λ (x : Opened). x .allocation) e ∙ stream-is q

@@ -30,8 +30,7 @@ use Rattle.stream.proofs.ListingLaws.{stream-read, along-heap}
 use Rattle.stream.proofs.ChainLaws.{stream-listed}
 use Rattle.stream.proofs.Distinct.{read-length}
 use Rattle.stream.proofs.BytesLaws.{along-store}
-use Rattle.entry_set.specs.declared.stamp.Stamp.{Stamp}
-use Rattle.entry_set.specs.Fields.{validLength, dataLength, clustersFor}
+use Rattle.entry_set.specs.Fields.{clustersFor}
 use Rattle.entry_set.proofs.LengthLaws.{clusters-hold}
 use Rattle.write_alloc.specs.declared.answer.Answer.{Answer}
 use Rattle.write_alloc.specs.Outcome.{Outcome}
@@ -39,10 +38,8 @@ use Rattle.write_extend.specs.Extend.{extendIn}
 use Rattle.write_extend.proofs.EnoughLaws.{Extended, extend-done}
 use Rattle.write_alloc.proofs.AllocateLaws.{space-met, space-kept}
 use Rattle.directory.proofs.DirectoryLaws.{clusters-along}
-use Rattle.write_dir.specs.Open.{fileRecord}
-use Rattle.file.specs.Refresh.{entriesOf, stored, refreshedOnly, missing, lengthCause}
+use Rattle.file.specs.Refresh.{entriesOf, missing, lengthCause}
 use Rattle.file.specs.Internal.{knownPlace}
-use Rattle.file.proofs.OpenLaws.{carried-shown}
 
 module _ (y : Layout) (b : Allocation) (len : ℕ) where
   pub missing-is : missing y b len ≡ clustersFor (y .size) len - b .count
@@ -205,13 +202,3 @@ module _ (y : Layout) (d m : List ℕ) (w : Fits y d) (b : Allocation) (len n hi
           ),
         ),
       )
-
--- the entry refreshed
-pub refreshed-is : (y : Layout) (d : List ℕ) (a : Allocation) (slot : ℕ) (s : List ℕ) (t : Stamp) (hint : ℕ) (b : Allocation) (valid len : ℕ)
-    → b ≡ fileRecord y d s → valid ≡ validLength s → len ≡ dataLength s → (e : List ℕ) → e ≡ stored y d (clustersIn y d a) slot s b valid len t
-    → (record { number = 0; slot = 0; hint = hint } ≡ refreshedOnly y d a slot s t hint .answer) × (e ≡ refreshedOnly y d a slot s t hint .volume)
-unfolding refreshedOnly
-refreshed-is y d a slot s t hint b valid len eb ev el e p =
-    carried-shown 0 hint (stored y d (clustersIn y d a) slot s (fileRecord y d s) (validLength s) (dataLength s) t) e
-    (p ∙ ap (λ (x : Allocation). stored y d (clustersIn y d a) slot s x valid len t) eb
-    ∙ ap₂ (λ (v k : ℕ). stored y d (clustersIn y d a) slot s (fileRecord y d s) v k t) ev el)

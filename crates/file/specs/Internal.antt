@@ -1,20 +1,23 @@
 -- What only contracts of inner functions, and proofs, speak of: no promise of a public call and no clause of the claim needs it.
 use mathlib.Core.Path.{_≡_}
 use mathlib.Core.Bool.{true, cond}
-use mathlib.Core.List.{List}
+use mathlib.Core.List.{List, [], _∷_}
 use Prim.Native.Nat.{ℕ, _+_, _*_, _≤_, _-_}
 use lib.Dec.{eqb}
-use lib.ListN.{length}
+use lib.ListN.{length, replicate}
 use Rattle.boot.specs.declared.layout.Layout.{Layout}
 use Rattle.boot.specs.Internal.{Laid, Apart}
 use Rattle.boot.specs.Layout.{inHeap}
+use Rattle.boot.specs.Causes.{firstCause, heapCause}
 use Rattle.stream.specs.declared.allocation.Allocation.{Allocation}
-use Rattle.stream.specs.Stream.{numberOf, streamOf, empty}
-use Rattle.directory.specs.Directory.{directoryCause}
-use Rattle.write_dir.specs.Open.{fileRecord, fileCause, setIn}
-use Rattle.file.specs.declared.target.Target.{Target}
-use Rattle.file.specs.Refresh.{openCause}
 use Rattle.stream.specs.declared.bytes.Place.{Place}
+use Rattle.stream.specs.Bytes.{bytesIn}
+use Rattle.stream.specs.Stream.{numberOf, streamOf}
+use Rattle.directory.specs.declared.open_file.OpenFile.{OpenFile}
+use Rattle.directory.specs.Directory.{directoryCause}
+use Rattle.directory.specs.Open.{fileRecord, fileCause, setIn}
+use Rattle.directory.specs.Internal.{spotOf, setRead, noFile}
+use Rattle.file.specs.Refresh.{openCause}
 
 -- n entries from a slot on, at most 19, stand in directory a, which reads
 pub record Stands (y : Layout) (d : List ℕ) (a : Allocation) (slot n : ℕ) : Type 0 where
@@ -22,8 +25,8 @@ pub record Stands (y : Layout) (d : List ℕ) (a : Allocation) (slot n : ℕ) : 
   pub few : n ≤ 19
   pub room : 32 * (slot + n) ≤ a .count * y .size
 
--- set s at a slot of directory a, with stream b, where nothing refuses directory, file and hint
-pub record Opens (y : Layout) (d m : List ℕ) (a : Allocation) (slot : ℕ) (s : List ℕ) (b : Allocation) (hint : ℕ) : Type 0 where
+-- file f with set s at a slot of directory a, where nothing refuses directory, file and hint
+pub record Opens (y : Layout) (d m : List ℕ) (a : Allocation) (slot : ℕ) (s : List ℕ) (f : OpenFile) (hint : ℕ) : Type 0 where
   pub laid : Laid y
   pub apart : Apart y
   pub long : length d ≡ y .len
@@ -31,15 +34,20 @@ pub record Opens (y : Layout) (d m : List ℕ) (a : Allocation) (slot : ℕ) (s 
   pub directory : directoryCause y d a ≡ 0
   pub file : fileCause y d m a slot ≡ 0
   pub set : s ≡ setIn y d a slot
-  pub stream : b ≡ fileRecord y d s
+  pub spot : f .spot ≡ spotOf y d a slot
+  pub stream : f .stream ≡ fileRecord y d s
   pub hint-in : inHeap (y .count) hint ≡ true
 
--- the file at a slot of directory a as a call finds it: both records, or the number of what refuses it
-unfoldable pub target : (y : Layout) (d m : List ℕ) (a : Allocation) (slot hint : ℕ) → Target
+-- the file at a slot of directory a as a call finds it: where its set stands and its stream's record, or the number of what refuses it
+unfoldable pub target : (y : Layout) (d m : List ℕ) (a : Allocation) (slot hint : ℕ) → OpenFile
 target y d m a slot hint =
-    let number = openCause y d m a slot hint in
-    cond (eqb number 0) (record { number = 0; directory = a; stream = fileRecord y d (setIn y d a slot) })
-    (record { number = number; directory = empty; stream = empty })
+    let n = openCause y d m a slot hint in
+    cond (eqb n 0) (record { number = 0; spot = spotOf y d a slot; stream = fileRecord y d (setIn y d a slot) }) (noFile n)
+
+-- the 608 bytes that this fills: the set where hint and directory are not refused and there is one, else zeros
+unfoldable pub targetSet : (y : Layout) (d : List ℕ) (a : Allocation) (slot hint : ℕ) → List ℕ
+targetSet y d a slot hint =
+    cond (eqb (firstCause (heapCause (y .count) hint ∷ directoryCause y d a ∷ [])) 0) (setRead (bytesIn y d a) slot) (replicate 608 0)
 
 -- the place that is known in stream a, grown from stream b: b's last cluster, or a's first one where b is empty
 unfoldable pub knownPlace : (b a : Allocation) → Place

@@ -13,7 +13,7 @@ use Rattle.entry_set.specs.declared.stamp.Stamp.{Stamp}
 use Rattle.entry_set.specs.Fields.{secondaryCount, validLength, dataLength, clustersFor}
 use Rattle.entry_set.specs.Put.{refreshed}
 use Rattle.directory.specs.Directory.{directoryCause}
-use Rattle.write_dir.specs.Open.{fileRecord, fileCause}
+use Rattle.directory.specs.Open.{fileRecord, fileCause}
 use Rattle.file.specs.Outcome.{Outcome, carried}
 
 -- the entries of set s

@@ -9,17 +9,15 @@ ghost use Rattle.stream.specs.Stream.{numberOf, streamOf, clustersIn};
 ghost use Rattle.stream.specs.Bytes.{storeAt};
 ghost use Rattle.stream.specs.Internal.{Known};
 ghost use Rattle.write_extend.specs.Extend.{extendIn};
-ghost use Rattle.write_dir.specs.Internal.{spotClusters, Reaches};
-ghost use Rattle.write_dir.specs.Open.{fileRecord};
-ghost use Rattle.file.specs.Refresh.{entriesOf, recorded, missing, lengthCause, refreshedOnly};
-ghost use Rattle.file.specs.Internal.{knownPlace, Stands};
-use crate::answer::FileAnswer;
+ghost use Rattle.directory.specs.Internal.{spotClusters, Reaches};
+ghost use Rattle.file.specs.Refresh.{entriesOf, recorded, missing, lengthCause};
+ghost use Rattle.file.specs.Internal.{knownPlace};
 use boot::layout::Layout;
+use directory::spot::Spot;
 use entry_set::stamp::Stamp;
 use stream::allocation::Allocation;
 use stream::bytes::Place;
 use write_alloc::answer::Answer;
-use write_dir::place::Spot;
 
 // The entries of a set.
 pub fn entries_of(set: &[u8; 608]) -> usize
@@ -97,41 +95,16 @@ pub fn record_set(
     vol: &mut [u8],
     y: Layout,
     spot: Spot,
-    set: [u8; 608],
+    set: &mut [u8; 608],
     b: Allocation,
     valid: u64,
     len: u64,
     t: Stamp,
 )
-    requires { ⌜ Laid y × ((length (now vol) ≡ y .len) × Reaches y spot (entriesOf set)) ⌝ }
-    ensures { λ _. ⌜ now (vol .exit) ≡ storeAt y (now (vol .entry)) (spotClusters spot) (spot .at) (take (32 * entriesOf set) (recorded set b valid len t)) ⌝ }
+    requires { ⌜ Laid y × ((length (now vol) ≡ y .len) × Reaches y spot (entriesOf (now set))) ⌝ }
+    ensures { λ _. ⌜ (now (vol .exit) ≡ storeAt y (now (vol .entry)) (spotClusters spot) (spot .at) (take (32 * entriesOf (now (set .entry))) (recorded (now (set .entry)) b valid len t))) × (now (set .exit) ≡ recorded (now (set .entry)) b valid len t) ⌝ }
 {
-    let n = entries_of(&set);
-    let out = entry_set::set::refreshed(set, n, b.first, b.no_fat_chain, valid, len, t);
-    write_dir::place::write_set(vol, y, spot, &out, n);
-}
-
-// Refreshes the entry of a file, and nothing else.
-pub fn refresh_only(
-    vol: &mut [u8],
-    y: Layout,
-    dir: Allocation,
-    slot: u32,
-    set: [u8; 608],
-    b: Allocation,
-    t: Stamp,
-    hint: u32,
-) -> FileAnswer
-    requires { ⌜ Laid y × ((length (now vol) ≡ y .len) × (Stands y (now vol) dir slot (entriesOf set) × (b ≡ fileRecord y (now vol) set))) ⌝ }
-    ensures { λ r. ⌜ (r ≡ refreshedOnly y (now (vol .entry)) dir slot set t hint .answer) × (now (vol .exit) ≡ refreshedOnly y (now (vol .entry)) dir slot set t hint .volume) ⌝ }
-{
-    let spot = write_dir::place::locate(vol, y, dir, slot);
-    let valid = entry_set::entry::valid_length(&set);
-    let len = entry_set::entry::data_length(&set);
-    record_set(vol, y, spot, set, b, valid, len, t);
-    FileAnswer {
-        number: 0,
-        slot: 0,
-        hint: hint,
-    }
+    let n = entries_of(set);
+    entry_set::set::refreshed(set, n, b.first, b.no_fat_chain, valid, len, t);
+    write_dir::place::write_set(vol, y, spot, set, n);
 }

@@ -168,17 +168,16 @@ fn read_from(
     count: u32,
     at: usize,
     dst: &mut [u8],
-    to: usize,
     n: usize,
 )
-    requires { ⌜ Laid y × ((length (now vol) ≡ y .len) × ((every (inHeap (y .count)) (along (fatEntry y (now vol)) run first count) ≡ true) × ((at < y .size) × ((at + n ≤ count * y .size) × (to + n ≤ length (now dst)))))) ⌝ }
-    ensures { λ _. ⌜ now (dst .exit) ≡ splice (now (dst .entry)) to (take n (drop at (bytesOf y (now (vol .entry)) (along (fatEntry y (now (vol .entry))) run first count)))) ⌝ }
+    requires { ⌜ Laid y × ((length (now vol) ≡ y .len) × ((every (inHeap (y .count)) (along (fatEntry y (now vol)) run first count) ≡ true) × ((at < y .size) × ((at + n ≤ count * y .size) × (n ≤ length (now dst)))))) ⌝ }
+    ensures { λ _. ⌜ now (dst .exit) ≡ splice (now (dst .entry)) 0 (take n (drop at (bytesOf y (now (vol .entry)) (along (fatEntry y (now (vol .entry))) run first count)))) ⌝ }
 {
     let mut k = first;
     // The clusters from k on: only the proof needs their number.
     let mut left = count;
     let mut place = at;
-    let mut put = to;
+    let mut put: usize = 0;
     let mut more = n;
     while 0 < more {
         let m = lesser(y.size - place, more);
@@ -211,13 +210,13 @@ pub fn fill(vol: &mut [u8], y: Layout, a: Allocation, known: Place, at: usize, n
     fill_from(vol, y, a.no_fat_chain, k, a.count - steps, at % y.size, n);
 }
 
-// Reads n bytes of a stream, from its byte `at` on, into dst from `to` on.
-pub fn read(vol: &[u8], y: Layout, a: Allocation, at: usize, dst: &mut [u8], to: usize, n: usize)
-    requires { ⌜ Laid y × ((length (now vol) ≡ y .len) × ((every (inHeap (y .count)) (along (fatEntry y (now vol)) (a .«no_fat_chain») (a .first) (a .count)) ≡ true) × ((at + n ≤ a .count * y .size) × (to + n ≤ length (now dst))))) ⌝ }
-    ensures { λ _. ⌜ now (dst .exit) ≡ splice (now (dst .entry)) to (take n (drop at (bytesOf y (now (vol .entry)) (along (fatEntry y (now (vol .entry))) (a .«no_fat_chain») (a .first) (a .count))))) ⌝ }
+// Reads n bytes of a stream, from its byte `at` on, into dst.
+pub fn read(vol: &[u8], y: Layout, a: Allocation, known: Place, at: usize, dst: &mut [u8], n: usize)
+    requires { ⌜ Laid y × ((length (now vol) ≡ y .len) × ((every (inHeap (y .count)) (along (fatEntry y (now vol)) (a .«no_fat_chain») (a .first) (a .count)) ≡ true) × ((at + n ≤ a .count * y .size) × ((n ≤ length (now dst)) × Known y (now vol) a known)))) ⌝ }
+    ensures { λ _. ⌜ now (dst .exit) ≡ splice (now (dst .entry)) 0 (take n (drop at (bytesOf y (now (vol .entry)) (along (fatEntry y (now (vol .entry))) (a .«no_fat_chain») (a .first) (a .count))))) ⌝ }
 {
     let steps = (at / y.size) as u32;
-    let k = seek(vol, y, a.no_fat_chain, a.first, steps);
+    let k = seek_from(vol, y, a, known, steps);
     read_from(
         vol,
         y,
@@ -226,17 +225,6 @@ pub fn read(vol: &[u8], y: Layout, a: Allocation, at: usize, dst: &mut [u8], to:
         a.count - steps,
         at % y.size,
         dst,
-        to,
         n,
     );
-}
-
-// Reads n bytes of a stream, from its byte `at` on, as an entry set followed by zeros.
-pub fn read_set(vol: &[u8], y: Layout, a: Allocation, at: usize, n: usize) -> [u8; 608]
-    requires { ⌜ Laid y × ((length (now vol) ≡ y .len) × ((every (inHeap (y .count)) (along (fatEntry y (now vol)) (a .«no_fat_chain») (a .first) (a .count)) ≡ true) × ((at + n ≤ a .count * y .size) × (n ≤ 608)))) ⌝ }
-    ensures { λ r. ⌜ r ≡ splice (replicate 608 0) 0 (take n (drop at (bytesOf y (now (vol .entry)) (along (fatEntry y (now (vol .entry))) (a .«no_fat_chain») (a .first) (a .count))))) ⌝ }
-{
-    let mut set = [0u8; 608];
-    read(vol, y, a, at, &mut set, 0, n);
-    set
 }

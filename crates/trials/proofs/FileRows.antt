@@ -26,7 +26,7 @@ use Rattle.write_extend.specs.Extend.{moreCause, inPlace, longerRun, longer, ex
 use Rattle.write_alloc.specs.Take.{markRun}
 use Rattle.directory.specs.Directory.{chainRecord, rootRecord, bitmapCause, directoryCause}
 use Rattle.directory.specs.Entries.{entryCount, typeAt, beforeEnd, isFile, entriesAt, setAt, isSound}
-use Rattle.write_dir.specs.Open.{fileRecord, entryCause, directoryAttributeCause, streamCause, setIn, fileCause}
+use Rattle.directory.specs.Open.{fileRecord, entryCause, directoryAttributeCause, streamCause, setIn, fileCause}
 use Rattle.file.specs.Outcome.{carried}
 use Rattle.file.specs.Refresh.{entriesOf, recorded, stored, missing, lengthCause, openCause}
 use Rattle.write_length.specs.SetLength.{smaller, setLengthCause, zeroEnd, longerFile, resized, setLengthIn, setLength}

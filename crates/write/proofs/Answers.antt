@@ -25,7 +25,7 @@ use Rattle.write_shrink.specs.Shrink.{shrinkIn}
 use Rattle.directory.specs.Directory.{directoryCause}
 use Rattle.stream.specs.Stream.{clustersIn}
 use Rattle.file.specs.Outcome.{Outcome, refuse, carried}
-use Rattle.write_dir.specs.Open.{fileRecord, setIn}
+use Rattle.directory.specs.Open.{fileRecord, setIn}
 use Rattle.write_dir.specs.Place.{growBy}
 use Rattle.write_file.specs.NewFile.{newGrowth, newFileCause, placed, newFileIn, newFile}
 use Rattle.file.specs.Refresh.{missing, lengthCause, openCause, refreshedOnly}

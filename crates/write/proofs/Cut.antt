@@ -26,7 +26,7 @@ use Rattle.directory.specs.Internal.{sets}
 use Rattle.directory.proofs.FitLaws.{Fit, fit-high}
 use Rattle.directory.proofs.OrderedLaws.{Ordered, file-room}
 use Rattle.directory.proofs.StoreLaws.{sets-some}
-use Rattle.write_dir.specs.Open.{fileRecord}
+use Rattle.directory.specs.Open.{fileRecord}
 use Rattle.file.specs.Refresh.{entriesOf, openCause}
 use Rattle.write.specs.Consistent.{Consistent, lay, root, rootClusters, rootBytes, setOf}
 use Rattle.write.specs.Demand.{entriesPut}

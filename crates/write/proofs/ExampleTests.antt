@@ -22,7 +22,7 @@ use Rattle.search.proofs.Lowest.{all-whole}
 use Rattle.directory.specs.Directory.{directoryCause}
 use Rattle.stream.specs.Stream.{clustersIn}
 use Rattle.directory.specs.Entries.{typeAt, inUse, beforeEnd, isFile, entriesAt, setAt, isSound}
-use Rattle.write_dir.specs.Open.{fileRecord, streamCause}
+use Rattle.directory.specs.Open.{fileRecord, streamCause}
 use Rattle.write.specs.Consistent.{Consistent, lay, root, rootClusters, rootBytes, fileAt, setOf, streamAt, fileClusters}
 use Rattle.write.specs.Demand.{Lost}
 

@@ -36,7 +36,7 @@ use Rattle.write_extend.proofs.ExtendLaws.{longer-in, longer-out}
 use Rattle.write_extend.proofs.EnoughLaws.{grow-new, grow-longer}
 use Rattle.directory.specs.Directory.{rootRecord}
 use Rattle.directory.specs.Internal.{sets}
-use Rattle.write_dir.specs.Open.{fileRecord}
+use Rattle.directory.specs.Open.{fileRecord}
 use Rattle.write_dir.specs.Place.{GrownDirectory, growOne, growBy}
 use Rattle.write_dir.proofs.AddedLaws.{grow-one}
 use Rattle.write.specs.Calls.{Call}

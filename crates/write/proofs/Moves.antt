@@ -25,7 +25,7 @@ use Rattle.directory.specs.Internal.{sets}
 use Rattle.directory.specs.Room.{withZeros}
 use Rattle.directory.proofs.GrowthLaws.{zeros-none}
 use Rattle.directory.proofs.OrderedLaws.{Ordered}
-use Rattle.write_dir.specs.Open.{fileRecord}
+use Rattle.directory.specs.Open.{fileRecord}
 use Rattle.write.specs.Consistent.{lay, rootClusters, rootBytes, setOf}
 use Rattle.write.specs.Demand.{entriesPut}
 use Rattle.write.proofs.Family.{Family, Outside, Moved}

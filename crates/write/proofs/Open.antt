@@ -14,7 +14,7 @@ use Rattle.directory.specs.Entries.{isSound}
 use Rattle.directory.specs.Internal.{sets}
 use Rattle.directory.proofs.EntryLaws.{sound-file}
 use Rattle.directory.proofs.StoreLaws.{sets-file}
-use Rattle.write_dir.specs.Open.{entryCause, directoryAttributeCause, setIn, fileCause}
+use Rattle.directory.specs.Open.{entryCause, directoryAttributeCause, setIn, fileCause}
 use Rattle.file.specs.Refresh.{openCause}
 use Rattle.write.specs.Consistent.{lay, root, rootBytes, fileAt, setOf}
 use Rattle.write.proofs.Scene.{both-clear, if-clear}

@@ -21,7 +21,7 @@ use Rattle.entry_set.specs.Fields.{dataLength}
 use Rattle.entry_set.specs.New.{newEntries, newSet}
 use Rattle.directory.specs.Directory.{directoryCause}
 use Rattle.file.specs.Outcome.{Outcome}
-use Rattle.write_dir.specs.Open.{fileRecord, setIn, fileCause, streamCause}
+use Rattle.directory.specs.Open.{fileRecord, setIn, fileCause, streamCause}
 use Rattle.write_file.specs.NewFile.{newGrowth, newFileCause}
 use Rattle.file.specs.Refresh.{missing, lengthCause, openCause, refreshedOnly}
 use Rattle.write_file.specs.Write.{larger, dataCause, writeCause, written}

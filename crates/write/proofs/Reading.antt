@@ -30,7 +30,7 @@ use Rattle.stream.proofs.BytesLaws.{length-of}
 use Rattle.entry_set.specs.Fields.{noFatChain, firstCluster, dataLength, clustersFor}
 use Rattle.directory.specs.Directory.{chainRecord, rootRecord}
 use Rattle.stream.specs.Bytes.{bytesIn}
-use Rattle.write_dir.specs.Open.{fileRecord}
+use Rattle.directory.specs.Open.{fileRecord}
 use Rattle.file.proofs.RefreshLaws.{stream-is}
 
 -- ---- a record that is not refused

@@ -19,7 +19,7 @@ use Rattle.entry_set.proofs.SetLaws.{StreamFits, refreshed-length, refreshed-by
 use Rattle.entry_set.proofs.LengthLaws.{clusters-hold, clusters-none, clusters-some}
 use Rattle.directory.proofs.FitLaws.{Fit, fit-low}
 use Rattle.directory.proofs.CursorLaws.{count-few}
-use Rattle.write_dir.specs.Open.{fileRecord}
+use Rattle.directory.specs.Open.{fileRecord}
 use Rattle.file.specs.Refresh.{entriesOf, recorded}
 use Rattle.write.proofs.Reading.{number-of, first-heap, run-ends, file-back}
 

@@ -24,7 +24,7 @@ use Rattle.directory.specs.Internal.{sets}
 use Rattle.directory.proofs.FitLaws.{Fit, fit-high}
 use Rattle.directory.proofs.StoreLaws.{sets-some, removed-ordered, removed-sets}
 use Rattle.file.specs.Outcome.{carried}
-use Rattle.write_dir.specs.Open.{fileRecord, setIn}
+use Rattle.directory.specs.Open.{fileRecord, setIn}
 use Rattle.file.specs.Refresh.{entriesOf, openCause}
 use Rattle.write_remove.specs.Remove.{unlinked}
 use Rattle.write.specs.Calls.{Remove, step}

@@ -35,7 +35,7 @@ use Rattle.directory.proofs.FitLaws.{Fit}
 use Rattle.directory.proofs.OrderedLaws.{file-room}
 use Rattle.directory.proofs.StoreLaws.{sets-some, replaced-ordered, replaced-sets}
 use Rattle.file.specs.Outcome.{carried}
-use Rattle.write_dir.specs.Open.{fileRecord}
+use Rattle.directory.specs.Open.{fileRecord}
 use Rattle.file.specs.Refresh.{entriesOf, recorded, stored, missing}
 use Rattle.write.specs.Calls.{Call, step}
 use Rattle.write.specs.Consistent.{Consistent, lay, root, rootClusters, rootBytes, setOf, fileClusters}

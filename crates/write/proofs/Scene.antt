@@ -39,7 +39,7 @@ use Rattle.directory.specs.Internal.{sets}
 use Rattle.directory.proofs.FitLaws.{Fit}
 use Rattle.directory.proofs.OrderedLaws.{Ordered, file-fit}
 use Rattle.directory.proofs.StoreLaws.{sets-some}
-use Rattle.write_dir.specs.Open.{fileRecord, streamCause}
+use Rattle.directory.specs.Open.{fileRecord, streamCause}
 use Rattle.file.proofs.CallLaws as call
 use Rattle.write.specs.Consistent.{Consistent, lay, root, rootClusters, rootBytes, fileAt, setOf, streamAt, fileClusters}
 use Rattle.write.specs.Demand.{Lost}

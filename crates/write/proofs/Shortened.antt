@@ -29,7 +29,7 @@ use Rattle.directory.proofs.FitLaws.{Fit}
 use Rattle.directory.proofs.StoreLaws.{sets-some, replaced-ordered, replaced-sets}
 use Rattle.directory.proofs.DirectoryLaws.{clusters-length}
 use Rattle.file.specs.Outcome.{carried}
-use Rattle.write_dir.specs.Open.{fileRecord, setIn}
+use Rattle.directory.specs.Open.{fileRecord, setIn}
 use Rattle.file.specs.Refresh.{entriesOf, recorded, stored, openCause}
 use Rattle.write_length.specs.SetLength.{smaller, setLengthCause, shorter, resized}
 use Rattle.write.specs.Calls.{SetLength, step}

@@ -32,7 +32,7 @@ use Rattle.write_extend.proofs.ExtendLaws.{extend-none}
 use Rattle.stream.specs.Stream.{clustersIn}
 use Rattle.directory.specs.Internal.{sets}
 use Rattle.file.specs.Outcome.{carried}
-use Rattle.write_dir.specs.Open.{fileRecord, setIn}
+use Rattle.directory.specs.Open.{fileRecord, setIn}
 use Rattle.file.specs.Refresh.{recorded, stored, missing, lengthCause, openCause, refreshedOnly}
 use Rattle.write_file.specs.Write.{larger, dataCause, writeCause, withData, written}
 use Rattle.write_length.specs.SetLength.{setLengthCause, zeroEnd, longerFile, resized}

@@ -16,7 +16,7 @@ use Rattle.directory.specs.Directory.{rootRecord, directoryCause}
 use Rattle.stream.specs.Stream.{clustersIn}
 use Rattle.stream.specs.Bytes.{bytesIn}
 use Rattle.directory.specs.Entries.{typeAt, inUse, isFile, entriesAt, setAt, isSound}
-use Rattle.write_dir.specs.Open.{fileRecord, streamCause}
+use Rattle.directory.specs.Open.{fileRecord, streamCause}
 
 -- the places of the volume's parts
 unfoldable pub lay : Geometry → List ℕ → Layout

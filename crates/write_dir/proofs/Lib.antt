@@ -2,5 +2,4 @@ pub mod InsertLaws
 pub mod PlaceLaws
 pub mod AddedLaws
 pub mod GrownLaws
-pub mod OpenLaws
 pub mod KeepLaws

@@ -1,3 +1,2 @@
-pub mod Open
 pub mod Place
 pub mod Internal

@@ -1,3 +1,2 @@
-// A file opened by its slot, a set stored, and a directory that grows (from write_dir.rs).
-pub mod open_file;
+// A set stored, and a directory that grows (from write_dir.rs).
 pub mod place;

@@ -1,63 +1,23 @@
-// Where a set stands in a directory, the set stored there, and clusters added to a directory (Rust: `insert`, `grow`).
+// A set stored where it stands in a directory, and clusters added to a directory (Rust: `insert`, `grow`).
 ghost use mathlib.Core.Path.{_≡_};
 ghost use mathlib.Core.Bool.{true};
 ghost use Prim.Native.Nat.{_+_, _-_, _*_, _≤_, _<_};
-ghost use lib.ListN.{length, getD, take, drop};
-ghost use Rattle.tables.specs.Lists.{every};
+ghost use lib.ListN.{length, take, drop};
 ghost use Rattle.boot.specs.Internal.{Laid, Apart};
 ghost use Rattle.boot.specs.Layout.{inHeap};
-ghost use Rattle.metadata.specs.Fat.{fatEntry};
 ghost use Rattle.metadata.specs.Cluster.{putBytes};
-ghost use Rattle.stream.specs.Stream.{numberOf, streamOf};
-ghost use Rattle.stream.specs.Internal.{along};
 ghost use Rattle.stream.specs.Bytes.{storeAt};
-ghost use Rattle.write_dir.specs.Internal.{spotOf, spotClusters, Reaches, Growable, standing, addedOf};
+ghost use Rattle.directory.specs.Internal.{spotClusters, Reaches};
+ghost use Rattle.write_dir.specs.Internal.{Growable, standing, addedOf};
 ghost use Rattle.write_dir.specs.Place.{growOne, growBy};
 use boot::layout::Layout;
+use directory::spot::Spot;
 use stream::allocation::Allocation;
-
-// The clusters that a set reaches, three at most, 0 where there is none, and the byte in the first one.
-pub struct Spot {
-    pub first: u32,
-    pub second: u32,
-    pub third: u32,
-    pub at: usize,
-}
 
 // A directory's record after growth, and the hint.
 pub struct Added {
     pub allocation: Allocation,
     pub hint: u32,
-}
-
-// The cluster after k in a stream that has so many from k on, 0 where k is the last one.
-fn cluster_after(vol: &[u8], y: Layout, run: bool, k: u32, left: u32) -> u32
-    requires { ⌜ Laid y × ((length (now vol) ≡ y .len) × (every (inHeap (y .count)) (along (fatEntry y (now vol)) run k left) ≡ true)) ⌝ }
-    ensures { λ r. ⌜ r ≡ getD (along (fatEntry y (now (vol .entry))) run k left) 1 0 ⌝ }
-{
-    if 1 < left {
-        return stream::walk::next_cluster(vol, y, run, k);
-    }
-    0
-}
-
-// Where the set from a slot on stands.
-pub fn locate(vol: &[u8], y: Layout, dir: Allocation, slot: u32) -> Spot
-    requires { ⌜ Laid y × ((length (now vol) ≡ y .len) × ((numberOf (streamOf y (now vol) dir) ≡ 0) × (32 * slot < dir .count * y .size))) ⌝ }
-    ensures { λ r. ⌜ r ≡ spotOf y (now (vol .entry)) dir slot ⌝ }
-{
-    let place = 32 * (slot as usize);
-    let steps = (place / y.size) as u32;
-    let left = dir.count - steps;
-    let first = stream::bytes::seek(vol, y, dir.no_fat_chain, dir.first, steps);
-    let second = cluster_after(vol, y, dir.no_fat_chain, first, left);
-    let third = cluster_after(vol, y, dir.no_fat_chain, second, left - 1);
-    Spot {
-        first: first,
-        second: second,
-        third: third,
-        at: place % y.size,
-    }
 }
 
 // Stores as many of n bytes of src, from `from` on, as cluster k has room for from its byte `at` on, and answers how many.

@@ -20,7 +20,7 @@ use Rattle.stream.proofs.KeepLaws.{store-on}
 use Rattle.entry_set.specs.declared.stamp.Stamp.{Stamp}
 use Rattle.entry_set.specs.Fields.{validLength, dataLength}
 use Rattle.file.specs.Outcome.{carried}
-use Rattle.write_dir.specs.Open.{fileRecord}
+use Rattle.directory.specs.Open.{fileRecord}
 use Rattle.write_dir.specs.Place.{GrownDirectory, growBy}
 use Rattle.write_dir.proofs.AddedLaws.{grow-many, zeroed-clusters}
 use Rattle.write_dir.proofs.KeepLaws.{grow-on}

@@ -35,20 +35,20 @@ use Rattle.search.proofs.Lowest.{run-at}
 use Rattle.directory.specs.declared.directory.Directory.{Directory}
 use Rattle.directory.specs.declared.entries.Room.{Room}
 use Rattle.directory.specs.Directory.{rootRecord, directoryCause}
-use Rattle.directory.specs.Internal.{openRoot, roomFor}
+use Rattle.directory.specs.Internal.{openRoot, roomFor, spotOf, spotClusters}
 use Rattle.directory.specs.Entries.{entryCount, inUse}
 use Rattle.directory.specs.Room.{freeRun, slotOf, withZeros, growth}
 use Rattle.directory.proofs.CursorLaws.{length-entries, entries-is, slot-bytes}
 use Rattle.directory.proofs.GrowthLaws.{place-at, grown-at}
 use Rattle.directory.proofs.DirectoryLaws.{clusters-length}
-use Rattle.write_dir.specs.declared.place.Spot.{Spot}
+use Rattle.directory.specs.declared.spot.Spot.{Spot}
 use Rattle.write_dir.specs.declared.place.Added.{Added}
 use Rattle.file.specs.Outcome.{refuse, carried}
 use Rattle.write_dir.specs.Place.{GrownDirectory, growBy}
-use Rattle.write_dir.specs.Internal.{Growable, standing, addedOf, spotOf, spotClusters}
+use Rattle.write_dir.specs.Internal.{Growable, standing, addedOf}
 use Rattle.write_dir.proofs.AddedLaws.{Zeroed, grow-many}
 use Rattle.write_dir.proofs.GrownLaws.{zeroed-in}
-use Rattle.write_dir.proofs.PlaceLaws.{spot-store}
+use Rattle.directory.proofs.SpotLaws.{spot-store}
 use Rattle.file.specs.Internal.{Stands}
 use Rattle.write_file.specs.Internal.{Ready}
 use Rattle.write_file.specs.NewFile.{newGrowth, newFileCause, placed, newFileIn, newFile}

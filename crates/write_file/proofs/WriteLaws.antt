@@ -1,9 +1,9 @@
 -- What write answers and leaves. Assumes nothing.
-use mathlib.Core.Path.{_≡_, refl, sym, _∙_, ap}
+use mathlib.Core.Path.{_≡_, refl, sym, _∙_, ap, ap₂}
 use mathlib.Core.Bool.{cond}
 use mathlib.Core.List.{List, [], _∷_}
 use Prim.Native.Nat.{ℕ, _+_, _-_, _≤_, _<_}
-use native.Mathlib.Decide.{decLt}
+use native.Mathlib.Decide.{ℕ-discrete}
 use native.Mathlib.Omega.{arith}
 use lib.Dec.{eqb}
 use lib.ListN.{length, replicate}
@@ -24,8 +24,10 @@ use Rattle.write_extend.specs.Extend.{extendIn}
 use Rattle.directory.specs.Directory.{rootRecord}
 use Rattle.stream.specs.Stream.{clustersIn}
 use Rattle.file.specs.Outcome.{Outcome, carried, refuse}
-use Rattle.write_dir.specs.Open.{fileRecord, setIn}
+use Rattle.directory.specs.Open.{fileRecord, setIn}
 use Rattle.file.specs.Refresh.{stored, missing, lengthCause, openCause, refreshedOnly}
+use Rattle.write_file.specs.declared.write.DataAnswer.{DataAnswer}
+use Rattle.write_file.specs.Internal.{DataOutcome, storeCause, unstored, dataStored}
 use Rattle.write_file.specs.Write.{larger, endCause, dataCause, withData, written, writeCause, writeIn, writeInto}
 
 pub larger-right : (a b : ℕ) → a ≤ b → larger a b ≡ b
@@ -40,68 +42,76 @@ pub larger-above : (a b : ℕ) → b ≤ larger a b
 unfolding larger
 larger-above a b = omega arith
 
-module _ (y : Layout) (d m s : List ℕ) (offset n : ℕ) where
-  pub data-past : 18446744073709551615 < offset + n → dataCause y d m s offset n ≡ 8
-  unfolding dataCause endCause
-  data-past h = rw (le-ltb (offset + n) 18446744073709551616 (omega arith)) (unfold firstCause in refl)
-
-  pub data-space : (b : Allocation) → offset + n ≤ 18446744073709551615 → b ≡ fileRecord y d s
-      → lengthCause y d m b (larger (dataLength s) (offset + n)) ≡ dataCause y d m s offset n
-  unfolding dataCause endCause
-  data-space b h e =
-      let c = lengthCause y d m (fileRecord y d s) (larger (dataLength s) (offset + n)) in
-      rw (lt-ltb (offset + n) 18446744073709551616 (omega arith), e) (sym (cause-skip 0 (c ∷ []) refl ∙ cause-last c))
-
-  -- where nothing refuses the data
-  pub data-end : dataCause y d m s offset n ≡ 0 → offset + n ≤ 18446744073709551615
-  data-end e =
-      elim (decLt 18446744073709551615 (offset + n)) [
-        | yes h ↦ absurd (let q = data-past h in omega arith)
-        | no h ↦ omega arith
-      ]
-
-  pub data-enough : (b : Allocation) → b ≡ fileRecord y d s → dataCause y d m s offset n ≡ 0
-      → lengthCause y d m b (larger (dataLength s) (offset + n)) ≡ 0
-  data-enough b q e = data-space b (data-end e) q ∙ e
-
 -- zeros, then data
 pub data-is : (y : Layout) (d d′ d″ js : List ℕ) (valid offset : ℕ) (bs : List ℕ) → d′ ≡ storeAt y d js valid (replicate (offset - valid) 0)
     → d″ ≡ storeAt y d′ js offset bs → d″ ≡ withData y d js valid offset bs
 unfolding withData
 data-is y d d′ d″ js valid offset bs p q = q ∙ ap (λ (l : List ℕ). storeAt y l js offset bs) p
 
--- data written: b is the file's stream, o what growing it gave, r its answer, v and k the old lengths, valid and len the new ones
-module _ (y : Layout) (d m : List ℕ) (a : Allocation) (slot : ℕ) (s : List ℕ) (offset : ℕ) (bs : List ℕ) (t : Stamp) (hint : ℕ) where
-  abbrev grown : Allocation → ℕ → Alloc.Outcome
-  grown b len = extendIn y d m b (missing y b len) hint
+-- ---- data stored in a file's stream
 
-  written-from : (o : Alloc.Outcome) (r : Answer) (v valid len : ℕ) (e e′ : List ℕ) → r ≡ o .answer
-      → e ≡ withData y (o .volume) (clustersIn y (o .volume) (r .allocation)) v offset bs → e′ ≡ stored y e (clustersIn y d a) slot s (r .allocation) valid len t
-      → (record { number = 0; slot = 0; hint = r .hint }
-      ≡ carried 0 (o .answer .hint)
-      (stored y (withData y (o .volume) (clustersIn y (o .volume) (o .answer .allocation)) v offset bs) (clustersIn y d a) slot s (o .answer .allocation) valid len t)
-      .answer)
-      × (e′
-      ≡ carried 0 (o .answer .hint)
-      (stored y (withData y (o .volume) (clustersIn y (o .volume) (o .answer .allocation)) v offset bs) (clustersIn y d a) slot s (o .answer .allocation) valid len t)
-      .volume)
-  unfolding carried
-  written-from o r v valid len e e′ p q z =
-      let c : List ℕ → Allocation → List ℕ = λ l x. stored y l (clustersIn y d a) slot s x valid len t in
-      let f : Answer → List ℕ = λ x. c (withData y (o .volume) (clustersIn y (o .volume) (x .allocation)) v offset bs) (x .allocation) in
-      (ap (λ (x : Answer). record { number = 0; slot = 0; hint = x .hint }) p, z ∙ ap (λ (l : List ℕ). c l (r .allocation)) q ∙ ap f p)
+module _ (y : Layout) (d m : List ℕ) (b : Allocation) (len offset n : ℕ) where
+  store-past : 18446744073709551615 < offset + n → storeCause y d m b len offset n ≡ 8
+  unfolding storeCause endCause
+  store-past h = rw (le-ltb (offset + n) 18446744073709551616 (omega arith)) (unfold firstCause in refl)
 
-  pub written-is : (b : Allocation) (v k valid len : ℕ) → b ≡ fileRecord y d s → v ≡ validLength s → k ≡ dataLength s
-      → valid ≡ larger v (offset + length bs) → len ≡ larger k (offset + length bs) → (r : Answer) (e e′ : List ℕ) → r ≡ grown b len .answer
-      → e ≡ withData y (grown b len .volume) (clustersIn y (grown b len .volume) (r .allocation)) v offset bs
-      → e′ ≡ stored y e (clustersIn y d a) slot s (r .allocation) valid len t
-      → (record { number = 0; slot = 0; hint = r .hint } ≡ written y d m a slot s offset bs t hint .answer) × (e′ ≡ written y d m a slot s offset bs t hint .volume)
-  unfolding written
-  written-is b v k valid len eb ev ek eu el r e e′ p q z =
-      let f : valid ≡ larger (validLength s) (offset + length bs) = eu ∙ ap (λ (x : ℕ). larger x (offset + length bs)) ev in
-      let g : len ≡ larger (dataLength s) (offset + length bs) = el ∙ ap (λ (x : ℕ). larger x (offset + length bs)) ek in
-      written-from (grown (fileRecord y d s) (larger (dataLength s) (offset + length bs))) r (validLength s) (larger (validLength s) (offset + length bs))
-      (larger (dataLength s) (offset + length bs)) e e′ (rw (eb, g) at p) (rw (eb, g, ev) at q) (rw (f, g) at z)
+  store-space : offset + n ≤ 18446744073709551615 → storeCause y d m b len offset n ≡ lengthCause y d m b (larger len (offset + n))
+  unfolding storeCause endCause
+  store-space h =
+      let c = lengthCause y d m b (larger len (offset + n)) in
+      rw (lt-ltb (offset + n) 18446744073709551616 (omega arith)) (cause-skip 0 (c ∷ []) refl ∙ cause-last c)
+
+module _ (y : Layout) (d m : List ℕ) (b : Allocation) (valid len offset : ℕ) (bs : List ℕ) (hint : ℕ) where
+  abbrev all : DataOutcome
+  all = dataStored y d m b valid len offset bs hint
+
+  as-unstored : (k : ℕ) → all ≡ unstored k b valid len hint d → (r : DataAnswer) → r ≡ unstored k b valid len hint d .answer → (r ≡ all .answer) × (d ≡ all .volume)
+  as-unstored k q r e = (e ∙ ap (λ (x : DataOutcome). x .answer) (sym q), ap (λ (x : DataOutcome). x .volume) (sym q))
+
+  none-is : length bs ≡ 0 → all ≡ unstored 0 b valid len hint d
+  unfolding dataStored
+  none-is e = rw (eq-eqb (length bs) 0 e) refl
+
+  pub stored-none : length bs ≡ 0 → (r : DataAnswer) → r ≡ unstored 0 b valid len hint d .answer → (r ≡ all .answer) × (d ≡ all .volume)
+  stored-none e = as-unstored 0 (none-is e)
+
+  module _ (some : length bs ≡ 0 → ⊥) where
+    refused-is : (k : ℕ) → storeCause y d m b len offset (length bs) ≡ k → (k ≡ 0 → ⊥) → all ≡ unstored k b valid len hint d
+    unfolding dataStored
+    refused-is k e z = rw (ne-eqb (length bs) 0 some, e, ne-eqb k 0 z) refl
+
+    done-is : storeCause y d m b len offset (length bs) ≡ 0 → (o : Alloc.Outcome) → o ≡ extendIn y d m b (missing y b (larger len (offset + length bs))) hint
+        → all ≡ record {
+          answer = record { number = 0; allocation = o .answer .allocation; valid = larger valid (offset + length bs); len = larger len (offset + length bs); hint = o .answer .hint };
+          volume = withData y (o .volume) (clustersIn y (o .volume) (o .answer .allocation)) valid offset bs;
+        }
+    unfolding dataStored
+    done-is e o q = rw (ne-eqb (length bs) 0 some, e, q) refl
+
+    pub stored-past : 18446744073709551615 < offset + length bs → (r : DataAnswer) → r ≡ unstored 8 b valid len hint d .answer
+        → (r ≡ all .answer) × (d ≡ all .volume)
+    stored-past h = as-unstored 8 (refused-is 8 (store-past y d m b len offset (length bs) h) (λ z. omega arith))
+
+    module _ (h : offset + length bs ≤ 18446744073709551615) (goal : ℕ) (g : goal ≡ larger len (offset + length bs)) where
+      cause-goal : storeCause y d m b len offset (length bs) ≡ lengthCause y d m b goal
+      cause-goal = store-space y d m b len offset (length bs) h ∙ ap (lengthCause y d m b) (sym g)
+
+      pub stored-refused : (k : ℕ) → k ≡ lengthCause y d m b goal → (k ≡ 0 → ⊥) → (r : DataAnswer) → r ≡ unstored k b valid len hint d .answer
+          → (r ≡ all .answer) × (d ≡ all .volume)
+      stored-refused k e z = as-unstored k (refused-is k (cause-goal ∙ sym e) z)
+
+      pub stored-done : lengthCause y d m b goal ≡ 0 → (v : ℕ) → v ≡ larger valid (offset + length bs) → (r : Answer) (e : List ℕ)
+          → r ≡ extendIn y d m b (missing y b goal) hint .answer
+          → e ≡ withData y (extendIn y d m b (missing y b goal) hint .volume) (clustersIn y (extendIn y d m b (missing y b goal) hint .volume) (r .allocation)) valid offset bs
+          → (record { number = 0; allocation = r .allocation; valid = v; len = goal; hint = r .hint } ≡ all .answer) × (e ≡ all .volume)
+      stored-done k v u r e p q =
+          let o = extendIn y d m b (missing y b goal) hint in
+          let w = done-is (cause-goal ∙ k) o (ap (λ (x : ℕ). extendIn y d m b (missing y b x) hint) g) in (
+            ap (λ (x : Answer). record { number = 0; allocation = x .allocation; valid = v; len = goal; hint = x .hint }) p
+                ∙ ap₂ (λ (i j : ℕ). record { number = 0; allocation = o .answer .allocation; valid = i; len = j; hint = o .answer .hint }) u g
+                ∙ ap (λ (x : DataOutcome). x .answer) (sym w),
+            q ∙ ap (λ (x : Answer). withData y (o .volume) (clustersIn y (o .volume) (x .allocation)) valid offset bs) p ∙ ap (λ (x : DataOutcome). x .volume) (sym w),
+          )
 
 -- ---- the call
 
@@ -142,6 +152,62 @@ module _ (y : Layout) (d m : List ℕ) (a : Allocation) (slot offset : ℕ) (bs 
       pub write-done : dataCause y d m (setIn y d a slot) offset (length bs) ≡ 0 → call ≡ written y d m a slot (setIn y d a slot) offset bs t hint
       unfolding writeIn
       write-done e = rw (data-number ∙ e, ne-eqb (length bs) 0 some) refl
+
+-- ---- the call by what storing the data gives
+
+module _ (y : Layout) (d m : List ℕ) (a : Allocation) (slot offset : ℕ) (bs : List ℕ) (t : Stamp) (hint : ℕ) (o : openCause y d m a slot hint ≡ 0) where
+  abbrev s : List ℕ
+  s = setIn y d a slot
+
+  abbrev b : Allocation
+  b = fileRecord y d (setIn y d a slot)
+
+  abbrev w : DataOutcome
+  w = dataStored y d m b (validLength s) (dataLength s) offset bs hint
+
+  abbrev end : Outcome
+  end = carried 0 (w .answer .hint) (stored y (w .volume) (clustersIn y d a) slot s (w .answer .allocation) (w .answer .valid) (w .answer .len) t)
+
+  -- both cases at once: data refused, or stored
+  abbrev Joined : Type 0
+  Joined =
+      ((w .answer .number ≡ 0 → ⊥) → (writeIn y d m a slot offset bs t hint ≡ refuse (w .answer .number) hint d) × (w .volume ≡ d))
+      × (w .answer .number ≡ 0 → writeIn y d m a slot offset bs t hint ≡ end)
+
+  by-outcome : (x : DataOutcome) → w ≡ x
+      → ((x .answer .number ≡ 0 → ⊥) → (writeIn y d m a slot offset bs t hint ≡ refuse (x .answer .number) hint d) × (x .volume ≡ d))
+      × (x .answer .number ≡ 0
+      → writeIn y d m a slot offset bs t hint
+      ≡ carried 0 (x .answer .hint) (stored y (x .volume) (clustersIn y d a) slot s (x .answer .allocation) (x .answer .valid) (x .answer .len) t))
+      → Joined
+  by-outcome x q j = rw q j
+
+  pub write-joined : Joined
+  write-joined =
+      elim (ℕ-discrete (length bs) 0) [
+        | yes e ↦
+            by-outcome (unstored 0 b (validLength s) (dataLength s) hint d) (none-is y d m b (validLength s) (dataLength s) offset bs hint e)
+            ((λ z. absurd (z refl)), (λ z. write-nothing y d m a slot offset bs t hint o e ∙ (unfold refreshedOnly in refl)))
+        | no f ↦
+            let k = storeCause y d m b (dataLength s) offset (length bs) in
+            let c : dataCause y d m s offset (length bs) ≡ k = unfold storeCause in (unfold dataCause in refl) in
+            elim (ℕ-discrete k 0) [
+              | yes z ↦
+                  let l = larger (dataLength s) (offset + length bs) in
+                  by-outcome _ (done-is y d m b (validLength s) (dataLength s) offset bs hint f z (extendIn y d m b (missing y b l) hint) refl)
+                  ((λ u. absurd (u refl)), (λ u. write-done y d m a slot offset bs t hint o f (c ∙ z) ∙ (unfold written in refl)))
+              | no z ↦
+                  by-outcome (unstored k b (validLength s) (dataLength s) hint d) (refused-is y d m b (validLength s) (dataLength s) offset bs hint f k refl z)
+                  ((λ u. (write-not y d m a slot offset bs t hint o f k (sym c) z, refl)), (λ u. absurd (z u)))
+            ]
+      ]
+
+  -- the same by what code has in hand: the set, its stream's record and its lengths
+  pub write-stored : (s : List ℕ) → s ≡ setIn y d a slot → (x : Allocation) → x ≡ fileRecord y d s → (v k : ℕ) → v ≡ validLength s → k ≡ dataLength s
+      → (r : DataAnswer) (e : List ℕ) → r ≡ dataStored y d m x v k offset bs hint .answer → e ≡ dataStored y d m x v k offset bs hint .volume
+      → ((r .number ≡ 0 → ⊥) → (writeIn y d m a slot offset bs t hint ≡ refuse (r .number) hint d) × (e ≡ d))
+      × (r .number ≡ 0 → writeIn y d m a slot offset bs t hint ≡ carried 0 (r .hint) (stored y e (clustersIn y d a) slot s (r .allocation) (r .valid) (r .len) t))
+  write-stored s es x ex v k ev ek r e p q = rw (p, q, ex, ev, ek, es) write-joined
 
 module _ (g : Geometry) (d m : List ℕ) (slot offset : ℕ) (bs : List ℕ) (t : Stamp) (hint : ℕ) where
   pub write-is : (y : Layout) → Admits g d m y

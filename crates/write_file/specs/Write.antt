@@ -17,7 +17,7 @@ use Rattle.write_extend.specs.Extend.{extendIn}
 use Rattle.directory.specs.Directory.{rootRecord}
 use Rattle.stream.specs.Stream.{clustersIn}
 use Rattle.file.specs.Outcome.{Outcome, refuse, carried}
-use Rattle.write_dir.specs.Open.{fileRecord, setIn}
+use Rattle.directory.specs.Open.{fileRecord, setIn}
 use Rattle.file.specs.Refresh.{stored, refreshedOnly, missing, lengthCause, openCause}
 
 -- the larger of two numbers

@@ -48,7 +48,7 @@ fn insert(
     ensures { λ r. ⌜ (r ≡ placed y (growBy y (now (map .entry)) (room .clusters) (standing (now (vol .entry)) dir hint)) n (now (set .entry)) .answer) × (now (vol .exit) ≡ placed y (growBy y (now (map .entry)) (room .clusters) (standing (now (vol .entry)) dir hint)) n (now (set .entry)) .volume) ⌝ }
 {
     let w = write_dir::place::grow_by(vol, map, y, dir, room.clusters, hint);
-    let spot = write_dir::place::locate(vol, y, w.allocation, room.slot);
+    let spot = directory::spot::locate(vol, y, w.allocation, room.slot);
     write_dir::place::write_set(vol, y, spot, set, n);
     FileAnswer {
         number: 0,

@@ -7,13 +7,11 @@ ghost use Rattle.boot.specs.Internal.{Laid, Apart};
 ghost use Rattle.boot.specs.Layout.{inHeap};
 ghost use Rattle.stream.specs.Stream.{numberOf, streamOf, clustersIn};
 ghost use Rattle.stream.specs.Internal.{Known};
-ghost use Rattle.entry_set.specs.Fields.{dataLength};
 ghost use Rattle.write_extend.specs.Extend.{extendIn};
 ghost use Rattle.directory.specs.Directory.{rootRecord};
-ghost use Rattle.write_dir.specs.Open.{fileRecord, setIn};
 ghost use Rattle.file.specs.Refresh.{missing, lengthCause};
-ghost use Rattle.file.specs.Internal.{Opens};
-ghost use Rattle.write_file.specs.Write.{larger, dataCause, withData, written, writeIn, writeInto};
+ghost use Rattle.write_file.specs.Internal.{dataStored};
+ghost use Rattle.write_file.specs.Write.{larger, withData, writeIn, writeInto};
 use boot::geometry::Geometry;
 use boot::layout::Layout;
 use entry_set::stamp::Stamp;
@@ -21,6 +19,15 @@ use file::answer::FileAnswer;
 use stream::allocation::Allocation;
 use stream::bytes::Place;
 use write_alloc::answer::Answer;
+
+// What storing data makes of a file but its set: the stream, both lengths and the hint; or the number of what refuses it.
+pub struct DataAnswer {
+    pub number: u32,
+    pub allocation: Allocation,
+    pub valid: u64,
+    pub len: u64,
+    pub hint: u32,
+}
 
 // The larger of two numbers.
 fn larger(a: u64, b: u64) -> u64
@@ -30,26 +37,6 @@ fn larger(a: u64, b: u64) -> u64
         return b;
     }
     a
-}
-
-// What refuses n bytes at an offset of the file of a set: 8, then 7.
-fn data_cause(
-    vol: &[u8],
-    map: &[u8],
-    y: Layout,
-    b: Allocation,
-    set: &[u8; 608],
-    offset: u64,
-    n: usize,
-) -> u32
-    requires { ⌜ Laid y × ((length (now vol) ≡ y .len) × ((y .count ≤ 8 * length (now map)) × (b ≡ fileRecord y (now vol) (now set)))) ⌝ }
-    ensures { λ r. ⌜ r ≡ dataCause y (now (vol .entry)) (now (map .entry)) (now (set .entry)) offset n ⌝ }
-{
-    if 18446744073709551615 - offset < n as u64 {
-        return 8;
-    }
-    let len = larger(entry_set::entry::data_length(set), offset + n as u64);
-    file::refresh::length_cause(vol, map, y, b, len)
 }
 
 // Puts data into a stream: zeros from valid up to the offset where it passes valid, then the data.
@@ -90,61 +77,55 @@ fn put_grown(
     r
 }
 
-// Writes data to a file: grow, zero, store, then the entry set.
+// No data stored: a number, and what the file has.
+fn unstored(number: u32, b: Allocation, valid: u64, len: u64, hint: u32) -> DataAnswer
+    ensures { λ r. ⌜ r ≡ record { number = number; allocation = b; valid = valid; len = len; hint = hint } ⌝ }
+{
+    DataAnswer {
+        number: number,
+        allocation: b,
+        valid: valid,
+        len: len,
+        hint: hint,
+    }
+}
+
+// Stores data in the stream of a file with these lengths: 8, 7, or the stream grown, zeroed and stored to; nothing for empty data.
 fn write_data(
     vol: &mut [u8],
     map: &[u8],
     y: Layout,
-    dir: Allocation,
-    slot: u32,
-    set: [u8; 608],
     b: Allocation,
+    valid: u64,
+    len: u64,
     offset: u64,
     src: &[u8],
-    t: Stamp,
     hint: u32,
-) -> FileAnswer
-    requires { ⌜ Opens y (now vol) (now map) dir slot set b hint × (dataCause y (now vol) (now map) set offset (length (now src)) ≡ 0) ⌝ }
-    ensures { λ r. ⌜ (r ≡ written y (now (vol .entry)) (now (map .entry)) dir slot set offset (now (src .entry)) t hint .answer) × (now (vol .exit) ≡ written y (now (vol .entry)) (now (map .entry)) dir slot set offset (now (src .entry)) t hint .volume) ⌝ }
+) -> DataAnswer
+    requires { ⌜ Laid y × ((length (now vol) ≡ y .len) × ((y .count ≤ 8 * length (now map)) × (Apart y × ((inHeap (y .count) hint ≡ true) × (numberOf (streamOf y (now vol) b) ≡ 0))))) ⌝ }
+    ensures { λ r. ⌜ (let o = dataStored y (now (vol .entry)) (now (map .entry)) b valid len offset (now (src .entry)) hint in (r ≡ o .answer) × (now (vol .exit) ≡ o .volume)) ⌝ }
 {
-    let spot = write_dir::place::locate(vol, y, dir, slot);
+    if src.len() == 0 {
+        return unstored(0, b, valid, len, hint);
+    }
+    if 18446744073709551615 - offset < src.len() as u64 {
+        return unstored(8, b, valid, len, hint);
+    }
     let end = offset + src.len() as u64;
-    let len = larger(entry_set::entry::data_length(&set), end);
-    let valid = entry_set::entry::valid_length(&set);
-    let r = put_grown(vol, map, y, b, len, valid, offset, src, hint);
-    file::refresh::record_set(vol, y, spot, set, r.allocation, larger(valid, end), len, t);
-    FileAnswer {
+    let goal = larger(len, end);
+    let number = file::refresh::length_cause(vol, map, y, b, goal);
+    if number != 0 {
+        return unstored(number, b, valid, len, hint);
+    }
+    let r = put_grown(vol, map, y, b, goal, valid, offset, src, hint);
+    let a = r.allocation;
+    DataAnswer {
         number: 0,
-        slot: 0,
+        allocation: a,
+        valid: larger(valid, end),
+        len: goal,
         hint: r.hint,
     }
-}
-
-// Writes data to the file of an open set; empty data only refreshes the entry.
-fn write_open(
-    vol: &mut [u8],
-    map: &[u8],
-    y: Layout,
-    dir: Allocation,
-    slot: u32,
-    b: Allocation,
-    offset: u64,
-    src: &[u8],
-    t: Stamp,
-    hint: u32,
-) -> FileAnswer
-    requires { ⌜ Opens y (now vol) (now map) dir slot (setIn y (now vol) dir slot) b hint ⌝ }
-    ensures { λ r. ⌜ (r ≡ writeIn y (now (vol .entry)) (now (map .entry)) dir slot offset (now (src .entry)) t hint .answer) × (now (vol .exit) ≡ writeIn y (now (vol .entry)) (now (map .entry)) dir slot offset (now (src .entry)) t hint .volume) ⌝ }
-{
-    let set = write_dir::open_file::copy_set(vol, y, dir, slot);
-    if src.len() == 0 {
-        return file::refresh::refresh_only(vol, y, dir, slot, set, b, t, hint);
-    }
-    let number = data_cause(vol, map, y, b, &set, offset, src.len());
-    if number != 0 {
-        return file::target::refused(number, hint);
-    }
-    write_data(vol, map, y, dir, slot, set, b, offset, src, t, hint)
 }
 
 // Write on a volume that keeps the limits.
@@ -160,15 +141,28 @@ fn write_in(
     hint: u32,
 ) -> FileAnswer
     requires { ⌜ Laid y × ((length (now vol) ≡ y .len) × ((y .count ≤ 8 * length (now map)) × Apart y)) ⌝ }
-    ensures { λ r. ⌜ (r ≡ writeIn y (now (vol .entry)) (now (map .entry)) (rootRecord y (now (vol .entry)) root) slot offset (now (src .entry)) t hint .answer) × (now (vol .exit) ≡ writeIn y (now (vol .entry)) (now (map .entry)) (rootRecord y (now (vol .entry)) root) slot offset (now (src .entry)) t hint .volume) ⌝ }
+    ensures { λ r. ⌜ (let o = writeIn y (now (vol .entry)) (now (map .entry)) (rootRecord y (now (vol .entry)) root) slot offset (now (src .entry)) t hint in (r ≡ o .answer) × (now (vol .exit) ≡ o .volume)) ⌝ }
 {
-    let f = file::target::open_target(vol, map, y, root, slot, hint);
+    let mut set = [0u8; 608];
+    let f = file::target::open_target(vol, map, y, root, slot, hint, &mut set);
     if f.number != 0 {
         return file::target::refused(f.number, hint);
     }
-    let dir = f.directory;
     let b = f.stream;
-    write_open(vol, map, y, dir, slot, b, offset, src, t, hint)
+    let valid = entry_set::entry::valid_length(&set);
+    let len = entry_set::entry::data_length(&set);
+    let w = write_data(vol, map, y, b, valid, len, offset, src, hint);
+    if w.number != 0 {
+        return file::target::refused(w.number, hint);
+    }
+    let spot = f.spot;
+    let a = w.allocation;
+    file::refresh::record_set(vol, y, spot, &mut set, a, w.valid, w.len, t);
+    FileAnswer {
+        number: 0,
+        slot: 0,
+        hint: w.hint,
+    }
 }
 
 // Writes data to a file of the root at an offset.

@@ -17,7 +17,7 @@ use Rattle.entry_set.specs.declared.stamp.Stamp.{Stamp}
 use Rattle.entry_set.specs.Fields.{validLength, dataLength, clustersFor}
 use Rattle.write_shrink.proofs.KeepLaws.{shrink-on}
 use Rattle.file.specs.Outcome.{Outcome, carried}
-use Rattle.write_dir.specs.Open.{fileRecord}
+use Rattle.directory.specs.Open.{fileRecord}
 use Rattle.file.specs.Refresh.{stored, missing, refreshedOnly}
 use Rattle.file.proofs.KeepLaws.{DirectoryOwn, StreamOwn, own-start, stored-on, refreshed-on, longer-on, data-on, own-after}
 use Rattle.write_length.specs.SetLength.{shorter, longerFile, resized}

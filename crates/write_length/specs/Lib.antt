@@ -1,1 +1,2 @@
 pub mod SetLength
+pub mod Internal

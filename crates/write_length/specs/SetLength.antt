@@ -18,7 +18,7 @@ use Rattle.write_shrink.specs.Shrink.{keptRecord, shrinkIn}
 use Rattle.directory.specs.Directory.{rootRecord}
 use Rattle.stream.specs.Stream.{clustersIn}
 use Rattle.file.specs.Outcome.{Outcome, refuse, carried}
-use Rattle.write_dir.specs.Open.{fileRecord, setIn}
+use Rattle.directory.specs.Open.{fileRecord, setIn}
 use Rattle.file.specs.Refresh.{stored, missing, lengthCause, openCause, refreshedOnly}
 
 -- the smaller of two numbers

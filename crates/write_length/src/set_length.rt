@@ -2,25 +2,33 @@
 ghost use mathlib.Core.Path.{_≡_};
 ghost use mathlib.Core.Bool.{true};
 ghost use Prim.Native.Nat.{_+_, _-_, _*_, _≤_, _<_};
-ghost use lib.ListN.{length, take, replicate};
+ghost use lib.ListN.{length, replicate};
 ghost use Rattle.boot.specs.Internal.{Laid, Apart};
 ghost use Rattle.boot.specs.Layout.{inHeap};
+ghost use Rattle.metadata.specs.Fat.{fatEntry};
 ghost use Rattle.stream.specs.Stream.{numberOf, streamOf, clustersIn};
 ghost use Rattle.stream.specs.Bytes.{storeAt};
-ghost use Rattle.entry_set.specs.Fields.{dataLength};
+ghost use Rattle.entry_set.specs.Fields.{clustersFor};
 ghost use Rattle.write_extend.specs.Extend.{extendIn};
-ghost use Rattle.write_shrink.specs.Shrink.{keptRecord};
+ghost use Rattle.write_shrink.specs.Internal.{keptPart};
 ghost use Rattle.directory.specs.Directory.{rootRecord};
-ghost use Rattle.write_dir.specs.Open.{setIn};
 ghost use Rattle.file.specs.Refresh.{missing, lengthCause};
-ghost use Rattle.file.specs.Internal.{Opens};
-ghost use Rattle.write_length.specs.SetLength.{smaller, zeroEnd, shorter, longerFile, resized, setLengthIn, setLength};
+ghost use Rattle.write_length.specs.Internal.{cutPlan, cutTo, lengthened};
+ghost use Rattle.write_length.specs.SetLength.{smaller, zeroEnd, setLengthIn, setLength};
 use boot::geometry::Geometry;
 use boot::layout::Layout;
 use entry_set::stamp::Stamp;
 use file::answer::FileAnswer;
 use stream::allocation::Allocation;
 use write_alloc::answer::Answer;
+use write_shrink::shrink::Kept;
+
+// What a cut keeps: how many clusters, what a walk of them tells, and their record.
+pub struct Cut {
+    pub keep: u32,
+    pub part: Kept,
+    pub kept: Allocation,
+}
 
 // The smaller of two numbers.
 fn smaller(a: u64, b: u64) -> u64
@@ -45,41 +53,28 @@ fn zero_end(y: Layout, valid: u64, len: u64) -> u64
     smaller(valid - rest + size, len)
 }
 
-// The record of the first clusters of a stream, a run where their numbers rise by one.
-fn kept_stream(vol: &[u8], y: Layout, b: Allocation, keep: u32) -> Allocation
-    requires { ⌜ Laid y × ((length (now vol) ≡ y .len) × ((numberOf (streamOf y (now vol) b) ≡ 0) × (keep ≤ b .count))) ⌝ }
-    ensures { λ r. ⌜ r ≡ keptRecord b (take keep (clustersIn y (now (vol .entry)) b)) ⌝ }
+// A stream cut to a length: the clusters kept, what a walk of them tells, and their record, a run where their numbers rise by one.
+fn cut_plan(vol: &[u8], y: Layout, b: Allocation, len: u64) -> Cut
+    requires { ⌜ Laid y × ((length (now vol) ≡ y .len) × (Apart y × ((numberOf (streamOf y (now vol) b) ≡ 0) × (clustersFor (y .size) len ≤ b .count)))) ⌝ }
+    ensures { λ r. ⌜ r ≡ cutPlan y (now (vol .entry)) b len ⌝ }
 {
+    let keep = entry_set::entry::clusters_for(y.size, len) as u32;
     let part = write_shrink::shrink::kept_part(vol, y, b.no_fat_chain, b.first, keep);
-    write_shrink::shrink::kept_record(b.first, keep, part)
+    let kept = write_shrink::shrink::kept_record(b.first, keep, part);
+    Cut {
+        keep: keep,
+        part: part,
+        kept: kept,
+    }
 }
 
-// Makes a file shorter: the entry set first, then the clusters past its end are freed.
-fn make_shorter(
-    vol: &mut [u8],
-    map: &[u8],
-    y: Layout,
-    dir: Allocation,
-    slot: u32,
-    set: [u8; 608],
-    b: Allocation,
-    len: u64,
-    t: Stamp,
-    hint: u32,
-) -> FileAnswer
-    requires { ⌜ Opens y (now vol) (now map) dir slot set b hint × (len < dataLength set) ⌝ }
-    ensures { λ r. ⌜ (r ≡ shorter y (now (vol .entry)) (now (map .entry)) dir slot set len t hint .answer) × (now (vol .exit) ≡ shorter y (now (vol .entry)) (now (map .entry)) dir slot set len t hint .volume) ⌝ }
+// Frees the clusters of a stream that are not kept, where there are any.
+fn cut_to(vol: &mut [u8], y: Layout, b: Allocation, keep: u32, part: Kept)
+    requires { ⌜ Laid y × ((length (now vol) ≡ y .len) × (Apart y × ((numberOf (streamOf y (now vol) b) ≡ 0) × (part ≡ keptPart (fatEntry y (now vol)) (b .«no_fat_chain») (b .first) keep)))) ⌝ }
+    ensures { λ _. ⌜ now (vol .exit) ≡ cutTo y (now (vol .entry)) b keep ⌝ }
 {
-    let spot = write_dir::place::locate(vol, y, dir, slot);
-    let keep = entry_set::entry::clusters_for(y.size, len) as u32;
-    let kept = kept_stream(vol, y, b, keep);
-    let valid = smaller(entry_set::entry::valid_length(&set), len);
-    file::refresh::record_set(vol, y, spot, set, kept, valid, len, t);
-    write_shrink::shrink::shrink_in(vol, map, y, b, keep, hint);
-    FileAnswer {
-        number: 0,
-        slot: 0,
-        hint: hint,
+    if keep < b.count {
+        write_shrink::shrink::cut_in(vol, y, b, keep, part);
     }
 }
 
@@ -103,83 +98,31 @@ fn grow_zeroed(
     r
 }
 
-// Makes a file longer: grow, zero from valid on, then the entry set.
-fn make_longer(
+// Makes a stream of length old ready for a length that is not below it; an equal length leaves it as it is.
+fn lengthen(
     vol: &mut [u8],
     map: &[u8],
     y: Layout,
-    dir: Allocation,
-    slot: u32,
-    set: [u8; 608],
     b: Allocation,
+    old: u64,
     len: u64,
-    t: Stamp,
+    valid: u64,
     hint: u32,
-) -> FileAnswer
-    requires { ⌜ Opens y (now vol) (now map) dir slot set b hint × ((dataLength set < len) × (lengthCause y (now vol) (now map) b len ≡ 0)) ⌝ }
-    ensures { λ r. ⌜ (r ≡ longerFile y (now (vol .entry)) (now (map .entry)) dir slot set len t hint .answer) × (now (vol .exit) ≡ longerFile y (now (vol .entry)) (now (map .entry)) dir slot set len t hint .volume) ⌝ }
+) -> Answer
+    requires { ⌜ Laid y × ((length (now vol) ≡ y .len) × ((y .count ≤ 8 * length (now map)) × (Apart y × ((inHeap (y .count) hint ≡ true) × ((numberOf (streamOf y (now vol) b) ≡ 0) × ((lengthCause y (now vol) (now map) b len ≡ 0) × ((valid ≤ len) × (valid ≤ 1073741824)))))))) ⌝ }
+    ensures { λ r. ⌜ (let o = lengthened y (now (vol .entry)) (now (map .entry)) b old len valid hint in (r ≡ o .answer) × (now (vol .exit) ≡ o .volume)) ⌝ }
 {
-    let spot = write_dir::place::locate(vol, y, dir, slot);
-    let valid = entry_set::entry::valid_length(&set);
-    let r = grow_zeroed(vol, map, y, b, len, valid, hint);
-    file::refresh::record_set(vol, y, spot, set, r.allocation, valid, len, t);
-    FileAnswer {
-        number: 0,
-        slot: 0,
-        hint: r.hint,
-    }
-}
-
-// By the old length: shorter, longer, or the entry refreshed and nothing else.
-fn resize(
-    vol: &mut [u8],
-    map: &[u8],
-    y: Layout,
-    dir: Allocation,
-    slot: u32,
-    set: [u8; 608],
-    b: Allocation,
-    len: u64,
-    t: Stamp,
-    hint: u32,
-) -> FileAnswer
-    requires { ⌜ Opens y (now vol) (now map) dir slot set b hint × (lengthCause y (now vol) (now map) b len ≡ 0) ⌝ }
-    ensures { λ r. ⌜ (r ≡ resized y (now (vol .entry)) (now (map .entry)) dir slot set len t hint .answer) × (now (vol .exit) ≡ resized y (now (vol .entry)) (now (map .entry)) dir slot set len t hint .volume) ⌝ }
-{
-    let old = entry_set::entry::data_length(&set);
-    if len < old {
-        return make_shorter(vol, map, y, dir, slot, set, b, len, t, hint);
-    }
     if len == old {
-        return file::refresh::refresh_only(vol, y, dir, slot, set, b, t, hint);
+        return Answer {
+            number: 0,
+            allocation: b,
+            hint: hint,
+        };
     }
-    make_longer(vol, map, y, dir, slot, set, b, len, t, hint)
+    grow_zeroed(vol, map, y, b, len, valid, hint)
 }
 
-// Sets the length of an open file: 7, or the file resized.
-fn set_open(
-    vol: &mut [u8],
-    map: &[u8],
-    y: Layout,
-    dir: Allocation,
-    slot: u32,
-    b: Allocation,
-    len: u64,
-    t: Stamp,
-    hint: u32,
-) -> FileAnswer
-    requires { ⌜ Opens y (now vol) (now map) dir slot (setIn y (now vol) dir slot) b hint ⌝ }
-    ensures { λ r. ⌜ (r ≡ setLengthIn y (now (vol .entry)) (now (map .entry)) dir slot len t hint .answer) × (now (vol .exit) ≡ setLengthIn y (now (vol .entry)) (now (map .entry)) dir slot len t hint .volume) ⌝ }
-{
-    let set = write_dir::open_file::copy_set(vol, y, dir, slot);
-    let number = file::refresh::length_cause(vol, map, y, b, len);
-    if number != 0 {
-        return file::target::refused(number, hint);
-    }
-    resize(vol, map, y, dir, slot, set, b, len, t, hint)
-}
-
-// Set length on a volume that keeps the limits.
+// Set length on a volume that keeps the limits: shorter, the entry set first and then the clusters freed; else the stream first.
 fn set_length_in(
     vol: &mut [u8],
     map: &[u8],
@@ -191,15 +134,42 @@ fn set_length_in(
     hint: u32,
 ) -> FileAnswer
     requires { ⌜ Laid y × ((length (now vol) ≡ y .len) × ((y .count ≤ 8 * length (now map)) × Apart y)) ⌝ }
-    ensures { λ r. ⌜ (r ≡ setLengthIn y (now (vol .entry)) (now (map .entry)) (rootRecord y (now (vol .entry)) root) slot len t hint .answer) × (now (vol .exit) ≡ setLengthIn y (now (vol .entry)) (now (map .entry)) (rootRecord y (now (vol .entry)) root) slot len t hint .volume) ⌝ }
+    ensures { λ r. ⌜ (let o = setLengthIn y (now (vol .entry)) (now (map .entry)) (rootRecord y (now (vol .entry)) root) slot len t hint in (r ≡ o .answer) × (now (vol .exit) ≡ o .volume)) ⌝ }
 {
-    let f = file::target::open_target(vol, map, y, root, slot, hint);
+    let mut set = [0u8; 608];
+    let f = file::target::open_target(vol, map, y, root, slot, hint, &mut set);
     if f.number != 0 {
         return file::target::refused(f.number, hint);
     }
-    let dir = f.directory;
     let b = f.stream;
-    set_open(vol, map, y, dir, slot, b, len, t, hint)
+    let spot = f.spot;
+    let number = file::refresh::length_cause(vol, map, y, b, len);
+    if number != 0 {
+        return file::target::refused(number, hint);
+    }
+    let valid = entry_set::entry::valid_length(&set);
+    let old = entry_set::entry::data_length(&set);
+    if len < old {
+        let c = cut_plan(vol, y, b, len);
+        let kept = c.kept;
+        let part = c.part;
+        let capped = smaller(valid, len);
+        file::refresh::record_set(vol, y, spot, &mut set, kept, capped, len, t);
+        cut_to(vol, y, b, c.keep, part);
+        return FileAnswer {
+            number: 0,
+            slot: 0,
+            hint: hint,
+        };
+    }
+    let r = lengthen(vol, map, y, b, old, len, valid, hint);
+    let a = r.allocation;
+    file::refresh::record_set(vol, y, spot, &mut set, a, valid, len, t);
+    FileAnswer {
+        number: 0,
+        slot: 0,
+        hint: r.hint,
+    }
 }
 
 // Sets the length of a file of the root.

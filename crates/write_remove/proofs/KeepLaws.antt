@@ -8,7 +8,7 @@ use Rattle.write_shrink.proofs.KeepLaws.{shrink-on}
 use Rattle.stream.specs.Stream.{clustersIn}
 use Rattle.write_shrink.specs.Shrink.{shrinkIn}
 use Rattle.file.specs.Outcome.{carried}
-use Rattle.write_dir.specs.Open.{fileRecord}
+use Rattle.directory.specs.Open.{fileRecord}
 use Rattle.file.proofs.KeepLaws.{DirectoryOwn, StreamOwn, own-start, entries-on, own-after}
 use Rattle.write_remove.specs.Remove.{unlinked}
 

@@ -1,15 +1,17 @@
 -- What remove answers and leaves. Assumes nothing.
-use mathlib.Core.Path.{_≡_, refl, _∙_, ap, ap₂}
+use mathlib.Core.Path.{_≡_, refl, sym, _∙_, ap, ap₂}
+use mathlib.Core.Bool.{true}
 use mathlib.Core.List.{List}
 use Prim.Native.Nat.{ℕ, _*_, _≤_}
-use native.Mathlib.Nat.{min-le-left}
 use native.Mathlib.Omega.{arith}
-use lib.ListN.{length, take, length-take}
+use lib.ListN.{length, take}
 use borrow.Author.Tests.{ne-eqb}
 use Rattle.boot.specs.declared.geometry.Geometry.{Geometry}
 use Rattle.boot.specs.declared.layout.Layout.{Layout}
 use Rattle.boot.specs.Geometry.{rootCluster}
-use Rattle.boot.specs.Internal.{Laid}
+use Rattle.tables.specs.Lists.{every}
+use Rattle.boot.specs.Layout.{inHeap}
+use Rattle.metadata.specs.Fat.{fatEntry}
 use Rattle.boot.specs.Causes.{admitCause}
 use Rattle.boot.proofs.Admission.{Admits}
 use Rattle.stream.specs.declared.allocation.Allocation.{Allocation}
@@ -17,31 +19,23 @@ use Rattle.stream.specs.Bytes.{storeAt}
 use Rattle.entry_set.specs.Put.{cleared}
 use Rattle.write_shrink.specs.Shrink.{shrinkIn}
 use Rattle.directory.specs.Directory.{rootRecord}
-use Rattle.stream.specs.Stream.{clustersIn}
+use Rattle.stream.specs.Stream.{numberOf, streamOf, clustersIn}
+use Rattle.stream.specs.Internal.{along}
+use Rattle.stream.proofs.ListingLaws.{along-heap}
+use Rattle.stream.proofs.BytesSteps.{every-before}
+use Rattle.stream.proofs.BytesLaws.{take-short}
+use Rattle.write_shrink.proofs.Cutting.{cutVolume, shrink-cut}
 use Rattle.directory.proofs.DirectoryLaws.{clusters-length}
 use Rattle.file.specs.Outcome.{refuse, carried}
-use Rattle.write_dir.specs.Open.{fileRecord, setIn}
-use Rattle.write_dir.specs.declared.place.Spot.{Spot}
-use Rattle.write_dir.specs.Internal.{spotOf, spotClusters}
-use Rattle.write_dir.proofs.PlaceLaws.{spot-store}
+use Rattle.directory.specs.Open.{fileRecord, setIn}
+use Rattle.directory.specs.declared.spot.Spot.{Spot}
+use Rattle.directory.specs.declared.open_file.OpenFile.{OpenFile}
+use Rattle.directory.specs.Internal.{spotClusters}
+use Rattle.directory.proofs.SpotLaws.{spot-store}
 use Rattle.file.specs.Refresh.{entriesOf, openCause}
-use Rattle.file.specs.Internal.{Stands}
-use Rattle.file.proofs.OpenLaws.{shown-as, carried-shown}
+use Rattle.file.specs.Internal.{Opens}
+use Rattle.file.proofs.OpenLaws.{open-stands, opens-none, same-reads, same-system, shown-as, carried-shown}
 use Rattle.write_remove.specs.Remove.{unlinked, removeIn, remove}
-
--- a set that stands in a directory, stored at its spot with its entries cleared
-module _ (y : Layout) (d : List ℕ) (a : Allocation) (slot : ℕ) (l : Laid y) where
-  pub unlinked-spot : (s out : List ℕ) (n : ℕ) (p : Spot) (e : List ℕ) → Stands y d a slot (entriesOf s) → p ≡ spotOf y d a slot → n ≡ entriesOf s
-      → out ≡ cleared s n → e ≡ storeAt y d (spotClusters p) (p .at) (take (32 * n) out) → e ≡ unlinked y d (clustersIn y d a) slot s
-  unfolding unlinked
-  unlinked-spot s out n p e h q en eo r =
-      let k = entriesOf s in
-      let bs = take (32 * k) (cleared s k) in
-      let z : take (32 * n) out ≡ bs = ap (take (32 * n)) eo ∙ ap (λ (x : ℕ). take (32 * x) (cleared s x)) en in
-      let c = clusters-length y d a (h .reads) in
-      let f : length bs ≤ 32 * k = omega (arith, length-take (32 * k) (cleared s k), min-le-left (32 * k) (length (cleared s k))) in
-      r ∙ ap₂ (λ (x : Spot) (u : List ℕ). storeAt y d (spotClusters x) (x .at) u) q z
-      ∙ spot-store y d a slot l d bs (omega (arith, h .few)) (omega (arith, h .room, ap (λ (x : ℕ). x * y .size) c))
 
 module _ (y : Layout) (d m : List ℕ) (a : Allocation) (slot hint : ℕ) where
   pub remove-refused : (n : ℕ) → n ≡ openCause y d m a slot hint → (n ≡ 0 → ⊥) → removeIn y d m a slot hint ≡ refuse n hint d
@@ -63,6 +57,38 @@ module _ (y : Layout) (d m : List ℕ) (a : Allocation) (slot hint : ℕ) where
     remove-done s b e e′ es eb p q =
         let z : e ≡ unlinked y d (clustersIn y d a) slot (setIn y d a slot) = p ∙ ap (unlinked y d (clustersIn y d a) slot) es in
         shown-as removed (carried-shown 0 hint left e′ (q ∙ ap₂ (λ (u : List ℕ) (x : Allocation). shrinkIn y u m x 0 hint .volume) z eb))
+
+-- the set of a file that opens, stored at its spot with its entries cleared
+module _ (y : Layout) (d m : List ℕ) (a : Allocation) (slot : ℕ) (s : List ℕ) (f : OpenFile) (hint : ℕ) (o : Opens y d m a slot s f hint) (e : List ℕ)
+    (r : e ≡ storeAt y d (spotClusters (f .spot)) (f .spot .at) (take (32 * entriesOf s) (cleared s (entriesOf s)))) where
+  abbrev bs : List ℕ
+  bs = take (32 * entriesOf s) (cleared s (entriesOf s))
+
+  pub unlinked-spot : e ≡ storeAt y d (clustersIn y d a) (32 * slot) (take (32 * entriesOf s) (cleared s (entriesOf s)))
+  unlinked-spot =
+      let h = open-stands y d m a slot s f hint o in
+      let c = clusters-length y d a (h .reads) in
+      let k : length bs ≤ 32 * entriesOf s = take-short (32 * entriesOf s) (cleared s (entriesOf s)) in
+      r ∙ ap (λ (x : Spot). storeAt y d (spotClusters x) (x .at) bs) (o .spot)
+      ∙ spot-store y d a slot (o .laid) d bs (omega (arith, h .few)) (omega (arith, h .room, ap (λ (x : ℕ). x * y .size) c))
+
+  abbrev b : Allocation
+  b = f .stream
+
+  -- its stream still reads, from the same clusters
+  pub unlinked-reads : numberOf (streamOf y e (f .stream)) ≡ 0
+  unlinked-reads = same-reads y d m a slot s f hint o (32 * slot) bs e unlinked-spot
+
+  pub unlinked-heap : (keep : ℕ) → keep ≤ f .stream .count
+      → every (inHeap (y .count)) (along (fatEntry y e) (f .stream .«no_fat_chain») (f .stream .first) keep) ≡ true
+  unlinked-heap keep h = every-before (fatEntry y e) (b .«no_fat_chain») (inHeap (y .count)) keep (b .first) (b .count) h (along-heap y e b unlinked-reads)
+
+  -- the volume after that and the cut
+  pub unlinked-cut : (e′ : List ℕ) → e′ ≡ cutVolume y e (f .stream) 0
+      → (record { number = 0; slot = 0; hint = hint } ≡ removeIn y d m a slot hint .answer) × (e′ ≡ removeIn y d m a slot hint .volume)
+  unlinked-cut e′ q =
+      remove-done y d m a slot hint (opens-none y d m a slot s f hint o) s (f .stream) e e′ (o .set) (o .stream ∙ ap (fileRecord y d) (o .set)) (unfold unlinked in unlinked-spot)
+      (q ∙ sym (shrink-cut y e m (f .stream) 0 hint (o .hint-in) (λ z. absurd (omega arith)) unlinked-reads (same-system y d m a slot s f hint o (32 * slot) bs e unlinked-spot 0)))
 
 module _ (g : Geometry) (d m : List ℕ) (slot hint : ℕ) where
   pub remove-is : (y : Layout) → Admits g d m y → remove g d m slot hint ≡ removeIn y d m (rootRecord y d (rootCluster g)) slot hint

@@ -16,7 +16,7 @@ use Rattle.write_shrink.specs.Shrink.{shrinkIn}
 use Rattle.directory.specs.Directory.{rootRecord}
 use Rattle.stream.specs.Stream.{clustersIn}
 use Rattle.file.specs.Outcome.{Outcome, refuse, carried}
-use Rattle.write_dir.specs.Open.{fileRecord, setIn}
+use Rattle.directory.specs.Open.{fileRecord, setIn}
 use Rattle.file.specs.Refresh.{entriesOf, openCause}
 
 -- bit 0x80 of each entry of set s cleared at a slot of the directory whose clusters are ks

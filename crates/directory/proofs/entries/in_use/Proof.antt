@@ -2,8 +2,8 @@ use borrow.Author.Needs.{needs}
 use Rattle.directory.proofs.entries.in_use.Statement.{statement}
 use Rattle.directory.proofs.entries.in_use.Tie as tie
 
-type-at-requires : tie.Need-type-at-requires
-type-at-requires c κs = search needs
+byte-at-requires : tie.Need-byte-at-requires
+byte-at-requires c κs = search needs
 
 bit-test-requires : tie.Need-bit-test-requires
 bit-test-requires c κs = search needs
@@ -12,4 +12,4 @@ returns : tie.Need-returns
 returns c = cc
 
 pub in-use-spec : {M : Type 1} → statement M
-in-use-spec = tie.close (tie.spec type-at-requires bit-test-requires returns)
+in-use-spec = tie.close (tie.spec byte-at-requires bit-test-requires returns)

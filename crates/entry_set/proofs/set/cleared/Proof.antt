@@ -1,37 +1,37 @@
 use mathlib.Core.Path.{_≡_, refl}
-use Prim.Native.Nat.{_≤_, _-_}
+use Prim.Native.Nat.{_≤_, _-_, _*_}
 use native.Mathlib.Numerals.{add-one}
 use native.Mathlib.Omega.{arith}
 use borrow.Author.Needs.{needs}
-use lib.ListN.{length, length-set}
 use Rattle.entry_set.specs.Put.{cleared}
+use Rattle.entry_set.proofs.SetLaws.{cleared-byte}
 use Rattle.entry_set.proofs.set.cleared.Statement.{statement}
 use Rattle.entry_set.proofs.set.cleared.Tie as tie
 
 abbrev Inv-loop : tie.InvT-loop
-Inv-loop n set out₀ i₀ out i = (i ≤ n) × (length out ≡ 608) × (out ≡ cleared set i)
+Inv-loop set₀ n i₀ set i = (i ≤ n) × (set ≡ cleared set₀ i)
 
 abbrev μ-loop : tie.MeasureT-loop
-μ-loop n set out₀ i₀ out i = n - i
+μ-loop set₀ n i₀ set i = n - i
 
 loop-holds : tie.Need-loop-holds Inv-loop μ-loop
 unfolding cleared
-loop-holds c = (omega arith, omega arith, refl)
+loop-holds c = (omega arith, refl)
 
 mul-bit-clear : tie.Need-mul-bit-clear Inv-loop μ-loop
 mul-bit-clear c = search needs
 
-array-read-bit-clear : tie.Need-array-read-bit-clear Inv-loop μ-loop
-array-read-bit-clear c = search needs
+element-copy-out-bit-clear : tie.Need-element-copy-out-bit-clear Inv-loop μ-loop
+element-copy-out-bit-clear c = search needs
 
 bit-clear-requires : tie.Need-bit-clear-requires Inv-loop μ-loop
 bit-clear-requires c κs = search needs
 
-mul-out : tie.Need-mul-out Inv-loop μ-loop
-mul-out c = search needs
+mul-set : tie.Need-mul-set Inv-loop μ-loop
+mul-set c = search needs
 
-array-write-out : tie.Need-array-write-out Inv-loop μ-loop
-array-write-out c = search needs
+element-write-set : tie.Need-element-write-set Inv-loop μ-loop
+element-write-set c = search needs
 
 add-i : tie.Need-add-i Inv-loop μ-loop
 add-i c = search needs
@@ -41,7 +41,10 @@ loop-less c = search needs
 
 loop-again : tie.Need-loop-again Inv-loop μ-loop
 unfolding cleared
-loop-again c = (omega arith, simp length-set (omega arith), rw add-one (cc))
+loop-again c =
+    let a = c .before .before .before .before .args in
+    let l = c .before .before .before .loop in
+    (omega arith, rw add-one (cc (cleared-byte (a .set .now) (l .i) (32 * l .i) (λ j h e. omega arith))))
 
 returns : tie.Need-returns Inv-loop μ-loop
 returns c =
@@ -56,10 +59,10 @@ cleared-spec =
     μ-loop
     loop-holds
     mul-bit-clear
-    array-read-bit-clear
+    element-copy-out-bit-clear
     bit-clear-requires
-    mul-out
-    array-write-out
+    mul-set
+    element-write-set
     add-i
     loop-less
     loop-again

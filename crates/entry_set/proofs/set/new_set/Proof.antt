@@ -1,4 +1,3 @@
-use Rattle.entry_set.specs.Put.{sealed}
 use Rattle.entry_set.specs.New.{newSet, newEntries}
 use borrow.Author.Needs.{needs}
 use Rattle.entry_set.proofs.set.new_set.Statement.{statement}
@@ -31,20 +30,14 @@ slice-aggregate-put-units c = search needs
 put-units-requires : tie.Need-put-units-requires
 put-units-requires c κs = search needs
 
-add-array-checksum : tie.Need-add-array-checksum
-add-array-checksum c = search needs
-
-mul-array-checksum : tie.Need-mul-array-checksum
-mul-array-checksum c = search needs
-
-array-checksum-requires : tie.Need-array-checksum-requires
-array-checksum-requires c κs = search needs
+add-seal : tie.Need-add-seal
+add-seal c = search needs
 
 seal-requires : tie.Need-seal-requires
 seal-requires c κs = search needs
 
 returns : tie.Need-returns
-unfolding newSet newEntries sealed
+unfolding newSet newEntries
 returns c = cc
 
 pub new-set-spec : {M : Type 1} → statement M
@@ -60,8 +53,6 @@ new-set-spec =
     put-types-requires
     slice-aggregate-put-units
     put-units-requires
-    add-array-checksum
-    mul-array-checksum
-    array-checksum-requires
+    add-seal
     seal-requires
     returns)

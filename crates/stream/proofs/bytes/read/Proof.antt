@@ -17,11 +17,11 @@ cast-steps c =
     let s = sought _ _ _ _ _ (c .before .before .before .args .at) (c .before .before .before .args .n) (p .0) (p .1 .0) (p .1 .1 .0) (p .1 .1 .1 .0) in
     search needs
 
-seek-requires : tie.Need-seek-requires
-seek-requires c κs =
+seek-from-requires : tie.Need-seek-from-requires
+seek-from-requires c κs =
     let p = c .before .before .before .pre in
     let s = sought _ _ _ _ _ (c .before .before .before .args .at) (c .before .before .before .args .n) (p .0) (p .1 .0) (p .1 .1 .0) (p .1 .1 .1 .0) in
-    (p .0, (p .1 .0, s .before))
+    (p .0, (p .1 .0, (s .before, p .1 .1 .1 .1 .1)))
 
 sub-read-from : tie.Need-sub-read-from
 sub-read-from c =
@@ -36,7 +36,7 @@ read-from-requires : tie.Need-read-from-requires
 read-from-requires c κs =
     let p = c .before .before .before .before .before .before .before .pre in
     let s = sought _ _ _ _ _ (c .before .before .before .before .before .before .before .args .at) (c .before .before .before .before .before .before .before .args .n) (p .0) (p .1 .0) (p .1 .1 .0) (p .1 .1 .1 .0) in
-    (p .0, (p .1 .0, (rw (c .before .before .before .seek .ensures) (s .heap), (s .place, (s .room, p .1 .1 .1 .1)))))
+    (p .0, (p .1 .0, (rw (c .before .before .before .seek-from .ensures) (s .heap), (s .place, (s .room, p .1 .1 .1 .1 .0)))))
 
 same-length : tie.Need-same-length
 same-length c = search needs
@@ -46,7 +46,7 @@ returns c =
     let p = c .before .before .before .before .before .before .before .before .before .before .pre in
     let s = sought _ _ _ _ _ (c .before .before .before .before .before .before .before .before .before .before .args .at) (c .before .before .before .before .before .before .before .before .before .before .args .n) (p .0) (p .1 .0) (p .1 .1 .0) (p .1 .1 .1 .0) in
     let a = c .before .before .before .before .before .before .before .before .before .before .args in
-    (cc) ∙ ap (λ (l : List ℕ). splice (a .dst .now) (a .to) (take (a .n) l)) (s .reads)
+    (cc) ∙ ap (λ (l : List ℕ). splice (a .dst .now) 0 (take (a .n) l)) (s .reads)
 
 pub read-spec : {M : Type 1} → statement M
 read-spec =
@@ -54,7 +54,7 @@ read-spec =
     (tie.spec
     div-steps
     cast-steps
-    seek-requires
+    seek-from-requires
     sub-read-from
     rem-read-from
     read-from-requires

@@ -17,13 +17,13 @@ use Rattle.stream.proofs.bytes.read_from.Statement.{statement}
 use Rattle.stream.proofs.bytes.read_from.Tie as tie
 
 abbrev Inv-loop : tie.InvT-loop
-Inv-loop vol y run first count at dst₀ to n k₀ left₀ place₀ put₀ more₀ dst k left place put more = (length dst ≡ length dst₀) × ((place < y .size) × ((place + more ≤ left * y .size) × ((put + more ≤ length dst) × ((every (inHeap (y .count)) (along (fatEntry y vol) run k left) ≡ true) × (splice dst put (take more (drop place (bytesOf y vol (along (fatEntry y vol) run k left)))) ≡ splice dst₀ to (take n (drop at (bytesOf y vol (along (fatEntry y vol) run first count)))))))))
+Inv-loop vol y run first count at dst₀ n k₀ left₀ place₀ put₀ more₀ dst k left place put more = (length dst ≡ length dst₀) × ((place < y .size) × ((place + more ≤ left * y .size) × ((put + more ≤ length dst) × ((every (inHeap (y .count)) (along (fatEntry y vol) run k left) ≡ true) × (splice dst put (take more (drop place (bytesOf y vol (along (fatEntry y vol) run k left)))) ≡ splice dst₀ 0 (take n (drop at (bytesOf y vol (along (fatEntry y vol) run first count)))))))))
 
 abbrev μ-loop : tie.MeasureT-loop
-μ-loop vol y run first count at dst₀ to n k₀ left₀ place₀ put₀ more₀ dst k left place put more = more
+μ-loop vol y run first count at dst₀ n k₀ left₀ place₀ put₀ more₀ dst k left place put more = more
 
 loop-holds : tie.Need-loop-holds Inv-loop μ-loop
-loop-holds c = let p = c .before .before .pre in (refl, (p .1 .1 .1 .0, (p .1 .1 .1 .1 .0, (p .1 .1 .1 .1 .1, (p .1 .1 .0, refl)))))
+loop-holds c = let p = c .before .before .pre in (refl, (p .1 .1 .1 .0, (p .1 .1 .1 .1 .0, (omega arith, (p .1 .1 .0, refl)))))
 
 sub-lesser : tie.Need-sub-lesser Inv-loop μ-loop
 sub-lesser c = search needs

@@ -1,0 +1,264 @@
+// A file opened by its slot: its set copied, its record, and what refuses it (Rust: `open_for_write`, `stream_allocation`).
+ghost use mathlib.Core.Path.{_≡_};
+ghost use mathlib.Core.Bool.{true, false, cond};
+ghost use Prim.Native.Nat.{_+_, _-_, _*_, _≤_, _<_};
+ghost use lib.ListN.{length, replicate};
+ghost use Rattle.tables.specs.Lists.{lastOr};
+ghost use Rattle.boot.specs.Internal.{Laid, Apart};
+ghost use Rattle.boot.specs.Layout.{inHeap};
+ghost use Rattle.metadata.specs.Fat.{fatEntry};
+ghost use Rattle.stream.specs.Chain.{readChain};
+ghost use Rattle.stream.specs.Stream.{numberOf, streamOf, clustersOf, empty};
+ghost use Rattle.entry_set.specs.Sound.{wellFormed};
+ghost use Rattle.stream.specs.Bytes.{bytesIn};
+ghost use Rattle.directory.specs.Entries.{entryCount, beforeEnd, entriesAt};
+ghost use Rattle.directory.specs.Internal.{entryPlace, wholeSet, setRead, openedStream, noFile, openFile};
+ghost use Rattle.directory.specs.Open.{fileRecord, directoryAttributeCause, setIn};
+use crate::entries::Cursor;
+use crate::spot::Spot;
+use boot::layout::Layout;
+use stream::allocation::Allocation;
+use stream::bytes::Place;
+
+// A stream's record, or the number of what refuses it.
+pub struct Opened {
+    pub number: u32,
+    pub allocation: Allocation,
+}
+
+// A file opened (Rust: `OpenFile`): where its set stands and its stream's record, or the number of what refuses it.
+pub struct OpenFile {
+    pub number: u32,
+    pub spot: Spot,
+    pub stream: Allocation,
+}
+
+// How many entries the set has whose first entry e is, at a slot with no type 0 before it: 0 where that is no file entry or the set does
+// not fit. Only the contract needs the directory.
+fn entries_here(vol: &[u8], y: Layout, dir: Allocation, slot: u32, e: Cursor, total: u32) -> usize
+    requires { ⌜ Laid y × ((length (now vol) ≡ y .len) × (Apart y × ((numberOf (streamOf y (now vol) dir) ≡ 0) × ((slot < entryCount (bytesIn y (now vol) dir)) × ((e ≡ entryPlace y (now vol) dir slot) × ((total ≡ entryCount (bytesIn y (now vol) dir)) × ((total ≤ 524288) × (beforeEnd (bytesIn y (now vol) dir) slot ≡ true)))))))) ⌝ }
+    ensures { λ r. ⌜ r ≡ wholeSet (bytesIn y (now (vol .entry)) dir) slot ⌝ }
+{
+    if crate::entries::byte_at(vol, y, e.cluster, e.at) != 0x85 {
+        return 0;
+    }
+    let n = 1
+        + primitives::words::wide(crate::entries::byte_at(vol, y, e.cluster, e.at + 1)) as usize;
+    if 19 < n {
+        return 0;
+    }
+    if (total as usize) < slot as usize + n {
+        return 0;
+    }
+    n
+}
+
+// Copies the set of n entries at a slot, whose entry is known.
+fn copy_set(
+    vol: &[u8],
+    y: Layout,
+    dir: Allocation,
+    slot: u32,
+    e: Cursor,
+    n: usize,
+    set: &mut [u8; 608],
+)
+    requires { ⌜ Laid y × ((length (now vol) ≡ y .len) × (Apart y × ((numberOf (streamOf y (now vol) dir) ≡ 0) × ((e ≡ entryPlace y (now vol) dir slot) × ((n ≡ entriesAt (bytesIn y (now vol) dir) slot) × ((n ≤ 19) × ((slot + n ≤ entryCount (bytesIn y (now vol) dir)) × (now set ≡ replicate 608 0)))))))) ⌝ }
+    ensures { λ _. ⌜ now (set .exit) ≡ setIn y (now (vol .entry)) dir slot ⌝ }
+{
+    let at = 32 * (slot as usize);
+    let known = Place {
+        cluster: e.cluster,
+        steps: (at / y.size) as u32,
+    };
+    stream::bytes::read(vol, y, dir, known, at, set, 32 * n);
+}
+
+// A number with the empty record.
+fn not_opened(number: u32) -> Opened
+    ensures { λ r. ⌜ r ≡ record { number = number; allocation = empty } ⌝ }
+{
+    Opened {
+        number: number,
+        allocation: stream::allocation::empty_record(),
+    }
+}
+
+// A chain of n clusters opened: one walk gives its record and what refuses it.
+fn open_chain(vol: &[u8], map: &[u8], y: Layout, first: u32, n: u32) -> Opened
+    requires { ⌜ Laid y × ((length (now vol) ≡ y .len) × ((y .count ≤ 8 * length (now map)) × ((inHeap (y .count) first ≡ true) × (1 ≤ n)))) ⌝ }
+    ensures { λ r. ⌜ r ≡ openedStream y (now (vol .entry)) (now (map .entry)) (record { first = first; last = lastOr 0 (clustersOf (readChain (y .count) (fatEntry y (now (vol .entry))) first)); count = n; «no_fat_chain» = false }) ⌝ }
+{
+    let w = stream::walk::fat_chain(vol, map, y, false, first);
+    let number = stream::walk::walk_cause(w, w.last, n);
+    if number != 0 {
+        return not_opened(number);
+    }
+    if w.clear {
+        let a = Allocation {
+            first: first,
+            last: w.last,
+            count: n,
+            no_fat_chain: false,
+        };
+        return Opened {
+            number: 0,
+            allocation: a,
+        };
+    }
+    not_opened(9)
+}
+
+// A run of n clusters opened: its marks, then the system map; no FAT entry is read.
+fn open_run(vol: &[u8], map: &[u8], y: Layout, first: u32, n: u32) -> Opened
+    requires { ⌜ Laid y × ((length (now vol) ≡ y .len) × ((y .count ≤ 8 * length (now map)) × ((first + n ≤ y .count + 2) × (1 ≤ n)))) ⌝ }
+    ensures { λ r. ⌜ r ≡ openedStream y (now (vol .entry)) (now (map .entry)) (record { first = first; last = first + n - 1; count = n; «no_fat_chain» = true }) ⌝ }
+{
+    let a = Allocation {
+        first: first,
+        last: first + n - 1,
+        count: n,
+        no_fat_chain: true,
+    };
+    let number = stream::walk::stream_cause(vol, map, y, a);
+    if number != 0 {
+        return not_opened(number);
+    }
+    let system = stream::system::system_cause(vol, map, y, true, first, n);
+    if system != 0 {
+        return not_opened(system);
+    }
+    Opened {
+        number: 0,
+        allocation: a,
+    }
+}
+
+// The record of a set's stream, or what refuses it: its clusters' number, then 9.
+fn open_stream(vol: &[u8], map: &[u8], y: Layout, set: &[u8; 608]) -> Opened
+    requires { ⌜ Laid y × ((length (now vol) ≡ y .len) × ((y .count ≤ 8 * length (now map)) × (wellFormed (y .count) (y .size) (now set) ≡ true))) ⌝ }
+    ensures { λ r. ⌜ r ≡ openedStream y (now (vol .entry)) (now (map .entry)) (fileRecord y (now (vol .entry)) (now (set .entry))) ⌝ }
+{
+    let len = entry_set::entry::data_length(set);
+    if len == 0 {
+        return not_opened(0);
+    }
+    let n = entry_set::entry::clusters_for(y.size, len) as u32;
+    let first = entry_set::entry::first_cluster(set);
+    if entry_set::entry::no_fat_chain(set) {
+        return open_run(vol, map, y, first, n);
+    }
+    open_chain(vol, map, y, first, n)
+}
+
+// What refuses a set's bytes: 10 where they are not well formed, else 11 for a directory.
+fn set_cause(set: &[u8; 608], count: u32, size: usize) -> u32
+    requires { ⌜ (1 ≤ size) × (count ≤ 32768) ⌝ }
+    ensures { λ r. ⌜ r ≡ cond (wellFormed count size (now (set .entry))) (directoryAttributeCause (now (set .entry))) 10 ⌝ }
+{
+    if entry_set::entry::well_formed(set, count, size) {
+        if entry_set::entry::is_directory(set) {
+            return 11;
+        }
+        return 0;
+    }
+    10
+}
+
+// No file, by its number.
+pub fn no_file(number: u32) -> OpenFile
+    ensures { λ r. ⌜ r ≡ noFile number ⌝ }
+{
+    let a = Allocation {
+        first: 0,
+        last: 0,
+        count: 0,
+        no_fat_chain: false,
+    };
+    let spot = Spot {
+        first: 0,
+        second: 0,
+        third: 0,
+        at: 0,
+    };
+    OpenFile {
+        number: number,
+        spot: spot,
+        stream: a,
+    }
+}
+
+// Opens the file of a set that is copied, whose entry is known.
+fn open_copied(
+    vol: &[u8],
+    map: &[u8],
+    y: Layout,
+    dir: Allocation,
+    slot: u32,
+    e: Cursor,
+    set: &[u8; 608],
+) -> OpenFile
+    requires { ⌜ Laid y × ((length (now vol) ≡ y .len) × ((y .count ≤ 8 * length (now map)) × (Apart y × ((numberOf (streamOf y (now vol) dir) ≡ 0) × ((slot < entryCount (bytesIn y (now vol) dir)) × ((e ≡ entryPlace y (now vol) dir slot) × ((1 ≤ wholeSet (bytesIn y (now vol) dir) slot) × (now set ≡ setIn y (now vol) dir slot)))))))) ⌝ }
+    ensures { λ r. ⌜ r ≡ openFile y (now (vol .entry)) (now (map .entry)) dir slot ⌝ }
+{
+    let cause = set_cause(set, y.count, y.size);
+    if cause != 0 {
+        return no_file(cause);
+    }
+    let s = open_stream(vol, map, y, set);
+    if s.number != 0 {
+        return no_file(s.number);
+    }
+    let spot = crate::spot::spot_from(vol, y, dir, slot, e);
+    let a = s.allocation;
+    OpenFile {
+        number: 0,
+        spot: spot,
+        stream: a,
+    }
+}
+
+// Opens the file whose entry is known, at a slot with no type 0 before it, and copies its set.
+fn open_at(
+    vol: &[u8],
+    map: &[u8],
+    y: Layout,
+    dir: Allocation,
+    slot: u32,
+    e: Cursor,
+    total: u32,
+    set: &mut [u8; 608],
+) -> OpenFile
+    requires { ⌜ Laid y × ((length (now vol) ≡ y .len) × ((y .count ≤ 8 * length (now map)) × (Apart y × ((numberOf (streamOf y (now vol) dir) ≡ 0) × ((slot < entryCount (bytesIn y (now vol) dir)) × ((e ≡ entryPlace y (now vol) dir slot) × ((total ≡ entryCount (bytesIn y (now vol) dir)) × ((total ≤ 524288) × ((beforeEnd (bytesIn y (now vol) dir) slot ≡ true) × (now set ≡ replicate 608 0)))))))))) ⌝ }
+    ensures { λ r. ⌜ (r ≡ openFile y (now (vol .entry)) (now (map .entry)) dir slot) × (now (set .exit) ≡ setRead (bytesIn y (now (vol .entry)) dir) slot) ⌝ }
+{
+    let n = entries_here(vol, y, dir, slot, e, total);
+    if n == 0 {
+        return no_file(10);
+    }
+    copy_set(vol, y, dir, slot, e, n, set);
+    open_copied(vol, map, y, dir, slot, e, set)
+}
+
+// Opens the file at a slot, and copies its set (Rust: `open_for_write`).
+pub fn open_file(
+    vol: &[u8],
+    map: &[u8],
+    y: Layout,
+    dir: Allocation,
+    slot: u32,
+    set: &mut [u8; 608],
+) -> OpenFile
+    requires { ⌜ Laid y × ((length (now vol) ≡ y .len) × ((y .count ≤ 8 * length (now map)) × (Apart y × ((numberOf (streamOf y (now vol) dir) ≡ 0) × (now set ≡ replicate 608 0))))) ⌝ }
+    ensures { λ r. ⌜ (r ≡ openFile y (now (vol .entry)) (now (map .entry)) dir slot) × (now (set .exit) ≡ setRead (bytesIn y (now (vol .entry)) dir) slot) ⌝ }
+{
+    let total = crate::entries::entry_count(vol, y, dir);
+    if total <= slot {
+        return no_file(10);
+    }
+    let e = crate::entries::slot_entry(vol, y, dir, slot);
+    if e.cluster == 0 {
+        return no_file(10);
+    }
+    open_at(vol, map, y, dir, slot, e, total, set)
+}
