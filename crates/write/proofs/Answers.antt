@@ -3,7 +3,7 @@ use mathlib.Core.Path.{_≡_, refl, sym, _∙_, ap}
 use mathlib.Core.Logic.{_≢_, _↔_}
 use mathlib.Core.Bool.{Bool, true, false, cond}
 use mathlib.Core.List.{List, [], _∷_, _++_}
-use Prim.Native.Nat.{ℕ, _+_, _-_, _≤_, _<_}
+use Prim.Native.Nat.{ℕ, _+_, _-_, _≤_, _<_, max}
 use native.Mathlib.Decide.{ℕ-discrete, decLt}
 use native.Mathlib.Omega.{arith}
 use lib.Dec.{eqb, ltb}
@@ -29,7 +29,7 @@ use Rattle.directory.specs.Open.{fileRecord, setIn}
 use Rattle.write_dir.specs.Place.{growBy}
 use Rattle.write_file.specs.NewFile.{newGrowth, newFileCause, placed, newFileIn, newFile}
 use Rattle.file.specs.Refresh.{missing, lengthCause, openCause, refreshedOnly}
-use Rattle.write_file.specs.Write.{larger, endCause, dataCause, writeCause, written, writeIn, writeInto}
+use Rattle.write_file.specs.Write.{endCause, dataCause, writeCause, written, writeIn, writeInto}
 use Rattle.write_length.specs.SetLength.{setLengthCause, shorter, longerFile, resized, setLengthIn, setLength}
 use Rattle.write_remove.specs.Remove.{unlinked, removeIn, remove}
 use Rattle.write.specs.Calls.{Call, New, Write, SetLength, Remove, step}
@@ -222,7 +222,7 @@ module _ (g : Geometry) (m d : List ℕ) where
         decided-number (write-decided g m d l i offset bs t hint) ∙ (unfold writeCause in (by (eqb (length bs) 0)))
       where
         len : ℕ
-        len = larger (dataLength (setOf g d i)) (offset + length bs)
+        len = max (dataLength (setOf g d i)) (offset + length bs)
 
         data-is : dataCause (lay g d) d m (setIn (lay g d) d (root g d) i) offset (length bs)
             ≡ firstCause (endCause offset (length bs) ∷ spaceCause (beyond g d i len) (usable g m d) ∷ [])
@@ -235,7 +235,7 @@ module _ (g : Geometry) (m d : List ℕ) where
             → firstCause (openCause (lay g d) d m (root g d) i hint ∷ cond b 0 (dataCause (lay g d) d m (setIn (lay g d) d (root g d) i) offset (length bs)) ∷ [])
             ≡ firstCause
             (firstCause (admitCause g d m ∷ openCause (lay g d) d m (root g d) i hint ∷ cond b 0 (endCause offset (length bs)) ∷ [])
-            ∷ spaceCause (cond b 0 (beyond g d i (larger (dataLength (setOf g d i)) (offset + length bs)))) (usable g m d)
+            ∷ spaceCause (cond b 0 (beyond g d i (max (dataLength (setOf g d i)) (offset + length bs)))) (usable g m d)
             ∷ [])
         by true =
             cause-zero (openCause (lay g d) d m (root g d) i hint ∷ 0 ∷ [])

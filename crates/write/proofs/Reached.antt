@@ -3,7 +3,7 @@
 use mathlib.Core.Path.{_≡_, refl, sym, _∙_, ap, subst}
 use mathlib.Core.Bool.{Bool, true, false, cond, false≢true}
 use mathlib.Core.List.{List}
-use Prim.Native.Nat.{ℕ, _+_, _≤_}
+use Prim.Native.Nat.{ℕ, _+_, _≤_, max}
 use native.Mathlib.Decide.{ℕ-discrete}
 use native.Mathlib.Omega.{arith}
 use lib.Dec.{eqb}
@@ -24,7 +24,7 @@ use Rattle.file.specs.Outcome.{Outcome}
 use Rattle.directory.specs.Open.{fileRecord, setIn, fileCause, streamCause}
 use Rattle.write_file.specs.NewFile.{newGrowth, newFileCause}
 use Rattle.file.specs.Refresh.{missing, lengthCause, openCause, refreshedOnly}
-use Rattle.write_file.specs.Write.{larger, dataCause, writeCause, written}
+use Rattle.write_file.specs.Write.{dataCause, writeCause, written}
 use Rattle.write_file.proofs.NewFileLaws.{space-enough}
 use Rattle.file.proofs.KeepLaws.{DirectoryOwn, StreamOwn, refreshed-on}
 use Rattle.write_file.proofs.KeepLaws.{placed-on, written-on}
@@ -86,7 +86,7 @@ module _ (g : Geometry) (m d : List ℕ) (i hint : ℕ) where
   write-parts offset n e = both-clear _ _ e
 
   data-enough : (s : List ℕ) (offset n : ℕ) → dataCause (lay g d) d m s offset n ≡ 0
-      → missing (lay g d) (fileRecord (lay g d) d s) (larger (dataLength s) (offset + n)) ≤ count (isUsable (lay g d) d m) 2 (lay g d .count)
+      → missing (lay g d) (fileRecord (lay g d) d s) (max (dataLength s) (offset + n)) ≤ count (isUsable (lay g d) d m) 2 (lay g d .count)
   unfolding dataCause lengthCause
   data-enough s offset n e = space-enough _ _ (both-clear _ _ e .1)
 

@@ -3,7 +3,7 @@ use mathlib.Core.Path.{_≡_, refl, sym, _∙_, ap, ap₂, subst}
 use mathlib.Core.Bool.{Bool, false, cond}
 use mathlib.Core.List.{[], List, _∷_}
 use mathlib.Core.Option.{none, some, Option·some-injective}
-use Prim.Native.Nat.{ℕ, suc, _*_, _≤_, _<_}
+use Prim.Native.Nat.{ℕ, suc, _*_, _≤_, _<_, min}
 use native.Mathlib.Omega.{arith}
 use lib.ListN.{length, take}
 use lib.Seq.{length-take-le}
@@ -31,7 +31,7 @@ use Rattle.directory.proofs.DirectoryLaws.{clusters-length}
 use Rattle.file.specs.Outcome.{carried}
 use Rattle.directory.specs.Open.{fileRecord, setIn}
 use Rattle.file.specs.Refresh.{entriesOf, recorded, stored, openCause}
-use Rattle.write_length.specs.SetLength.{smaller, setLengthCause, shorter, resized}
+use Rattle.write_length.specs.SetLength.{setLengthCause, shorter, resized}
 use Rattle.write.specs.Calls.{SetLength, step}
 use Rattle.write.specs.Consistent.{Consistent, lay, root, rootBytes, setOf, streamAt, fileClusters}
 use Rattle.write.specs.Contents.{shown, contents}
@@ -54,10 +54,6 @@ kept-bare : (a : Allocation) (ks : List ℕ) → keptRecord a ks .count ≡ 0 �
 unfolding keptRecord
 kept-bare a [] z = refl
 kept-bare a (k ∷ ks) z = absurd (omega arith)
-
-smaller-right : (a b : ℕ) → smaller a b ≤ b
-unfolding smaller
-smaller-right a b = omega arith
 
 module _ (g : Geometry) (m d : List ℕ) (c : Consistent g m d) (i len : ℕ) (t : Stamp) (hint : ℕ)
     (less : len < dataLength (setOf g d i)) (z : step g m d (SetLength i len t hint) .answer .number ≡ 0) where
@@ -82,7 +78,7 @@ module _ (g : Geometry) (m d : List ℕ) (c : Consistent g m d) (i len : ℕ) (t
   b′ = keptRecord b (take keep ks)
 
   abbrev valid′ : ℕ
-  valid′ = smaller (validLength s) len
+  valid′ = min (validLength s) len
 
   abbrev x : List ℕ
   x = recorded s b′ valid′ len t
@@ -146,7 +142,7 @@ module _ (g : Geometry) (m d : List ℕ) (c : Consistent g m d) (i len : ℕ) (t
   bare = kept-bare b (take keep ks)
 
   valid-le : valid′ ≤ len
-  valid-le = smaller-right (validLength s) len
+  valid-le = omega arith
 
   fit′ : Fit (y .count) (y .size) n x
   fit′ =

@@ -3,7 +3,7 @@
 use mathlib.Core.Path.{_≡_, refl, sym, _∙_, ap, ap₂}
 use mathlib.Core.Logic.{_≢_}
 use mathlib.Core.List.{[], List, _++_, append-assoc, append-nil}
-use Prim.Native.Nat.{ℕ, _+_, _-_, _≤_, _<_}
+use Prim.Native.Nat.{ℕ, _+_, _-_, _≤_, _<_, min, max}
 use native.Mathlib.Decide.{decLt}
 use native.Mathlib.Omega.{arith}
 use lib.ListN.{length, getD, take, drop, replicate, length-append, length-take, length-drop, length-replicate, replicate-append-replicate, List·getD-append, List·getD-eq-default}
@@ -11,8 +11,6 @@ use lib.Seq.{length-take-le, take-all, take-append-le, take-at, getD-take, getD-
 use Rattle.primitives.specs.Splice.{splice}
 use Rattle.primitives.proofs.SpliceLaws.{length-splice, splice-in, splice-off}
 use Rattle.entry_set.proofs.NewLaws.{getD-zeros}
-use Rattle.write_file.specs.Write.{larger}
-use Rattle.write_length.specs.SetLength.{smaller}
 use Rattle.write.specs.Contents.{shown}
 use Rattle.write.specs.Model.{overwrite, resize}
 
@@ -64,8 +62,8 @@ module _ (l : List ℕ) (offset : ℕ) (bs : List ℕ) where
       length-take-le offset (l ++ replicate (offset - length l) 0)
       (omega (arith, length-append l (replicate (offset - length l) 0), length-replicate {A = ℕ} (offset - length l) 0))
 
-  pub length-over : length (overwrite l offset bs) ≡ larger (length l) (offset + length bs)
-  unfolding overwrite larger
+  pub length-over : length (overwrite l offset bs) ≡ max (length l) (offset + length bs)
+  unfolding overwrite
   length-over =
       omega (
         arith,
@@ -138,24 +136,23 @@ module _ (R : List ℕ) (valid len offset : ℕ) (bs : List ℕ) (stored : valid
       ∙ getD-zeros (offset - valid) (i - valid)
 
   write-all : 1 ≤ length bs
-      → shown written (larger valid (offset + length bs)) (larger len (offset + length bs)) ≡ overwrite (shown R valid len) offset bs
-  unfolding larger
+      → shown written (max valid (offset + length bs)) (max len (offset + length bs)) ≡ overwrite (shown R valid len) offset bs
   write-all some =
       ext-getD 0 new (overwrite old offset bs)
-      (length-shown written valid′ len′ s′ v′ ∙ sym (length-over old offset bs ∙ (unfold larger in (ap (λ (x : ℕ). x + (offset + length bs - x)) (length-shown R valid len stored v)))))
+      (length-shown written valid′ len′ s′ v′ ∙ sym (length-over old offset bs ∙ ap (λ (x : ℕ). max x (offset + length bs)) (length-shown R valid len stored v)))
       (λ i _. at i (decLt i offset) (decLt i (offset + length bs)) (decLt i valid))
     where
       valid′ : ℕ
-      valid′ = valid + (offset + length bs - valid)
+      valid′ = max valid (offset + length bs)
 
       len′ : ℕ
-      len′ = len + (offset + length bs - len)
+      len′ = max len (offset + length bs)
 
       old : List ℕ
       old = shown R valid len
 
       new : List ℕ
-      new = shown written (valid + (offset + length bs - valid)) (len + (offset + length bs - len))
+      new = shown written (max valid (offset + length bs)) (max len (offset + length bs))
 
       s′ : valid′ ≤ length written
       s′ = omega (arith, length-written)
@@ -163,7 +160,7 @@ module _ (R : List ℕ) (valid len offset : ℕ) (bs : List ℕ) (stored : valid
       v′ : valid′ ≤ len′
       v′ = omega arith
 
-      below : (i : ℕ) → i < valid + (offset + length bs - valid) → getD new i 0 ≡ getD written i 0
+      below : (i : ℕ) → i < max valid (offset + length bs) → getD new i 0 ≡ getD written i 0
       below i h = shown-below written valid′ len′ s′ v′ i h
 
       at : (i : ℕ) → Dec (i < offset) → Dec (i < offset + length bs) → Dec (i < valid) → getD new i 0 ≡ getD (overwrite old offset bs) i 0
@@ -185,18 +182,14 @@ module _ (R : List ℕ) (valid len offset : ℕ) (bs : List ℕ) (stored : valid
           shown-above written valid′ len′ s′ v′ i (omega arith)
           ∙ sym (over-above old offset bs i (omega arith) ∙ shown-above R valid len stored v i (omega arith))
 
-larger-right : (a b c : ℕ) → larger a b ≤ c → b ≤ c
-unfolding larger
-larger-right a b c h = omega arith
-
 -- data written to a stream of bytes B that grew by X
 pub shown-written : (B X : List ℕ) (valid len offset : ℕ) (bs : List ℕ) → valid ≤ len → len ≤ length B → 1 ≤ length bs
-    → larger len (offset + length bs) ≤ length (B ++ X)
-    → shown (splice (splice (B ++ X) valid (replicate (offset - valid) 0)) offset bs) (larger valid (offset + length bs)) (larger len (offset + length bs))
+    → max len (offset + length bs) ≤ length (B ++ X)
+    → shown (splice (splice (B ++ X) valid (replicate (offset - valid) 0)) offset bs) (max valid (offset + length bs)) (max len (offset + length bs))
     ≡ overwrite (shown B valid len) offset bs
 shown-written B X valid len offset bs v l some room =
     let n = length-append B X in
-    write-all (B ++ X) valid len offset bs (omega arith) v (larger-right len (offset + length bs) (length (B ++ X)) room) some
+    write-all (B ++ X) valid len offset bs (omega arith) v (omega (arith, room)) some
     ∙ ap (λ (l : List ℕ). overwrite l offset bs) (shown-front B X valid len (omega arith))
 
 -- ---- a new length
@@ -232,17 +225,17 @@ module _ (B : List ℕ) (valid len : ℕ) (v : valid ≤ len) (l : len ≤ lengt
           rw (e, ← replicate-append-replicate, append-assoc))
 
   -- shorter: the bytes cut somewhere past the new length
-  pub shown-shorter : (k len′ : ℕ) → len′ ≤ len → len′ ≤ k → shown (take k B) (smaller valid len′) len′ ≡ resize (shown B valid len) len′
-  unfolding resize smaller
+  pub shown-shorter : (k len′ : ℕ) → len′ ≤ len → len′ ≤ k → shown (take k B) (min valid len′) len′ ≡ resize (shown B valid len) len′
+  unfolding resize
   shown-shorter k len′ a b =
-      ext-getD 0 (shown (take k B) (valid - (valid - len′)) len′) (take len′ old ++ replicate (len′ - length old) 0)
-      (length-shown (take k B) (valid - (valid - len′)) len′ s′ (omega arith) ∙ sym cut-length)
-      (λ i h. at i (omega (arith, length-shown (take k B) (valid - (valid - len′)) len′ s′ (omega arith))) (decLt i valid))
+      ext-getD 0 (shown (take k B) (min valid len′) len′) (take len′ old ++ replicate (len′ - length old) 0)
+      (length-shown (take k B) (min valid len′) len′ s′ (omega arith) ∙ sym cut-length)
+      (λ i h. at i (omega (arith, length-shown (take k B) (min valid len′) len′ s′ (omega arith))) (decLt i valid))
     where
       old : List ℕ
       old = shown B valid len
 
-      s′ : valid - (valid - len′) ≤ length (take k B)
+      s′ : min valid len′ ≤ length (take k B)
       s′ = omega (arith, length-take k B)
 
       cut-short : length (take len′ old) ≡ len′
@@ -262,12 +255,12 @@ module _ (B : List ℕ) (valid len : ℕ) (v : valid ≤ len) (l : len ≤ lengt
       model i h = at-left (take len′ old) (replicate (len′ - length old) 0) i (omega (arith, cut-short)) ∙ getD-take len′ old i 0 h
 
       at : (i : ℕ) → i < len′ → Dec (i < valid)
-          → getD (shown (take k B) (valid - (valid - len′)) len′) i 0 ≡ getD (take len′ old ++ replicate (len′ - length old) 0) i 0
+          → getD (shown (take k B) (min valid len′) len′) i 0 ≡ getD (take len′ old ++ replicate (len′ - length old) 0) i 0
       at i h (yes c) =
-          shown-below (take k B) (valid - (valid - len′)) len′ s′ (omega arith) i (omega arith) ∙ getD-take k B i 0 (omega arith)
+          shown-below (take k B) (min valid len′) len′ s′ (omega arith) i (omega arith) ∙ getD-take k B i 0 (omega arith)
           ∙ sym (model i h ∙ shown-below B valid len (omega arith) v i c)
       at i h (no c) =
-          shown-above (take k B) (valid - (valid - len′)) len′ s′ (omega arith) i (omega arith)
+          shown-above (take k B) (min valid len′) len′ s′ (omega arith) i (omega arith)
           ∙ sym (model i h ∙ shown-above B valid len (omega arith) v i (omega arith))
 
   -- equal

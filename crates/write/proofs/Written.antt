@@ -4,7 +4,7 @@ use mathlib.Core.Logic.{_≢_}
 use mathlib.Core.Bool.{true, cond}
 use mathlib.Core.List.{List, _++_}
 use mathlib.Core.Option.{some}
-use Prim.Native.Nat.{ℕ, _+_, _-_, _*_, _≤_, _<_}
+use Prim.Native.Nat.{ℕ, _+_, _-_, _*_, _≤_, _<_, max}
 use native.Mathlib.Decide.{ℕ-discrete, decLt}
 use native.Mathlib.Omega.{arith}
 use lib.Dec.{eqb}
@@ -34,10 +34,9 @@ use Rattle.directory.specs.Internal.{sets}
 use Rattle.file.specs.Outcome.{carried}
 use Rattle.directory.specs.Open.{fileRecord, setIn}
 use Rattle.file.specs.Refresh.{recorded, stored, missing, lengthCause, openCause, refreshedOnly}
-use Rattle.write_file.specs.Write.{larger, dataCause, writeCause, withData, written}
+use Rattle.write_file.specs.Write.{dataCause, writeCause, withData, written}
 use Rattle.write_length.specs.SetLength.{setLengthCause, zeroEnd, longerFile, resized}
 use Rattle.write_file.proofs.NewFileLaws.{space-enough}
-use Rattle.write_file.proofs.WriteLaws.{larger-above}
 use Rattle.write_length.proofs.SetLengthLaws as new-length
 use Rattle.write.specs.Calls.{Call, Write, SetLength, step}
 use Rattle.write.specs.Consistent.{Consistent, lay, root, rootBytes, setOf, streamAt, fileClusters}
@@ -54,9 +53,8 @@ use Rattle.write.proofs.Steps.{Step, refused-step}
 use Rattle.write.proofs.Hints.{hint-none, hint-some, extend-next}
 use Rattle.write.proofs.Rewritten.{Streamed, streamed-same, streamed-store, got, streamed-longer, longer-count, longer-room, longer-bytes, old-room, rewritten-last, rewritten-step, shows-before}
 
-larger-mono : (a b c : ℕ) → a ≤ b → larger a c ≤ larger b c
-unfolding larger
-larger-mono a b c l = omega arith
+max-mono : (a b c : ℕ) → a ≤ b → max a c ≤ max b c
+max-mono a b c l = omega arith
 
 module _ (g : Geometry) (m d : List ℕ) (c : Consistent g m d) where
   abbrev y : Layout
@@ -183,7 +181,7 @@ module _ (g : Geometry) (m d : List ℕ) (c : Consistent g m d) where
     W = Write i offset bs t hint
 
     abbrev len : ℕ
-    len = larger (dataLength (setOf g d i)) (offset + length bs)
+    len = max (dataLength (setOf g d i)) (offset + length bs)
 
     -- with no data
     write-none : openCause y d m (root g d) i hint ≡ 0 → length bs ≡ 0 → step g m d W ≡ refreshedOnly y d (root g d) i (setOf g d i) t hint → Step g m d W
@@ -201,10 +199,10 @@ module _ (g : Geometry) (m d : List ℕ) (c : Consistent g m d) where
       valid = validLength (setOf g d i)
 
       some-len : len ≢ 0
-      some-len z = n (omega (arith, larger-above (dataLength (setOf g d i)) end))
+      some-len z = n (omega arith)
 
       more : dataLength (setOf g d i) ≤ len
-      more = unfold larger in (omega arith)
+      more = omega arith
 
       fit : missing y (old i hint clear) len ≤ count (isUsable y d m) 2 (y .count)
       unfolding dataCause lengthCause
@@ -231,11 +229,10 @@ module _ (g : Geometry) (m d : List ℕ) (c : Consistent g m d) where
           let l = length-replicate {A = ℕ} (offset - valid) 0 in
           let v = valid-le i hint clear in
           let a = more in
-          let r = larger-above (dataLength (setOf g d i)) end in
           put i hint clear len some-len more fit _ _
           (put i hint clear len some-len more fit _ _ (first i hint clear len some-len more fit) valid zeros (omega arith)) offset bs (omega arith)
 
-      model-has : upd (contents g d) i (onto (λ l. overwrite l offset bs) (contents g d i)) i ≡ some (shown all (larger valid end) len)
+      model-has : upd (contents g d) i (onto (λ l. overwrite l offset bs) (contents g d i)) i ≡ some (shown all (max valid end) len)
       model-has =
           upd-same (contents g d) i (onto (λ l. overwrite l offset bs) (contents g d i))
           ∙ now i hint clear (λ l. overwrite l offset bs)
@@ -246,8 +243,8 @@ module _ (g : Geometry) (m d : List ℕ) (c : Consistent g m d) where
 
       write-some : step g m d W ≡ written y d m (root g d) i (setOf g d i) offset bs t hint → Step g m d W
       write-some is =
-          grown-step i hint clear len some-len more fit W (withData y (x .volume) ks valid offset bs) all (larger valid end) t stream
-          (larger-mono valid (dataLength (setOf g d i)) end (valid-le i hint clear)) (unfold hintOf in refl)
+          grown-step i hint clear len some-len more fit W (withData y (x .volume) ks valid offset bs) all (max valid end) t stream
+          (max-mono valid (dataLength (setOf g d i)) end (valid-le i hint clear)) (unfold hintOf in refl)
           (unfold mustAdd in (rw (ne-eqb (length bs) 0 n) refl)) (λ l. unfold clustersGrown in refl) (is ∙ (unfold written in refl)) (unfold callSlot in refl)
           (unfold setAfter in (unfold streamAt in (rw (ne-eqb (length bs) 0 n) refl))) (unfold accepted in (rw (ne-eqb (length bs) 0 n) model-has)) (unfold finds in (listed i hint clear)) (unfold rootAdds in refl)
           (unfold slotAnswered in refl)

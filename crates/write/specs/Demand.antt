@@ -4,7 +4,7 @@ use mathlib.Core.Logic.{_≢_, _↔_}
 use mathlib.Core.Bool.{true, false, cond}
 use mathlib.Core.List.{List, [], _∷_, _++_}
 use mathlib.Core.Option.{Option, none, some}
-use Prim.Native.Nat.{ℕ, _+_, _*_, _≤_, _<_}
+use Prim.Native.Nat.{ℕ, _+_, _*_, _≤_, _<_, min, max}
 use lib.Dec.{eqb, ltb}
 use lib.ListN.{length, getD, take}
 use Rattle.primitives.specs.Splice.{splice}
@@ -27,8 +27,6 @@ use Rattle.write_shrink.specs.Shrink.{keptRecord}
 use Rattle.directory.specs.Room as room
 use Rattle.file.specs.Outcome.{Outcome, refuse}
 use Rattle.file.specs.Refresh.{entriesOf, recorded, missing}
-use Rattle.write_file.specs.Write.{larger}
-use Rattle.write_length.specs.SetLength.{smaller}
 use Rattle.write.specs.Calls.{Call, New, Write, SetLength, Remove, step, run, answers}
 use Rattle.write.specs.Consistent.{Consistent, lay, rootClusters, rootBytes, fileAt, setOf, streamAt, fileClusters, fileBytes}
 use Rattle.write.specs.Contents.{contents}
@@ -55,15 +53,15 @@ setAfter g m d (New name attributes hash t hint) = some (newSet name attributes 
 setAfter g m d (Write i offset bs t hint) =
     let s = setOf g d i in
     let b = streamAt g d i in
-    let len = larger (dataLength s) (offset + length bs) in
+    let len = max (dataLength s) (offset + length bs) in
     cond (eqb (length bs) 0) (some (recorded s b (validLength s) (dataLength s) t))
-    (some (recorded s (extendIn (lay g d) d m b (missing (lay g d) b len) hint .answer .allocation) (larger (validLength s) (offset + length bs)) len t))
+    (some (recorded s (extendIn (lay g d) d m b (missing (lay g d) b len) hint .answer .allocation) (max (validLength s) (offset + length bs)) len t))
 setAfter g m d (SetLength i len t hint) =
     let s = setOf g d i in
     let b = streamAt g d i in
     cond (ltb len (dataLength s))
     (some
-    (recorded s (keptRecord b (take (clustersFor (lay g d .size) len) (fileClusters g d i))) (smaller (validLength s) len) len t))
+    (recorded s (keptRecord b (take (clustersFor (lay g d .size) len) (fileClusters g d i))) (min (validLength s) len) len t))
     (some (recorded s (extendIn (lay g d) d m b (missing (lay g d) b len) hint .answer .allocation) (validLength s) len t))
 setAfter g m d (Remove i hint) = none
 

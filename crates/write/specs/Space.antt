@@ -1,7 +1,7 @@
 -- The clusters that a volume's lengths take, those that a call must add, and what else refuses a call.
 use mathlib.Core.Bool.{cond}
 use mathlib.Core.List.{List, [], _∷_}
-use Prim.Native.Nat.{ℕ, zero, suc, _+_, _-_}
+use Prim.Native.Nat.{ℕ, zero, suc, _+_, _-_, max}
 use lib.Dec.{eqb}
 use lib.ListN.{length}
 use Rattle.tables.specs.Count.{count}
@@ -14,7 +14,7 @@ use Rattle.directory.specs.Directory.{directoryCause}
 use Rattle.directory.specs.Entries.{entryCount}
 use Rattle.write_file.specs.NewFile.{newGrowth}
 use Rattle.file.specs.Refresh.{openCause}
-use Rattle.write_file.specs.Write.{larger, endCause}
+use Rattle.write_file.specs.Write.{endCause}
 use Rattle.write.specs.Calls.{Call, New, Write, SetLength, Remove}
 use Rattle.write.specs.Consistent.{lay, root, rootClusters, rootBytes, fileAt, setOf}
 
@@ -42,7 +42,7 @@ beyond g d i len = clustersFor (lay g d .size) len - clustersFor (lay g d .size)
 -- what a call must add: what its new length takes beyond the old; a new file the fewest zeroed clusters that give the root room; else 0
 unfoldable pub mustAdd : Geometry → List ℕ → Call → ℕ
 mustAdd g d (New name attributes hash t hint) = newGrowth (lay g d) d (root g d) (length name)
-mustAdd g d (Write i offset bs t hint) = cond (eqb (length bs) 0) 0 (beyond g d i (larger (dataLength (setOf g d i)) (offset + length bs)))
+mustAdd g d (Write i offset bs t hint) = cond (eqb (length bs) 0) 0 (beyond g d i (max (dataLength (setOf g d i)) (offset + length bs)))
 mustAdd g d (SetLength i len t hint) = beyond g d i len
 mustAdd g d (Remove i hint) = 0
 

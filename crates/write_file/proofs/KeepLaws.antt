@@ -4,7 +4,7 @@ use mathlib.Core.Path.{_≡_, _∙_, ap}
 use mathlib.Core.Logic.{⊎-elim}
 use mathlib.Core.Bool.{true}
 use mathlib.Core.List.{List, _++_}
-use Prim.Native.Nat.{ℕ, _+_, _-_, _≤_}
+use Prim.Native.Nat.{ℕ, _+_, _-_, _≤_, max}
 use lib.ListN.{length, replicate}
 use Rattle.tables.specs.Lists.{every}
 use Rattle.tables.specs.Count.{count}
@@ -26,7 +26,7 @@ use Rattle.write_dir.proofs.AddedLaws.{grow-many, zeroed-clusters}
 use Rattle.write_dir.proofs.KeepLaws.{grow-on}
 use Rattle.write_file.specs.NewFile.{placed}
 use Rattle.file.specs.Refresh.{stored, missing}
-use Rattle.write_file.specs.Write.{larger, withData, written}
+use Rattle.write_file.specs.Write.{withData, written}
 use Rattle.file.proofs.RefreshLaws.{stream-is}
 use Rattle.file.proofs.CallLaws.{directory-reads, directory-plain}
 use Rattle.file.proofs.KeepLaws.{DirectoryOwn, StreamOwn, own-start, stored-on, longer-on, data-on}
@@ -58,11 +58,11 @@ module _ (y : Layout) (P : ℕ → Type 0) (K : List ℕ → List ℕ → Type 0
 
   pub written-on : (i : ℕ) (x : List ℕ) → StreamOwn y P d m (fileRecord y d x) → (offset : ℕ) (bs : List ℕ) (t : Stamp) (hint : ℕ)
       → inHeap (y .count) hint ≡ true
-      → missing y (fileRecord y d x) (larger (dataLength x) (offset + length bs)) ≤ count (isUsable y d m) 2 (y .count)
+      → missing y (fileRecord y d x) (max (dataLength x) (offset + length bs)) ≤ count (isUsable y d m) 2 (y .count)
       → Went y K d (written y d m a i x offset bs t hint .volume)
   unfolding written carried withData
   written-on i x f offset bs t hint h enough =
       let b = fileRecord y d x in
-      let n = missing y b (larger (dataLength x) (offset + length bs)) in
+      let n = missing y b (max (dataLength x) (offset + length bs)) in
       stored-on y P K s d m a r _ (data-on y P K s d m a r b f n hint h enough _ (data-on y P K s d m a r b f n hint h enough _ (longer-on y P K s d m a r b f n hint h enough) (validLength x) (replicate (offset - validLength x) 0)) offset bs)
       i x _ _ _ t

@@ -2,7 +2,7 @@
 use mathlib.Core.Path.{_≡_, refl, sym, _∙_, ap, ap₂}
 use mathlib.Core.Bool.{cond}
 use mathlib.Core.List.{List, [], _∷_}
-use Prim.Native.Nat.{ℕ, _+_, _-_, _≤_, _<_}
+use Prim.Native.Nat.{ℕ, _+_, _-_, _≤_, _<_, max}
 use native.Mathlib.Decide.{ℕ-discrete}
 use native.Mathlib.Omega.{arith}
 use lib.Dec.{eqb}
@@ -28,19 +28,7 @@ use Rattle.directory.specs.Open.{fileRecord, setIn}
 use Rattle.file.specs.Refresh.{stored, missing, lengthCause, openCause, refreshedOnly}
 use Rattle.write_file.specs.declared.write.DataAnswer.{DataAnswer}
 use Rattle.write_file.specs.Internal.{DataOutcome, storeCause, unstored, dataStored}
-use Rattle.write_file.specs.Write.{larger, endCause, dataCause, withData, written, writeCause, writeIn, writeInto}
-
-pub larger-right : (a b : ℕ) → a ≤ b → larger a b ≡ b
-unfolding larger
-larger-right a b h = omega arith
-
-pub larger-left : (a b : ℕ) → b ≤ a → larger a b ≡ a
-unfolding larger
-larger-left a b h = omega arith
-
-pub larger-above : (a b : ℕ) → b ≤ larger a b
-unfolding larger
-larger-above a b = omega arith
+use Rattle.write_file.specs.Write.{endCause, dataCause, withData, written, writeCause, writeIn, writeInto}
 
 -- zeros, then data
 pub data-is : (y : Layout) (d d′ d″ js : List ℕ) (valid offset : ℕ) (bs : List ℕ) → d′ ≡ storeAt y d js valid (replicate (offset - valid) 0)
@@ -55,10 +43,10 @@ module _ (y : Layout) (d m : List ℕ) (b : Allocation) (len offset n : ℕ) whe
   unfolding storeCause endCause
   store-past h = rw (le-ltb (offset + n) 18446744073709551616 (omega arith)) (unfold firstCause in refl)
 
-  store-space : offset + n ≤ 18446744073709551615 → storeCause y d m b len offset n ≡ lengthCause y d m b (larger len (offset + n))
+  store-space : offset + n ≤ 18446744073709551615 → storeCause y d m b len offset n ≡ lengthCause y d m b (max len (offset + n))
   unfolding storeCause endCause
   store-space h =
-      let c = lengthCause y d m b (larger len (offset + n)) in
+      let c = lengthCause y d m b (max len (offset + n)) in
       rw (lt-ltb (offset + n) 18446744073709551616 (omega arith)) (cause-skip 0 (c ∷ []) refl ∙ cause-last c)
 
 module _ (y : Layout) (d m : List ℕ) (b : Allocation) (valid len offset : ℕ) (bs : List ℕ) (hint : ℕ) where
@@ -80,9 +68,9 @@ module _ (y : Layout) (d m : List ℕ) (b : Allocation) (valid len offset : ℕ)
     unfolding dataStored
     refused-is k e z = rw (ne-eqb (length bs) 0 some, e, ne-eqb k 0 z) refl
 
-    done-is : storeCause y d m b len offset (length bs) ≡ 0 → (o : Alloc.Outcome) → o ≡ extendIn y d m b (missing y b (larger len (offset + length bs))) hint
+    done-is : storeCause y d m b len offset (length bs) ≡ 0 → (o : Alloc.Outcome) → o ≡ extendIn y d m b (missing y b (max len (offset + length bs))) hint
         → all ≡ record {
-          answer = record { number = 0; allocation = o .answer .allocation; valid = larger valid (offset + length bs); len = larger len (offset + length bs); hint = o .answer .hint };
+          answer = record { number = 0; allocation = o .answer .allocation; valid = max valid (offset + length bs); len = max len (offset + length bs); hint = o .answer .hint };
           volume = withData y (o .volume) (clustersIn y (o .volume) (o .answer .allocation)) valid offset bs;
         }
     unfolding dataStored
@@ -92,7 +80,7 @@ module _ (y : Layout) (d m : List ℕ) (b : Allocation) (valid len offset : ℕ)
         → (r ≡ all .answer) × (d ≡ all .volume)
     stored-past h = as-unstored 8 (refused-is 8 (store-past y d m b len offset (length bs) h) (λ z. omega arith))
 
-    module _ (h : offset + length bs ≤ 18446744073709551615) (goal : ℕ) (g : goal ≡ larger len (offset + length bs)) where
+    module _ (h : offset + length bs ≤ 18446744073709551615) (goal : ℕ) (g : goal ≡ max len (offset + length bs)) where
       cause-goal : storeCause y d m b len offset (length bs) ≡ lengthCause y d m b goal
       cause-goal = store-space y d m b len offset (length bs) h ∙ ap (lengthCause y d m b) (sym g)
 
@@ -100,7 +88,7 @@ module _ (y : Layout) (d m : List ℕ) (b : Allocation) (valid len offset : ℕ)
           → (r ≡ all .answer) × (d ≡ all .volume)
       stored-refused k e z = as-unstored k (refused-is k (cause-goal ∙ sym e) z)
 
-      pub stored-done : lengthCause y d m b goal ≡ 0 → (v : ℕ) → v ≡ larger valid (offset + length bs) → (r : Answer) (e : List ℕ)
+      pub stored-done : lengthCause y d m b goal ≡ 0 → (v : ℕ) → v ≡ max valid (offset + length bs) → (r : Answer) (e : List ℕ)
           → r ≡ extendIn y d m b (missing y b goal) hint .answer
           → e ≡ withData y (extendIn y d m b (missing y b goal) hint .volume) (clustersIn y (extendIn y d m b (missing y b goal) hint .volume) (r .allocation)) valid offset bs
           → (record { number = 0; allocation = r .allocation; valid = v; len = goal; hint = r .hint } ≡ all .answer) × (e ≡ all .volume)
@@ -193,7 +181,7 @@ module _ (y : Layout) (d m : List ℕ) (a : Allocation) (slot offset : ℕ) (bs 
             let c : dataCause y d m s offset (length bs) ≡ k = unfold storeCause in (unfold dataCause in refl) in
             elim (ℕ-discrete k 0) [
               | yes z ↦
-                  let l = larger (dataLength s) (offset + length bs) in
+                  let l = max (dataLength s) (offset + length bs) in
                   by-outcome _ (done-is y d m b (validLength s) (dataLength s) offset bs hint f z (extendIn y d m b (missing y b l) hint) refl)
                   ((λ u. absurd (u refl)), (λ u. write-done y d m a slot offset bs t hint o f (c ∙ z) ∙ (unfold written in refl)))
               | no z ↦

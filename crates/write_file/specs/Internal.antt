@@ -2,7 +2,7 @@
 use mathlib.Core.Path.{_≡_}
 use mathlib.Core.Bool.{true, cond}
 use mathlib.Core.List.{List, [], _∷_}
-use Prim.Native.Nat.{ℕ, _+_, _*_, _≤_}
+use Prim.Native.Nat.{ℕ, _+_, _*_, _≤_, max}
 use lib.Dec.{eqb}
 use lib.ListN.{length}
 use Rattle.boot.specs.declared.layout.Layout.{Layout}
@@ -16,7 +16,7 @@ use Rattle.write_extend.specs.Extend.{extendIn}
 use Rattle.directory.specs.Directory.{directoryCause}
 use Rattle.file.specs.Refresh.{missing, lengthCause}
 use Rattle.write_file.specs.declared.write.DataAnswer.{DataAnswer}
-use Rattle.write_file.specs.Write.{larger, endCause, withData}
+use Rattle.write_file.specs.Write.{endCause, withData}
 
 -- what internal functions require: a volume in the limits, a directory that opens, and a hint in the heap
 pub record Ready (y : Layout) (d m : List ℕ) (a : Allocation) (hint : ℕ) : Type 0 where
@@ -35,7 +35,7 @@ pub record DataOutcome : Type 0 where
 
 -- what refuses n bytes at an offset of a file of length len with stream b, n not 0: 8, then 7
 unfoldable pub storeCause : (y : Layout) (d m : List ℕ) (b : Allocation) (len offset n : ℕ) → ℕ
-storeCause y d m b len offset n = firstCause (endCause offset n ∷ lengthCause y d m b (larger len (offset + n)) ∷ [])
+storeCause y d m b len offset n = firstCause (endCause offset n ∷ lengthCause y d m b (max len (offset + n)) ∷ [])
 
 -- nothing stored: a number, what the file has, and the volume as it was
 abbrev pub unstored : (n : ℕ) (b : Allocation) (valid len hint : ℕ) (d : List ℕ) → DataOutcome
@@ -46,12 +46,12 @@ unfoldable pub dataStored : (y : Layout) (d m : List ℕ) (b : Allocation) (vali
 dataStored y d m b valid len offset bs hint =
     let n = length bs in
     let number = storeCause y d m b len offset n in
-    let o = extendIn y d m b (missing y b (larger len (offset + n))) hint in
+    let o = extendIn y d m b (missing y b (max len (offset + n))) hint in
     let a = o .answer .allocation in
     cond (eqb n 0) (unstored 0 b valid len hint d)
     (cond (eqb number 0)
     (record {
-      answer = record { number = 0; allocation = a; valid = larger valid (offset + n); len = larger len (offset + n); hint = o .answer .hint };
+      answer = record { number = 0; allocation = a; valid = max valid (offset + n); len = max len (offset + n); hint = o .answer .hint };
       volume = withData y (o .volume) (clustersIn y (o .volume) a) valid offset bs;
     })
     (unstored number b valid len hint d))

@@ -1,7 +1,7 @@
 -- Write (01, "Write"; Rust: `write_into`).
 use mathlib.Core.Bool.{cond}
 use mathlib.Core.List.{List, [], _∷_}
-use Prim.Native.Nat.{ℕ, _+_, _-_, _^_}
+use Prim.Native.Nat.{ℕ, _+_, _-_, _^_, max}
 use lib.Dec.{eqb, ltb}
 use lib.ListN.{length, replicate}
 use Rattle.boot.specs.declared.geometry.Geometry.{Geometry}
@@ -20,10 +20,6 @@ use Rattle.file.specs.Outcome.{Outcome, refuse, carried}
 use Rattle.directory.specs.Open.{fileRecord, setIn}
 use Rattle.file.specs.Refresh.{stored, refreshedOnly, missing, lengthCause, openCause}
 
--- the larger of two numbers
-unfoldable pub larger : (a b : ℕ) → ℕ
-larger a b = a + (b - a)
-
 -- 8: offset plus data length above 2^64 - 1
 unfoldable pub endCause : (offset n : ℕ) → ℕ
 endCause offset n = cond (ltb (offset + n) (2 ^ 64)) 0 8
@@ -31,7 +27,7 @@ endCause offset n = cond (ltb (offset + n) (2 ^ 64)) 0 8
 -- what refuses n bytes at an offset, n not 0: 8, then 7
 unfoldable pub dataCause : (y : Layout) (d m s : List ℕ) (offset n : ℕ) → ℕ
 dataCause y d m s offset n =
-    firstCause (endCause offset n ∷ lengthCause y d m (fileRecord y d s) (larger (dataLength s) (offset + n)) ∷ [])
+    firstCause (endCause offset n ∷ lengthCause y d m (fileRecord y d s) (max (dataLength s) (offset + n)) ∷ [])
 
 -- what refuses a write, in this order: the hint, the directory's, 10, 11, the stream's; with data 8, then 7
 unfoldable pub writeCause : (y : Layout) (d m : List ℕ) (a : Allocation) (slot offset n hint : ℕ) → ℕ
@@ -45,12 +41,12 @@ withData y d js valid offset bs = storeAt y (storeAt y d js valid (replicate (of
 -- data written to the file of set s: grow, zero, store, then the entry set
 unfoldable pub written : (y : Layout) (d m : List ℕ) (a : Allocation) (slot : ℕ) (s : List ℕ) (offset : ℕ) (bs : List ℕ) (t : Stamp) (hint : ℕ) → Outcome
 written y d m a slot s offset bs t hint =
-    let len = larger (dataLength s) (offset + length bs) in
+    let len = max (dataLength s) (offset + length bs) in
     let o = extendIn y d m (fileRecord y d s) (missing y (fileRecord y d s) len) hint in
     let b = o .answer .allocation in
     carried 0 (o .answer .hint)
     (stored y (withData y (o .volume) (clustersIn y (o .volume) b) (validLength s) offset bs) (clustersIn y d a) slot s b
-    (larger (validLength s) (offset + length bs)) len t)
+    (max (validLength s) (offset + length bs)) len t)
 
 -- data written to the file at a slot of directory a; empty data only refreshes the entry
 unfoldable pub writeIn : (y : Layout) (d m : List ℕ) (a : Allocation) (slot offset : ℕ) (bs : List ℕ) (t : Stamp) (hint : ℕ) → Outcome

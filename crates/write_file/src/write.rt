@@ -1,7 +1,7 @@
 // Write: data stored in a file at an offset (Rust: `write_into`).
 ghost use mathlib.Core.Path.{_≡_};
 ghost use mathlib.Core.Bool.{true};
-ghost use Prim.Native.Nat.{_+_, _-_, _*_, _≤_, _<_};
+ghost use Prim.Native.Nat.{_+_, _-_, _*_, _≤_, _<_, max};
 ghost use lib.ListN.{length};
 ghost use Rattle.boot.specs.Internal.{Laid, Apart};
 ghost use Rattle.boot.specs.Layout.{inHeap};
@@ -11,7 +11,7 @@ ghost use Rattle.write_extend.specs.Extend.{extendIn};
 ghost use Rattle.directory.specs.Directory.{rootRecord};
 ghost use Rattle.file.specs.Refresh.{missing, lengthCause};
 ghost use Rattle.write_file.specs.Internal.{dataStored};
-ghost use Rattle.write_file.specs.Write.{larger, withData, writeIn, writeInto};
+ghost use Rattle.write_file.specs.Write.{withData, writeIn, writeInto};
 use boot::geometry::Geometry;
 use boot::layout::Layout;
 use entry_set::stamp::Stamp;
@@ -30,8 +30,8 @@ pub struct DataAnswer {
 }
 
 // The larger of two numbers.
-fn larger(a: u64, b: u64) -> u64
-    ensures { λ r. ⌜ r ≡ larger a b ⌝ }
+fn max(a: u64, b: u64) -> u64
+    ensures { λ r. ⌜ r ≡ max a b ⌝ }
 {
     if a < b {
         return b;
@@ -112,7 +112,7 @@ fn write_data(
         return unstored(8, b, valid, len, hint);
     }
     let end = offset + src.len() as u64;
-    let goal = larger(len, end);
+    let goal = max(len, end);
     let number = file::refresh::length_cause(vol, map, y, b, goal);
     if number != 0 {
         return unstored(number, b, valid, len, hint);
@@ -122,7 +122,7 @@ fn write_data(
     DataAnswer {
         number: 0,
         allocation: a,
-        valid: larger(valid, end),
+        valid: max(valid, end),
         len: goal,
         hint: r.hint,
     }

@@ -2,7 +2,7 @@
 use mathlib.Core.Path.{_≡_, refl, sym, _∙_, ap, ap₂}
 use mathlib.Core.Bool.{true}
 use mathlib.Core.List.{List, [], _∷_}
-use Prim.Native.Nat.{ℕ, _+_, _-_, _*_, _/_, _%_, _≤_, _<_}
+use Prim.Native.Nat.{ℕ, _+_, _-_, _*_, _/_, _%_, _≤_, _<_, min}
 use native.Mathlib.Nat.{div-add-mod', add-mul, one-mul}
 use native.Mathlib.Decide.{ℕ-discrete, decLt}
 use native.Mathlib.Omega.{arith}
@@ -39,7 +39,7 @@ use Rattle.directory.proofs.DirectoryLaws.{clusters-along}
 use Rattle.file.specs.Outcome.{Outcome, carried, refuse}
 use Rattle.directory.specs.Open.{fileRecord, setIn}
 use Rattle.file.specs.Refresh.{entriesOf, recorded, stored, missing, lengthCause, openCause, refreshedOnly}
-use Rattle.write_length.specs.SetLength.{smaller, zeroEnd, shorter, longerFile, resized, setLengthCause, setLengthIn, setLength}
+use Rattle.write_length.specs.SetLength.{zeroEnd, shorter, longerFile, resized, setLengthCause, setLengthIn, setLength}
 use Rattle.directory.specs.declared.open_file.OpenFile.{OpenFile}
 use Rattle.directory.specs.Internal.{spotClusters}
 use Rattle.file.specs.Internal.{Opens}
@@ -47,30 +47,22 @@ use Rattle.write_length.specs.declared.set_length.Cut.{Cut}
 use Rattle.write_length.specs.Internal.{cutPlan, cutTo, lengthened}
 use Rattle.file.proofs.OpenLaws.{carried-shown, open-stream, open-stored, same-reads, same-fat, same-system}
 
-pub smaller-left : (a b : ℕ) → a ≤ b → smaller a b ≡ a
-unfolding smaller
-smaller-left a b h = omega arith
-
-pub smaller-right : (a b : ℕ) → b ≤ a → smaller a b ≡ b
-unfolding smaller
-smaller-right a b h = omega arith
-
 module _ (size valid len : ℕ) (h : 1 ≤ size) where
   pub end-whole : valid ≤ len → valid % size ≡ 0 → zeroEnd size valid len ≡ valid
   unfolding zeroEnd
   end-whole f e =
       let z : clustersFor size valid * size ≡ valid = ap (λ (k : ℕ). k * size) (clusters-even size valid h e) ∙ (omega (arith, div-add-mod' valid size)) in
-      ap (λ (x : ℕ). smaller x len) z ∙ smaller-left valid len f
+      ap (λ (x : ℕ). min x len) z ∙ (omega arith)
 
-  pub end-rest : (valid % size ≡ 0 → ⊥) → zeroEnd size valid len ≡ smaller (valid - valid % size + size) len
+  pub end-rest : (valid % size ≡ 0 → ⊥) → zeroEnd size valid len ≡ min (valid - valid % size + size) len
   unfolding zeroEnd
   end-rest e =
       let z : clustersFor size valid * size ≡ valid - valid % size + size =
       ap (λ (k : ℕ). k * size) (clusters-rest size valid h e) ∙ (omega (arith, div-add-mod' valid size, add-mul (valid / size) 1 size, one-mul size)) in
-      ap (λ (x : ℕ). smaller x len) z
+      ap (λ (x : ℕ). min x len) z
 
   pub end-le : zeroEnd size valid len ≤ len
-  unfolding zeroEnd smaller
+  unfolding zeroEnd
   end-le = omega arith
 
 -- ---- the kept part of a stream
@@ -98,12 +90,12 @@ module _ (y : Layout) (d m : List ℕ) (a : Allocation) (slot : ℕ) (s : List �
   n = clustersFor (y .size) len
 
   -- shorter: the set stored, then the cut
-  pub shorter-is : (e e′ : List ℕ) → e ≡ stored y d (clustersIn y d a) slot s (keptRecord b (take n (clustersIn y d b))) (smaller (validLength s) len) len t
+  pub shorter-is : (e e′ : List ℕ) → e ≡ stored y d (clustersIn y d a) slot s (keptRecord b (take n (clustersIn y d b))) (min (validLength s) len) len t
       → e′ ≡ shrinkIn y e m b n hint .volume
       → (record { number = 0; slot = 0; hint = hint } ≡ shorter y d m a slot s len t hint .answer) × (e′ ≡ shorter y d m a slot s len t hint .volume)
   unfolding shorter
   shorter-is e e′ p q =
-      let z = stored y d (clustersIn y d a) slot s (keptRecord b (take n (clustersIn y d b))) (smaller (validLength s) len) len t in
+      let z = stored y d (clustersIn y d a) slot s (keptRecord b (take n (clustersIn y d b))) (min (validLength s) len) len t in
       carried-shown 0 hint (shrinkIn y z m b n hint .volume) e′ (q ∙ ap (λ (l : List ℕ). shrinkIn y l m b n hint .volume) p)
 
   abbrev grown : Alloc.Outcome
@@ -193,7 +185,7 @@ plan-is y d b len keep part kept reads k h p q =
 -- ---- the set of a file that opens stored, then its stream cut
 
 module _ (y : Layout) (d m : List ℕ) (a : Allocation) (slot : ℕ) (s : List ℕ) (f : OpenFile) (hint : ℕ) (o : Opens y d m a slot s f hint) (len : ℕ) (t : Stamp)
-    (valid : ℕ) (ev : valid ≡ smaller (validLength s) len) (c : Cut) (ec : c ≡ cutPlan y d (f .stream) len) (e : List ℕ)
+    (valid : ℕ) (c : Cut) (ec : c ≡ cutPlan y d (f .stream) len) (e : List ℕ)
     (r : e ≡ storeAt y d (spotClusters (f .spot)) (f .spot .at) (take (32 * entriesOf s) (recorded s (c .kept) valid len t))) where
   there : e ≡ stored y d (clustersIn y d a) slot s (c .kept) valid len t
   there = open-stored y d m a slot s f hint o d e (c .kept) valid len t r
@@ -223,9 +215,9 @@ module _ (y : Layout) (d m : List ℕ) (a : Allocation) (slot : ℕ) (s : List �
       (every-mem (inHeap (y .count)) (along (fatEntry y d) (b .«no_fat_chain») (b .first) n) (part-heap y d b n (open-stream y d m a slot s f hint o) h) j i)))
       ∙ ap (keptPart (fatEntry y e) (b .«no_fat_chain») (b .first)) (sym keep-is)
 
-  pub cut-shorter : (e′ : List ℕ) → e′ ≡ cutTo y e (f .stream) (c .keep)
+  pub cut-shorter : valid ≡ min (validLength s) len → (e′ : List ℕ) → e′ ≡ cutTo y e (f .stream) (c .keep)
       → (record { number = 0; slot = 0; hint = hint } ≡ shorter y d m a slot s len t hint .answer) × (e′ ≡ shorter y d m a slot s len t hint .volume)
-  cut-shorter e′ q =
+  cut-shorter ev e′ q =
       let b = f .stream in
       let n = clustersFor (y .size) len in
       let k : c .kept ≡ keptRecord b (take n (clustersIn y d b)) = ap (λ (x : Cut). x .kept) ec ∙ (unfold cutPlan in refl) in

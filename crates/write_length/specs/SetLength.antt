@@ -1,7 +1,7 @@
 -- Set length (01, "Set length"; Rust: `set_length`).
 use mathlib.Core.Bool.{cond}
 use mathlib.Core.List.{List, [], _∷_}
-use Prim.Native.Nat.{ℕ, _+_, _-_, _*_}
+use Prim.Native.Nat.{ℕ, _+_, _-_, _*_, min}
 use lib.Dec.{eqb, ltb}
 use lib.ListN.{length, take, replicate}
 use Rattle.boot.specs.declared.geometry.Geometry.{Geometry}
@@ -21,10 +21,6 @@ use Rattle.file.specs.Outcome.{Outcome, refuse, carried}
 use Rattle.directory.specs.Open.{fileRecord, setIn}
 use Rattle.file.specs.Refresh.{stored, missing, lengthCause, openCause, refreshedOnly}
 
--- the smaller of two numbers
-unfoldable pub smaller : (a b : ℕ) → ℕ
-smaller a b = a - (a - b)
-
 -- what refuses a new length, in this order: the hint, the directory's, 10, 11, the stream's, 7
 unfoldable pub setLengthCause : (y : Layout) (d m : List ℕ) (a : Allocation) (slot len hint : ℕ) → ℕ
 setLengthCause y d m a slot len hint =
@@ -35,12 +31,12 @@ unfoldable pub shorter : (y : Layout) (d m : List ℕ) (a : Allocation) (slot : 
 shorter y d m a slot s len t hint =
     let b = fileRecord y d s in
     let keep = clustersFor (y .size) len in
-    let e = stored y d (clustersIn y d a) slot s (keptRecord b (take keep (clustersIn y d b))) (smaller (validLength s) len) len t in
+    let e = stored y d (clustersIn y d a) slot s (keptRecord b (take keep (clustersIn y d b))) (min (validLength s) len) len t in
     carried 0 hint (shrinkIn y e m b keep hint .volume)
 
 -- where the zeros of a longer file end: valid rounded up to whole clusters, or the new length if that is smaller
 unfoldable pub zeroEnd : (size valid len : ℕ) → ℕ
-zeroEnd size valid len = smaller (clustersFor size valid * size) len
+zeroEnd size valid len = min (clustersFor size valid * size) len
 
 -- longer: grow, zero from valid on, then the entry set with valid unchanged
 unfoldable pub longerFile : (y : Layout) (d m : List ℕ) (a : Allocation) (slot : ℕ) (s : List ℕ) (len : ℕ) (t : Stamp) (hint : ℕ) → Outcome

@@ -1,7 +1,7 @@
 // Set length: a file cut, refreshed or made longer (Rust: `set_length`).
 ghost use mathlib.Core.Path.{_≡_};
 ghost use mathlib.Core.Bool.{true};
-ghost use Prim.Native.Nat.{_+_, _-_, _*_, _≤_, _<_};
+ghost use Prim.Native.Nat.{_+_, _-_, _*_, _≤_, _<_, min};
 ghost use lib.ListN.{length, replicate};
 ghost use Rattle.boot.specs.Internal.{Laid, Apart};
 ghost use Rattle.boot.specs.Layout.{inHeap};
@@ -14,7 +14,7 @@ ghost use Rattle.write_shrink.specs.Internal.{keptPart};
 ghost use Rattle.directory.specs.Directory.{rootRecord};
 ghost use Rattle.file.specs.Refresh.{missing, lengthCause};
 ghost use Rattle.write_length.specs.Internal.{cutPlan, cutTo, lengthened};
-ghost use Rattle.write_length.specs.SetLength.{smaller, zeroEnd, setLengthIn, setLength};
+ghost use Rattle.write_length.specs.SetLength.{zeroEnd, setLengthIn, setLength};
 use boot::geometry::Geometry;
 use boot::layout::Layout;
 use entry_set::stamp::Stamp;
@@ -31,8 +31,8 @@ pub struct Cut {
 }
 
 // The smaller of two numbers.
-fn smaller(a: u64, b: u64) -> u64
-    ensures { λ r. ⌜ r ≡ smaller a b ⌝ }
+fn min(a: u64, b: u64) -> u64
+    ensures { λ r. ⌜ r ≡ min a b ⌝ }
 {
     if a < b {
         return a;
@@ -50,7 +50,7 @@ fn zero_end(y: Layout, valid: u64, len: u64) -> u64
     if rest == 0 {
         return valid;
     }
-    smaller(valid - rest + size, len)
+    min(valid - rest + size, len)
 }
 
 // A stream cut to a length: the clusters kept, what a walk of them tells, and their record, a run where their numbers rise by one.
@@ -153,7 +153,7 @@ fn set_length_in(
         let c = cut_plan(vol, y, b, len);
         let kept = c.kept;
         let part = c.part;
-        let capped = smaller(valid, len);
+        let capped = min(valid, len);
         file::refresh::record_set(vol, y, spot, &mut set, kept, capped, len, t);
         cut_to(vol, y, b, c.keep, part);
         return FileAnswer {

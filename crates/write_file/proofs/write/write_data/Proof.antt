@@ -3,7 +3,7 @@ use Prim.Native.Nat.{ℕ, _+_}
 use native.Mathlib.Omega.{arith}
 use lib.ListN.{length}
 use Rattle.file.specs.Refresh.{lengthCause}
-use Rattle.write_file.proofs.WriteLaws.{larger-above, stored-none, stored-past, stored-refused, stored-done}
+use Rattle.write_file.proofs.WriteLaws.{stored-none, stored-past, stored-refused, stored-done}
 use borrow.Author.Needs.{needs}
 use Rattle.write_file.proofs.write.write_data.Statement.{statement}
 use Rattle.write_file.proofs.write.write_data.Tie as tie
@@ -32,8 +32,8 @@ returns-2 c =
 add-end : tie.Need-add-end
 add-end c = search needs
 
-larger-requires : tie.Need-larger-requires
-larger-requires c κs = search needs
+max-requires : tie.Need-max-requires
+max-requires c κs = search needs
 
 length-cause-requires : tie.Need-length-cause-requires
 length-cause-requires c κs = search needs
@@ -48,18 +48,18 @@ returns-3 : tie.Need-returns-3
 returns-3 c =
     let i = c .before .before .before .before .before .before .before .before .before .before .args in
     let p = c .before .before .before .before .before .before .before .before .before .before .pre in
-    stored-refused (i .y) (i .vol .now) (i .map .now) (i .b) (i .valid) (i .len) (i .offset) (i .src .now) (i .hint) (λ z. omega arith) (omega arith) (c .before .before .before .before .larger .result) (c .before .before .before .before .larger .ensures) (c .before .before .length-cause .result) (c .before .before .length-cause .ensures) (λ z. omega arith) _ (c .unstored3 .ensures)
+    stored-refused (i .y) (i .vol .now) (i .map .now) (i .b) (i .valid) (i .len) (i .offset) (i .src .now) (i .hint) (λ z. omega arith) (omega arith) (c .before .before .before .before .max .result) (c .before .before .before .before .max .ensures) (c .before .before .length-cause .result) (c .before .before .length-cause .ensures) (λ z. omega arith) _ (c .unstored3 .ensures)
 
 put-grown-requires : tie.Need-put-grown-requires
 put-grown-requires c κs =
     let i = c .before .before .before .before .before .before .before .before .before .before .args in
     let p = c .before .before .before .before .before .before .before .before .before .before .pre in
-    let q = c .before .before .before .before .larger .ensures in
+    let q = c .before .before .before .before .max .ensures in
     let z : c .before .before .length-cause .result ≡ 0 = omega arith in
-    (p .0, (p .1 .0, (p .1 .1 .0, (p .1 .1 .1 .0, (p .1 .1 .1 .1 .0, (p .1 .1 .1 .1 .1, (sym (c .before .before .length-cause .ensures) ∙ z, omega (arith, q, larger-above (i .len) (i .offset + length (i .src .now))))))))))
+    (p .0, (p .1 .0, (p .1 .1 .0, (p .1 .1 .1 .0, (p .1 .1 .1 .1 .0, (p .1 .1 .1 .1 .1, (sym (c .before .before .length-cause .ensures) ∙ z, omega (arith, q))))))))
 
-larger-requires-2 : tie.Need-larger-requires-2
-larger-requires-2 c κs = search needs
+max-requires-2 : tie.Need-max-requires-2
+max-requires-2 c κs = search needs
 
 same-length-2 : tie.Need-same-length-2
 same-length-2 c = search needs
@@ -69,7 +69,7 @@ returns-4 c =
     let i = c .before .before .before .before .before .before .before .before .before .before .before .before .before .before .before .args in
     let p = c .before .before .before .before .before .before .before .before .before .before .before .before .before .before .before .pre in
     let z : c .before .before .before .before .before .before .before .length-cause .result ≡ 0 = omega arith in
-    stored-done (i .y) (i .vol .now) (i .map .now) (i .b) (i .valid) (i .len) (i .offset) (i .src .now) (i .hint) (λ z. omega arith) (omega arith) (c .before .before .before .before .before .before .before .before .before .larger .result) (c .before .before .before .before .before .before .before .before .before .larger .ensures) (sym (c .before .before .before .before .before .before .before .length-cause .ensures) ∙ z) (c .larger2 .result) (c .larger2 .ensures) _ _ (c .before .before .before .before .put-grown .ensures .0) (c .before .before .before .before .put-grown .ensures .1)
+    stored-done (i .y) (i .vol .now) (i .map .now) (i .b) (i .valid) (i .len) (i .offset) (i .src .now) (i .hint) (λ z. omega arith) (omega arith) (c .before .before .before .before .before .before .before .before .before .max .result) (c .before .before .before .before .before .before .before .before .before .max .ensures) (sym (c .before .before .before .before .before .before .before .length-cause .ensures) ∙ z) (c .max2 .result) (c .max2 .ensures) _ _ (c .before .before .before .before .put-grown .ensures .0) (c .before .before .before .before .put-grown .ensures .1)
 
 pub write-data-spec : {M : Type 1} → statement M
 write-data-spec =
@@ -81,12 +81,12 @@ write-data-spec =
     unstored-requires-2
     returns-2
     add-end
-    larger-requires
+    max-requires
     length-cause-requires
     unstored-requires-3
     same-length
     returns-3
     put-grown-requires
-    larger-requires-2
+    max-requires-2
     same-length-2
     returns-4)

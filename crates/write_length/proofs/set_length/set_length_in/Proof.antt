@@ -1,5 +1,5 @@
 use mathlib.Core.Path.{_≡_, sym, _∙_, ap}
-use Prim.Native.Nat.{ℕ, _≤_}
+use Prim.Native.Nat.{ℕ, _≤_, min}
 use native.Mathlib.Omega.{arith}
 use Rattle.metadata.proofs.Frame.{Fits}
 use Rattle.entry_set.specs.Fields.{clustersFor}
@@ -9,7 +9,6 @@ use Rattle.directory.specs.Directory.{rootRecord}
 use Rattle.directory.specs.Open.{fileRecord}
 use Rattle.file.specs.Refresh.{lengthCause}
 use Rattle.file.proofs.OpenLaws.{target-number, found-opens, open-stream, open-count, open-valid, open-small, open-reaches, open-stored, opens-none, shown-as, carried-shown, refuse-shown}
-use Rattle.write_length.specs.SetLength.{smaller}
 use Rattle.write_length.proofs.SetLengthLaws.{set-refused, set-not, set-shorter, set-longer, cut-reads, cut-part, cut-shorter}
 use borrow.Author.Needs.{needs}
 use Rattle.write_length.proofs.set_length.set_length_in.Statement.{statement}
@@ -72,8 +71,8 @@ cut-plan-requires c κs =
     let h : 1 ≤ i .y .size = omega (arith, l .size-low) in
     (p .0, (p .1 .0, (p .1 .1 .1, (open-stream _ _ _ _ _ _ _ _ o, omega (arith, clusters-mono (i .y .size) h (i .len) (u .result) (omega arith), ap (clustersFor (i .y .size)) (u .ensures), open-count _ _ _ _ _ _ _ _ o)))))
 
-smaller-requires : tie.Need-smaller-requires
-smaller-requires c κs = search needs
+min-requires : tie.Need-min-requires
+min-requires c κs = search needs
 
 record-set-requires : tie.Need-record-set-requires
 record-set-requires c κs =
@@ -98,8 +97,7 @@ cut-to-requires c κs =
     let l = p .0 in
     let h : 1 ≤ i .y .size = omega (arith, l .size-low) in
     let g = c .before .before .before .before .before .before .before .before .before .cut-plan in
-    let e = (c .before .before .before .before .before .before .smaller .ensures) ∙ ap (λ (x : ℕ). smaller x (i .len)) (v .ensures) in
-    (p .0, (omega (arith, p .1 .0), (p .1 .1 .1, (cut-reads _ _ _ _ _ _ _ _ o (i .len) (i .t) _ e (g .result) (g .ensures) _ (c .before .before .before .record-set .ensures .0), cut-part _ _ _ _ _ _ _ _ o (i .len) (i .t) _ e (g .result) (g .ensures) _ (c .before .before .before .record-set .ensures .0) (omega (arith, clusters-mono (i .y .size) h (i .len) (u .result) (omega (arith, c .before .before .before .before .before .before .before .before .before .before .before .if3 .taken)), ap (clustersFor (i .y .size)) (u .ensures), open-count _ _ _ _ _ _ _ _ o))))))
+    (p .0, (omega (arith, p .1 .0), (p .1 .1 .1, (cut-reads _ _ _ _ _ _ _ _ o (i .len) (i .t) _ (g .result) (g .ensures) _ (c .before .before .before .record-set .ensures .0), cut-part _ _ _ _ _ _ _ _ o (i .len) (i .t) _ (g .result) (g .ensures) _ (c .before .before .before .record-set .ensures .0) (omega (arith, clusters-mono (i .y .size) h (i .len) (u .result) (omega (arith, c .before .before .before .before .before .before .before .before .before .before .before .if3 .taken)), ap (clustersFor (i .y .size)) (u .ensures), open-count _ _ _ _ _ _ _ _ o))))))
 
 same-length-3 : tie.Need-same-length-3
 same-length-3 c = search needs
@@ -117,8 +115,8 @@ returns-3 c =
     let v = c .before .before .before .before .before .before .before .before .before .before .before .before .before .before .before .before .before .valid-length in
     let u = c .before .before .before .before .before .before .before .before .before .before .before .before .before .before .before .data-length in
     let g = c .before .before .before .before .before .before .before .before .before .before .before .before .cut-plan in
-    let e = (c .before .before .before .before .before .before .before .before .before .smaller .ensures) ∙ ap (λ (x : ℕ). smaller x (i .len)) (v .ensures) in
-    shown-as (set-shorter (i .y) (i .vol .now) (i .map .now) (rootRecord (i .y) (i .vol .now) (i .root)) (i .slot) (i .len) (i .t) (i .hint) (opens-none _ _ _ _ _ _ _ _ o) _ (o .set) _ (o .stream) none (u .result) (u .ensures) (omega (arith, c .before .before .before .before .before .before .before .before .before .before .before .before .before .before .if3 .taken))) (cut-shorter _ _ _ _ _ _ _ _ o (i .len) (i .t) _ e (g .result) (g .ensures) _ (c .before .before .before .before .before .before .record-set .ensures .0) _ (c .before .before .cut-to .ensures))
+    let e = (c .before .before .before .before .before .before .before .before .before .min .ensures) ∙ ap (λ (x : ℕ). min x (i .len)) (v .ensures) in
+    shown-as (set-shorter (i .y) (i .vol .now) (i .map .now) (rootRecord (i .y) (i .vol .now) (i .root)) (i .slot) (i .len) (i .t) (i .hint) (opens-none _ _ _ _ _ _ _ _ o) _ (o .set) _ (o .stream) none (u .result) (u .ensures) (omega (arith, c .before .before .before .before .before .before .before .before .before .before .before .before .before .before .if3 .taken))) (cut-shorter _ _ _ _ _ _ _ _ o (i .len) (i .t) _ (g .result) (g .ensures) _ (c .before .before .before .before .before .before .record-set .ensures .0) e _ (c .before .before .cut-to .ensures))
 
 lengthen-requires : tie.Need-lengthen-requires
 lengthen-requires c κs =
@@ -177,7 +175,7 @@ set-length-in-spec =
     valid-length-requires
     data-length-requires
     cut-plan-requires
-    smaller-requires
+    min-requires
     record-set-requires
     cut-to-requires
     same-length-3

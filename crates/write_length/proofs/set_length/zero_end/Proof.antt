@@ -12,20 +12,20 @@ rem-rest c = search needs
 returns : tie.Need-returns
 returns c = sym (end-whole _ _ _ (omega arith) (omega arith) (omega arith))
 
-sub-smaller : tie.Need-sub-smaller
-sub-smaller c =
+sub-min : tie.Need-sub-min
+sub-min c =
     let a = c .before .args in
     omega (arith, div-add-mod' (a .valid) (a .y .size))
 
-add-smaller : tie.Need-add-smaller
-add-smaller c = omega arith
+add-min : tie.Need-add-min
+add-min c = omega arith
 
-smaller-requires : tie.Need-smaller-requires
-smaller-requires c κs = search needs
+min-requires : tie.Need-min-requires
+min-requires c κs = search needs
 
 returns-2 : tie.Need-returns-2
 returns-2 c = (cc) ∙ sym (end-rest _ _ _ (omega arith) (λ z. omega arith))
 
 pub zero-end-spec : {M : Type 1} → statement M
 zero-end-spec =
-    tie.close (tie.spec rem-rest returns sub-smaller add-smaller smaller-requires returns-2)
+    tie.close (tie.spec rem-rest returns sub-min add-min min-requires returns-2)
