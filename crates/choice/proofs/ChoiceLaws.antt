@@ -1,17 +1,17 @@
 -- What the choice means, for any test u of which clusters are usable. Assumes nothing.
 use mathlib.Core.Path.{_≡_, refl, sym, _∙_, ap, subst}
 use mathlib.Core.Logic.{_≢_, _⊎_, inl, inr, ⊎-elim}
-use mathlib.Core.Bool.{Bool, true, cond}
+use mathlib.Core.Bool.{Bool, true, false, _&&_, cond}
 use Prim.Native.Nat.{ℕ, _+_, _-_, _≤_, _<_}
 use native.Mathlib.Decide.{decLt, ℕ-discrete}
 use native.Mathlib.Omega.{arith}
 use lib.Dec.{eqb, leb, ltb}
 use lib.ListN.{length, take, length-append}
 use lib.Seq.{length-take-le}
-use borrow.Author.Tests.{ltb-true, ltb-false, lt-ltb, le-ltb, le-leb, lt-leb, eq-eqb, ne-eqb}
+use borrow.Author.Tests.{leb-true, ltb-true, ltb-false, lt-ltb, le-ltb, le-leb, lt-leb, eq-eqb, ne-eqb}
 use Rattle.tables.specs.Lists.{Mem, Distinct, consec}
 use Rattle.tables.specs.Count.{count, keep}
-use Rattle.tables.proofs.Cases.{clash, cond-case}
+use Rattle.tables.proofs.Cases.{clash, cond-case, and-left, and-right}
 use Rattle.tables.proofs.ListLaws.{mem-append, mem-left, mem-right, mem-take, distinct-append, distinct-take}
 use Rattle.tables.proofs.CountLaws.{count-cong, count-append, count-whole, length-keep, in-keep, keep-in, keep-distinct, keep-cong, take-whole}
 use Rattle.boot.specs.Layout.{inHeap}
@@ -20,9 +20,10 @@ use Rattle.search.specs.declared.found.Found.{Found}
 use Rattle.search.specs.declared.found.Found.the-variants.{At, Nothing}
 use Rattle.choice.specs.declared.choice.Choice.{Choice}
 use Rattle.choice.specs.declared.choice.Choice.the-variants.{Run, Scattered, TooFew}
-use Rattle.search.specs.Search.{runFrom}
-use Rattle.search.proofs.Lowest.{Whole, Lowest, run-at, run-cong}
+use Rattle.search.specs.Search.{allFrom, runFrom}
+use Rattle.search.proofs.Lowest.{Whole, Lowest, all-whole, run-at, run-cong}
 use Rattle.choice.specs.Choice.{orElse, choose, around, beginOf, chosen}
+use Rattle.choice.specs.Internal.{runFits}
 
 -- what is left of n where `found` are found
 pub enough-left : (n left found : ℕ) → left + found ≡ n → eqb left 0 ≡ leb n found
@@ -33,6 +34,21 @@ enough-left n left found e =
     ]
 
 module _ (u : ℕ → Bool) where
+  -- ---- a run of n that lies in the heap
+
+  module _ (C near n : ℕ) where
+    pub fits-outside : inHeap C near ≡ false → runFits u C near n ≡ false
+    unfolding runFits
+    fits-outside e = rw e refl
+
+    pub fits-past : inHeap C near ≡ true → C + 2 < near + n → runFits u C near n ≡ false
+    unfolding runFits
+    fits-past e h = rw (e, lt-leb (near + n) (C + 2) h) refl
+
+    pub fits-in : inHeap C near ≡ true → near + n ≤ C + 2 → runFits u C near n ≡ allFrom u near n
+    unfolding runFits
+    fits-in e h = rw (e, le-leb (near + n) (C + 2) h) refl
+
   -- ---- the usable clusters around a start
 
   module _ (C start : ℕ) (low : 2 ≤ start) (high : start ≤ C + 2) where
@@ -114,6 +130,15 @@ module _ (u : ℕ → Bool) where
         = ap (λ (x : ℕ). count u x (n + (C + 2 - (k + n)))) f ∙ count-append u k n (C + 2 - (k + n))
         ∙ ap (λ (x : ℕ). x + count u (k + n) (C + 2 - (k + n))) (count-whole u k n g) in
         omega arith
+
+    -- such a run is enough
+    pub fits-count : runFits u C start n ≡ true → n ≤ count u 2 C
+    unfolding runFits
+    fits-count e =
+        let i = and-left (inHeap C start) (leb (start + n) (C + 2) && allFrom u start n) e in
+        let r = and-right (inHeap C start) (leb (start + n) (C + 2) && allFrom u start n) e in
+        run-count start (in-heap C start i .0) (leb-true (start + n) (C + 2) (and-left (leb (start + n) (C + 2)) (allFrom u start n) r))
+        (all-whole u start n (and-right (leb (start + n) (C + 2)) (allFrom u start n) r))
 
     pub few-count : choose u C n start ≡ TooFew → count u 2 C < n
     few-count =

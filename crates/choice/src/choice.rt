@@ -9,10 +9,10 @@ ghost use Rattle.boot.specs.Internal.{Laid};
 ghost use Rattle.search.specs.declared.found.Found.the-variants.{Nothing};
 ghost use Rattle.metadata.specs.Marks.{marked};
 ghost use Rattle.metadata.specs.Usable.{isUsable};
-ghost use Rattle.search.specs.Search.{allFrom, runFrom};
+ghost use Rattle.search.specs.Search.{runFrom};
 ghost use Rattle.search.specs.Internal.{pastFailing};
 ghost use Rattle.choice.specs.Choice.{choose};
-ghost use Rattle.choice.specs.Internal.{firstUsable};
+ghost use Rattle.choice.specs.Internal.{firstUsable, runFits};
 use boot::layout::Layout;
 use search::found::Found;
 
@@ -21,24 +21,6 @@ pub enum Choice {
     Run(u32),
     Scattered,
     TooFew,
-}
-
-// Whether the n clusters from first lie in the heap and are all usable (Rust: `run_is_free`).
-pub fn run_is_free(vol: &[u8], map: &[u8], y: Layout, first: u32, n: u32) -> bool
-    requires { ⌜ Laid y × ((length (now vol) ≡ y .len) × ((y .count ≤ 8 * length (now map)) × ((2 ≤ first) × (first + n ≤ y .count + 2)))) ⌝ }
-    ensures { λ r. ⌜ r ≡ allFrom (isUsable y (now (vol .entry)) (now (map .entry))) first n ⌝ }
-{
-    let mut k = first;
-    let mut left = n;
-    while 0 < left {
-        if metadata::usable::usable(vol, map, y, k) {
-            k += 1;
-            left -= 1;
-        } else {
-            return false;
-        }
-    }
-    true
 }
 
 // One past the last of the n clusters from low that is not usable; low where all are.
@@ -58,7 +40,21 @@ fn usable_tail(vol: &[u8], map: &[u8], y: Layout, low: u32, n: u32) -> u32
     low
 }
 
-// One past the last of the n clusters from low that is marked; low where none is.
+// The same. A window of more than one cluster is tested at once first.
+fn window_tail(vol: &[u8], map: &[u8], y: Layout, low: u32, n: u32) -> u32
+    requires { ⌜ Laid y × ((length (now vol) ≡ y .len) × ((y .count ≤ 8 * length (now map)) × ((2 ≤ low) × (low + n ≤ y .count + 2)))) ⌝ }
+    ensures { λ r. ⌜ (r ≡ pastFailing (isUsable y (now (vol .entry)) (now (map .entry))) low n) × ((low ≤ r) × (r ≤ low + n)) ⌝ }
+{
+    if n < 2 {
+        return usable_tail(vol, map, y, low, n);
+    }
+    if metadata::usable::run_is_free(vol, map, y, low, n) {
+        return low;
+    }
+    usable_tail(vol, map, y, low, n)
+}
+
+// One past the last of the n clusters from low that is marked; low where none is. A byte of none marked is one test.
 fn unmarked_tail(vol: &[u8], y: Layout, low: u32, n: u32) -> u32
     requires { ⌜ Laid y × ((length (now vol) ≡ y .len) × ((2 ≤ low) × (low + n ≤ y .count + 2))) ⌝ }
     ensures { λ r. ⌜ (r ≡ pastFailing (λ k. not (marked y (now (vol .entry)) k)) low n) × ((low ≤ r) × (r ≤ low + n)) ⌝ }
@@ -69,7 +65,14 @@ fn unmarked_tail(vol: &[u8], y: Layout, low: u32, n: u32) -> u32
         if metadata::bitmap::allocated(vol, y, last) {
             return k;
         }
-        k = last;
+        if metadata::bitmap::byte_unmarked(vol, y, last) {
+            if k < low + 8 {
+                return low;
+            }
+            k -= 8;
+        } else {
+            k = last;
+        }
     }
     low
 }
@@ -87,7 +90,7 @@ fn scan(vol: &[u8], map: &[u8], y: Layout, start: u32, end: u32, n: u32) -> Foun
     while n <= end - base {
         let next = unmarked_tail(vol, y, base, n);
         if next == base {
-            let last = usable_tail(vol, map, y, base, n);
+            let last = window_tail(vol, map, y, base, n);
             if last == base {
                 return Found::At(base);
             }
@@ -103,8 +106,8 @@ fn scan(vol: &[u8], map: &[u8], y: Layout, start: u32, end: u32, n: u32) -> Foun
     Found::Nothing
 }
 
-// Whether n clusters or more are usable.
-pub fn enough(vol: &[u8], map: &[u8], y: Layout, n: u64) -> bool
+// Whether n clusters or more are usable, counted.
+fn counts_to(vol: &[u8], map: &[u8], y: Layout, n: u64) -> bool
     requires { ⌜ Laid y × ((length (now vol) ≡ y .len) × (y .count ≤ 8 * length (now map))) ⌝ }
     ensures { λ r. ⌜ r ≡ leb n (count (isUsable y (now (vol .entry)) (now (map .entry))) 2 (y .count)) ⌝ }
 {
@@ -124,6 +127,31 @@ pub fn enough(vol: &[u8], map: &[u8], y: Layout, n: u64) -> bool
         }
     }
     left == 0
+}
+
+// Whether the n clusters from near lie in the heap and are all usable.
+fn run_fits(vol: &[u8], map: &[u8], y: Layout, near: u32, n: u64) -> bool
+    requires { ⌜ Laid y × ((length (now vol) ≡ y .len) × (y .count ≤ 8 * length (now map))) ⌝ }
+    ensures { λ r. ⌜ r ≡ runFits (isUsable y (now (vol .entry)) (now (map .entry))) (y .count) near n ⌝ }
+{
+    if boot::layout::in_heap(y.count, near) {
+        if n <= (y.count + 2 - near) as u64 {
+            return metadata::usable::run_is_free(vol, map, y, near, n as u32);
+        }
+        return false;
+    }
+    false
+}
+
+// Whether n clusters or more are usable: those from near on are looked at first, and counted only where they do not suffice.
+pub fn enough(vol: &[u8], map: &[u8], y: Layout, near: u32, n: u64) -> bool
+    requires { ⌜ Laid y × ((length (now vol) ≡ y .len) × (y .count ≤ 8 * length (now map))) ⌝ }
+    ensures { λ r. ⌜ r ≡ leb n (count (isUsable y (now (vol .entry)) (now (map .entry))) 2 (y .count)) ⌝ }
+{
+    if run_fits(vol, map, y, near, n) {
+        return true;
+    }
+    counts_to(vol, map, y, n)
 }
 
 // Where the search of the whole heap may end: a run that starts at or after start was looked for.
@@ -168,7 +196,7 @@ pub fn choose_clusters(vol: &[u8], map: &[u8], y: Layout, start: u32, n: u32) ->
         }
         Found::Nothing => {}
     }
-    if enough(vol, map, y, n as u64) {
+    if counts_to(vol, map, y, n as u64) {
         return Choice::Scattered;
     }
     Choice::TooFew

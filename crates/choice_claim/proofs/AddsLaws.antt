@@ -171,7 +171,7 @@ module _ (y : Layout) (d m : List ℕ) (n : ℕ) (given : Bool) (near hint : ℕ
           let s : _≡_ {A = ℕ} 7 0 = number (unchanged 7 empty hint d) (in-free y d m n given near hint p (λ t. omega arith) f) in absurd (omega arith)
       by true p (no f) false q =
           let s : _≡_ {A = ℕ} 2 0 = number (unchanged 2 empty hint d) (in-near y d m n given near hint p (λ t. omega arith) (omega arith) q) in absurd (omega arith)
-      by true p (no f) true q = (start-heap (y .count) given near hint p q, in-new y d m n given near hint p (λ t. omega arith) (omega arith) q)
+      by true p (no f) true q = (start-heap (y .count) given near hint p q, in-new y d m n given near hint p (λ t. omega arith) q)
 
   pub in-allocates : Fits y d → Allocates y d m n (cond given near hint) (allocateIn y d m n given near hint)
   in-allocates w =

@@ -2,7 +2,7 @@
 use mathlib.Core.Path.{_≡_}
 use mathlib.Core.Bool.{true, cond}
 use mathlib.Core.List.{List, [], _∷_}
-use Prim.Native.Nat.{ℕ, _+_, _*_, _≤_, _-_}
+use Prim.Native.Nat.{ℕ, _+_, _*_, _≤_, _-_, _%_, _^_}
 use lib.Dec.{eqb}
 use lib.ListN.{length, replicate}
 use Rattle.boot.specs.declared.layout.Layout.{Layout}
@@ -18,6 +18,10 @@ use Rattle.directory.specs.Directory.{directoryCause}
 use Rattle.directory.specs.Open.{fileRecord, fileCause, setIn}
 use Rattle.directory.specs.Internal.{spotOf, setRead, noFile}
 use Rattle.file.specs.Refresh.{openCause}
+
+-- where usable clusters for a stream are looked for first
+unfoldable pub nearOf : (b : Allocation) (hint : ℕ) → ℕ
+nearOf b hint = cond (eqb (b .count) 0) hint ((b .last + 1) % 2 ^ 32)
 
 -- n entries from a slot on, at most 19, stand in directory a, which reads
 pub record Stands (y : Layout) (d : List ℕ) (a : Allocation) (slot n : ℕ) : Type 0 where

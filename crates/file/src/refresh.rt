@@ -11,7 +11,7 @@ ghost use Rattle.stream.specs.Internal.{Known};
 ghost use Rattle.write_extend.specs.Extend.{extendIn};
 ghost use Rattle.directory.specs.Internal.{spotClusters, Reaches};
 ghost use Rattle.file.specs.Refresh.{entriesOf, recorded, missing, lengthCause};
-ghost use Rattle.file.specs.Internal.{knownPlace};
+ghost use Rattle.file.specs.Internal.{knownPlace, nearOf};
 use boot::layout::Layout;
 use directory::spot::Spot;
 use entry_set::stamp::Stamp;
@@ -26,8 +26,18 @@ pub fn entries_of(set: &[u8; 608]) -> usize
     1 + entry_set::entry::secondary_count(set)
 }
 
+// Where usable clusters for a stream are looked for first: behind its last one, or from the hint on where it is empty.
+fn near_of(b: Allocation, hint: u32) -> u32
+    ensures { λ r. ⌜ r ≡ nearOf b hint ⌝ }
+{
+    if b.count == 0 {
+        return hint;
+    }
+    std::num::wrapping_add_u32(b.last, 1)
+}
+
 // What refuses a length: more clusters are missing than are usable. They are searched only where some are missing.
-pub fn length_cause(vol: &[u8], map: &[u8], y: Layout, b: Allocation, len: u64) -> u32
+pub fn length_cause(vol: &[u8], map: &[u8], y: Layout, b: Allocation, len: u64, hint: u32) -> u32
     requires { ⌜ Laid y × ((length (now vol) ≡ y .len) × (y .count ≤ 8 * length (now map))) ⌝ }
     ensures { λ r. ⌜ r ≡ lengthCause y (now (vol .entry)) (now (map .entry)) b len ⌝ }
 {
@@ -36,7 +46,8 @@ pub fn length_cause(vol: &[u8], map: &[u8], y: Layout, b: Allocation, len: u64) 
     if needed <= there {
         return 0;
     }
-    if choice::choice::enough(vol, map, y, needed - there) {
+    let near = near_of(b, hint);
+    if choice::choice::enough(vol, map, y, near, needed - there) {
         return 0;
     }
     7

@@ -53,7 +53,7 @@ module _ (y : Layout) (d : List ℕ) where
       by-two y (λ t. rw (fat-two y d k v t) (length-put 4 (putLe 4 d (y .fat0 + 4 * k) v) (y .fat1 + 4 * k) v ∙ length-put 4 d (y .fat0 + 4 * k) v))
       (λ t. rw (fat-one y d k v t) (length-put 4 d (y .fat0 + 4 * k) v))
 
-  length-byte : (i b : ℕ) → length (putByte y d i b) ≡ length d
+  pub length-byte : (i b : ℕ) → length (putByte y d i b) ≡ length d
   length-byte i b = by-two y (λ t. rw (byte-two y d i b t) (simp length-set)) (λ t. rw (byte-one y d i b t) (simp length-set))
 
   pub length-mark : (k : ℕ) (on : Bool) → length (setMark y d k on) ≡ length d

@@ -1,17 +1,19 @@
 -- A row of clusters tested at once: its marks, the system map and the FAT's entries. Assumes nothing.
 use mathlib.Core.Path.{_≡_, refl, sym, _∙_, ap, ap₂}
+use mathlib.Core.Logic.{_≢_}
 use mathlib.Core.Bool.{Bool, true, false, not, _&&_, and-false, and-assoc}
 use mathlib.Core.List.{List}
 use Prim.Native.Nat.{ℕ, zero, suc, _+_, _-_, _*_, _/_, _%_, _≤_, _<_}
 use native.Mathlib.Decide.{ℕ-discrete}
 use native.Mathlib.Omega.{arith}
-use borrow.Author.Tests.{eq-eqb, ne-eqb}
+use borrow.Author.Tests.{eq-eqb, ne-eqb, eqb-true}
 use lib.Dec.{eqb}
 use lib.ListN.{getD, take, drop}
 use lib.Seq.{getD-take, getD-drop}
 use Rattle.primitives.specs.Bits.{bitOf, bitAt}
 use Rattle.primitives.specs.Internal.{clearFrom}
-use Rattle.tables.proofs.Cases.{clash}
+use Rattle.primitives.proofs.ByteLaws.{zero-byte}
+use Rattle.tables.proofs.Cases.{clash, and-left, and-right}
 use Rattle.search.specs.declared.found.Found.{Found}
 use Rattle.search.specs.declared.found.Found.the-variants.{At, Nothing}
 use Rattle.search.specs.Search.{allFrom}
@@ -22,7 +24,7 @@ use Rattle.boot.specs.Limits.{inMap}
 use Rattle.metadata.specs.Fat.{BAD, fatEntry}
 use Rattle.metadata.specs.Marks.{markByte, marked}
 use Rattle.metadata.specs.Usable.{isFree, isUsable}
-use Rattle.metadata.specs.Internal.{firstBad, noneRefused}
+use Rattle.metadata.specs.Internal.{firstBad, noneRefused, byteUnmarked}
 use Rattle.metadata.proofs.Stores.{bad-none, bad-step, bad-hit}
 
 -- a bit of the bitmap's part is the cluster's mark
@@ -109,3 +111,23 @@ module _ (y : Layout) (d m : List ℕ) (k n : ℕ) where
 
   pub window-unmarked : allFrom (λ j. not (marked y d j)) k n ≡ true → allFrom (isUsable y d m) k n ≡ noneRefused y d m k n
   window-unmarked e = usable-all ∙ rw e refl
+
+-- ---- a byte of none marked
+
+module _ (y : Layout) (d : List ℕ) (k : ℕ) where
+  pub byte-last : (k - 2) % 8 ≡ 7 → byteUnmarked y d k ≡ eqb (markByte y d k) 0
+  unfolding byteUnmarked
+  byte-last e = rw (eq-eqb ((k - 2) % 8) 7 e) refl
+
+  pub byte-inside : (k - 2) % 8 ≢ 7 → byteUnmarked y d k ≡ false
+  unfolding byteUnmarked
+  byte-inside e = rw (ne-eqb ((k - 2) % 8) 7 e) refl
+
+  -- its eight clusters are unmarked
+  pub byte-each : byteUnmarked y d k ≡ true → (j : ℕ) → 2 ≤ j → k < j + 8 → j ≤ k → marked y d j ≡ false
+  unfolding byteUnmarked marked markByte
+  byte-each e j a b t =
+      let r = eqb-true ((k - 2) % 8) 7 (and-left (eqb ((k - 2) % 8) 7) (eqb (getD d (y .bitmap + (k - 2) / 8) 0) 0) e) in
+      let z = eqb-true (getD d (y .bitmap + (k - 2) / 8) 0) 0 (and-right (eqb ((k - 2) % 8) 7) (eqb (getD d (y .bitmap + (k - 2) / 8) 0) 0) e) in
+      let q : (j - 2) / 8 ≡ (k - 2) / 8 = omega arith in
+      rw (q, z, zero-byte ((j - 2) % 8) (omega arith)) refl

@@ -1,13 +1,13 @@
 // The marks of clusters: read from the active FAT's bitmap, stored to every bitmap.
 ghost use mathlib.Core.Path.{_≡_};
 ghost use mathlib.Core.Bool.{not};
-ghost use Prim.Native.Nat.{_+_, _≤_, _<_};
+ghost use Prim.Native.Nat.{_+_, _-_, _%_, _≤_, _<_};
 ghost use lib.ListN.{length};
 ghost use Rattle.boot.specs.Geometry.{bitmapBytes};
-ghost use Rattle.boot.specs.Internal.{Laid};
+ghost use Rattle.boot.specs.Internal.{Laid, Apart};
 ghost use Rattle.search.specs.Search.{allFrom};
 ghost use Rattle.metadata.specs.Marks.{marked, putByte, setMark, allocatedCount, freeCount};
-ghost use Rattle.metadata.specs.Internal.{pastFull};
+ghost use Rattle.metadata.specs.Internal.{pastFull, byteUnmarked, markRow};
 use boot::layout::Layout;
 
 // Whether cluster k is marked.
@@ -41,6 +41,15 @@ pub fn mark(vol: &mut [u8], y: Layout, k: u32, on: bool)
     let at = y.bitmap + i;
     let b = primitives::bits::bit_put(vol[at], ((k - 2) % 8) as u8, on);
     put_byte(vol, y, i, b);
+}
+
+// Marks the eight clusters from k, the first one of its byte: every bitmap takes the byte 0xFF.
+pub fn mark_byte(vol: &mut [u8], y: Layout, k: u32)
+    requires { ⌜ Laid y × ((length (now vol) ≡ y .len) × ((2 ≤ k) × ((k + 8 ≤ y .count + 2) × (((k - 2) % 8 ≡ 0) × Apart y)))) ⌝ }
+    ensures { λ _. ⌜ now (vol .exit) ≡ markRow y (now (vol .entry)) k 8 ⌝ }
+{
+    let i = ((k - 2) / 8) as usize;
+    put_byte(vol, y, i, 0xFF);
 }
 
 // How many clusters the active FAT's bitmap marks.
@@ -82,4 +91,16 @@ pub fn none_marked(vol: &[u8], y: Layout, first: u32, n: u32) -> bool
     let a = y.bitmap;
     let e = a + ((y.count + 7) / 8) as usize;
     primitives::bits::clear_from(&vol[a..e], first - 2, n)
+}
+
+// Whether cluster k is the last one of its byte, and the byte marks none.
+pub fn byte_unmarked(vol: &[u8], y: Layout, k: u32) -> bool
+    requires { ⌜ Laid y × ((length (now vol) ≡ y .len) × ((2 ≤ k) × (k < y .count + 2))) ⌝ }
+    ensures { λ r. ⌜ r ≡ byteUnmarked y (now (vol .entry)) k ⌝ }
+{
+    if (k - 2) % 8 == 7 {
+        let at = y.bitmap + ((k - 2) / 8) as usize;
+        return vol[at] == 0;
+    }
+    false
 }

@@ -140,7 +140,7 @@ unfolding bitOf
 full-byte j h = eqb→eq _ _ (at 8 (λ j. eqb (bitOf 255 j) 1) tt j h)
 
 -- each bit of 0 is clear
-zero-byte : (j : ℕ) → j < 8 → bitOf 0 j ≡ 0
+pub zero-byte : (j : ℕ) → j < 8 → bitOf 0 j ≡ 0
 unfolding bitOf
 zero-byte j h = eqb→eq _ _ (at 8 (λ j. eqb (bitOf 0 j) 0) tt j h)
 

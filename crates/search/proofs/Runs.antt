@@ -7,7 +7,7 @@ use native.Mathlib.Decide.{decLt}
 use native.Mathlib.Numerals.{sub-one}
 use native.Mathlib.Omega.{arith}
 use Rattle.tables.specs.Count.{one}
-use Rattle.tables.proofs.Cases.{and-both}
+use Rattle.tables.proofs.Cases.{and-left, and-right, and-both}
 use Rattle.search.specs.declared.found.Found.the-variants.{At, Nothing}
 use Rattle.search.specs.Search.{allFrom, firstRun, runFrom}
 use Rattle.search.specs.Internal.{pastFailing}
@@ -114,6 +114,22 @@ module _ (u : ℕ → Bool) where
       by : (b : Bool) → u (low + n) ≡ b → (low < pastFailing u low n → u (pastFailing u low n - 1) ≡ false) → u (pastFailing u low (suc n) - 1) ≡ false
       by true e f = let q = tail-yes low n e in ap (λ (x : ℕ). u (x - 1)) q ∙ f (omega arith)
       by false e f = let q : pastFailing u low (suc n) - 1 ≡ low + n = omega (arith, tail-no low n e) in ap u q ∙ e
+
+  -- numbers that all pass
+  pub tail-over : (low j k : ℕ) → low ≤ j → j ≤ k → ((i : ℕ) → j ≤ i → i < k → u i ≡ true) → pastFailing u low (j - low) ≡ pastFailing u low (k - low)
+  tail-over low j k h t f = back (k - j) k t refl f
+    where
+      back : (m k : ℕ) → j ≤ k → m ≡ k - j → ((i : ℕ) → j ≤ i → i < k → u i ≡ true) → pastFailing u low (j - low) ≡ pastFailing u low (k - low)
+      back zero k t e f = ap (λ (x : ℕ). pastFailing u low (x - low)) (omega arith)
+      back (suc m) k t e f =
+          back m (k - 1) (omega arith) (omega arith) (λ i a b. f i a (omega arith))
+          ∙ tail-pass low k (omega arith) (f (k - 1) (omega arith) (omega arith))
+
+  -- where all pass
+  pub tail-all : (low n : ℕ) → allFrom u low n ≡ true → pastFailing u low n ≡ low
+  unfolding allFrom
+  tail-all low zero e = tail-none low 0 (omega arith)
+  tail-all low (suc n) e = tail-yes low n (and-right (allFrom u low n) (u (low + n)) e) ∙ tail-all low n (and-left (allFrom u low n) (u (low + n)) e)
 
   -- ---- the lowest run
 

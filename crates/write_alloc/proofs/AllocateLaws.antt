@@ -27,6 +27,7 @@ use Rattle.metadata.specs.Marks.{marked, freeCount}
 use Rattle.metadata.specs.Fat.{END, setFat}
 use Rattle.metadata.specs.Usable.{isUsable}
 use Rattle.metadata.proofs.Frame.{Fits}
+use Rattle.metadata.proofs.Counting.{usableCount, usable-free}
 use Rattle.choice.specs.Choice.{choose, around}
 use Rattle.choice.specs.Internal.{firstUsable}
 use Rattle.write_alloc.specs.Take.{takeAll}
@@ -202,10 +203,10 @@ module _ (y : Layout) (d m : List ℕ) (n : ℕ) (given : Bool) (near hint : ℕ
   in-near e z h f =
       rw (heap-kept (y .count) hint e, ne-eqb n 0 z, space-kept n (freeCount y d) h, near-two (y .count) given near f) refl
 
-  pub in-new : inHeap (y .count) hint ≡ true → (n ≡ 0 → ⊥) → n ≤ freeCount y d → eqb (nearCause (y .count) given near) 0 ≡ true
+  in-room : inHeap (y .count) hint ≡ true → (n ≡ 0 → ⊥) → n ≤ freeCount y d → eqb (nearCause (y .count) given near) 0 ≡ true
       → allocateIn y d m n given near hint ≡ newStream y d m n (cond given near hint) hint
   unfolding allocateIn firstCause allocateCause
-  in-new e z h f =
+  in-room e z h f =
       let u = isUsable y d m in
       let s = start-heap (y .count) given near hint e f in
       let k = eqb-true (nearCause (y .count) given near) 0 f in
@@ -214,6 +215,20 @@ module _ (y : Layout) (d m : List ℕ) (n : ℕ) (given : Bool) (near hint : ℕ
             (sym (stream-few y d m n (cond given near hint) hint (count-few u (y .count) n (cond given near hint) (in-heap (y .count) (cond given near hint) s .0) w)))
         | no w ↦ rw (heap-kept (y .count) hint e, ne-eqb n 0 z, space-kept n (freeCount y d) h, k, space-kept n (count u 2 (y .count)) (omega arith)) refl
       ]
+
+  -- the free count decides only where near is refused: fewer usable clusters than n are 7 with it or without
+  pub in-new : inHeap (y .count) hint ≡ true → (n ≡ 0 → ⊥) → eqb (nearCause (y .count) given near) 0 ≡ true
+      → allocateIn y d m n given near hint ≡ newStream y d m n (cond given near hint) hint
+  in-new e z f =
+      let s = in-heap (y .count) (cond given near hint) (start-heap (y .count) given near hint e f) in
+      elim (decLt (freeCount y d) n) [
+        | yes h ↦ in-free e z h
+            ∙ sym (stream-few y d m n (cond given near hint) hint (count-few (isUsable y d m) (y .count) n (cond given near hint) (s .0) (omega (arith, usables-free))))
+        | no h ↦ in-room e z (omega arith) f
+      ]
+    where
+      usables-free : count (isUsable y d m) 2 (y .count) ≤ freeCount y d
+      usables-free = unfold usableCount in (usable-free y d m)
 
 module _ (g : Geometry) (d m : List ℕ) (n : ℕ) (given : Bool) (near hint : ℕ) where
   pub allocate-is : (y : Layout) → Admits g d m y → allocateClusters g d m n given near hint ≡ allocateIn y d m n given near hint

@@ -21,7 +21,7 @@ use Rattle.metadata.specs.Usable.{isUsable}
 use Rattle.metadata.specs.Cluster.{clusterByte}
 use Rattle.metadata.proofs.Frame.{small, Fits, fits-kept, length-fat, fat-fat-same, fat-fat-other, mark-fat, cluster-fat}
 use Rattle.metadata.proofs.View.{plain}
-use Rattle.metadata.proofs.Counting.{markedCount, free-is-unmarked, fat-counts, usable-facts, usable-free, usableCount}
+use Rattle.metadata.proofs.Counting.{markedCount, free-is-unmarked, fat-counts, usable-facts}
 use Rattle.stream.specs.declared.allocation.Allocation.{Allocation}
 use Rattle.stream.specs.Chain.{listed}
 use Rattle.stream.specs.Stream.{streamOf, empty}
@@ -291,7 +291,7 @@ module _ (y : Layout) (d m : List ℕ) (w : Fits y d) (n : ℕ) (given : Bool) (
       by true p (no f) false q =
           let z : _≡_ {A = ℕ} 2 0 = number (unchanged 2 empty hint d) (in-near y d m n given near hint p (λ t. omega arith) (omega arith) q) in absurd (omega arith)
       by true p (no f) true q =
-          let r = in-new y d m n given near hint p (λ t. omega arith) (omega arith) q in
+          let r = in-new y d m n given near hint p (λ t. omega arith) q in
           let h = start-heap (y .count) given near hint p q in
           let s = in-heap (y .count) start h in
           let t : choose (isUsable y d m) (y .count) n start ≢ TooFew = λ z. seven (number (unchanged 7 empty hint d) (r ∙ stream-few y d m n start hint z)) in (
@@ -324,7 +324,7 @@ module _ (y : Layout) (d m : List ℕ) (w : Fits y d) (n : ℕ) (given : Bool) (
       by true p (no z) (yes f) c q = again 7 (in-free y d m n given near hint p z f)
       by true p (no z) (no f) false q = again 2 (in-near y d m n given near hint p z (omega arith) q)
       by true p (no z) (no f) true q =
-          let r = in-new y d m n given near hint p z (omega arith) q in
+          let r = in-new y d m n given near hint p z q in
           again 7 (r ∙ stream-few y d m n start hint (few (choose (isUsable y d m) (y .count) n start) refl r))
         where
           few : (c : Choice) → choose (isUsable y d m) (y .count) n start ≡ c
@@ -340,22 +340,15 @@ module _ (y : Layout) (d m : List ℕ) (w : Fits y d) (n : ℕ) (given : Bool) (
   module _ (one : 1 ≤ n) (hint-in : inHeap (y .count) hint ≡ true) (near-in : eqb (nearCause (y .count) given near) 0 ≡ true) where
     pub allocate-few : count (isUsable y d m) 2 (y .count) < n → allocateIn y d m n given near hint ≡ unchanged 7 empty hint d
     allocate-few h =
-        elim (decLt (freeCount y d) n) [
-          | yes f ↦ in-free y d m n given near hint hint-in (λ t. omega arith) f
-          | no f ↦ in-new y d m n given near hint hint-in (λ t. omega arith) (omega arith) near-in
-              ∙ stream-few y d m n (cond given near hint) hint
-              (count-few (isUsable y d m) (y .count) n (cond given near hint) (in-heap (y .count) (cond given near hint) (start-heap (y .count) given near hint hint-in near-in) .0) h)
-        ]
+        in-new y d m n given near hint hint-in (λ t. omega arith) near-in
+        ∙ stream-few y d m n (cond given near hint) hint
+        (count-few (isUsable y d m) (y .count) n (cond given near hint) (in-heap (y .count) (cond given near hint) (start-heap (y .count) given near hint hint-in near-in) .0) h)
 
     pub allocate-enough : n ≤ count (isUsable y d m) 2 (y .count) → allocateIn y d m n given near hint .answer .number ≡ 0
     allocate-enough h =
-        let f : n ≤ freeCount y d = omega (arith, usable-enough) in
-        let r = in-new y d m n given near hint hint-in (λ t. omega arith) f near-in in
+        let r = in-new y d m n given near hint hint-in (λ t. omega arith) near-in in
         ap (λ (o : Outcome). o .answer .number) r ∙ by (choose (isUsable y d m) (y .count) n (cond given near hint)) refl
       where
-        usable-enough : count (isUsable y d m) 2 (y .count) ≤ freeCount y d
-        usable-enough = unfold usableCount in (usable-free y d m)
-
         by : (c : Choice) → choose (isUsable y d m) (y .count) n (cond given near hint) ≡ c → newStream y d m n (cond given near hint) hint .answer .number ≡ 0
         by (Run k) t = ap (λ (o : Outcome). o .answer .number) (stream-run y d m n (cond given near hint) hint k t) ∙ (unfold newRun in refl)
         by Scattered t =

@@ -1,16 +1,17 @@
 -- Marks, links and takings, as the code meets them. Assumes nothing.
 use mathlib.Core.Path.{_≡_, refl, sym, _∙_, ap}
 use mathlib.Core.Logic.{_≢_}
-use mathlib.Core.Bool.{true, false, or-true}
+use mathlib.Core.Bool.{true, false, _&&_, or-true}
 use mathlib.Core.List.{List, [], _∷_}
-use Prim.Native.Nat.{ℕ, zero, suc, _+_, _-_, _≤_, _<_}
+use Prim.Native.Nat.{ℕ, zero, suc, _+_, _-_, _%_, _≤_, _<_}
 use native.Mathlib.Decide.{decLe, ℕ-discrete}
 use native.Mathlib.Numerals.{sub-one, add-one}
 use native.Mathlib.Omega.{arith}
-use lib.Dec.{eqb}
+use lib.Dec.{eqb, leb}
 use lib.ListN.{length, take}
-use borrow.Author.Tests.{eq-eqb, ne-eqb}
+use borrow.Author.Tests.{eq-eqb, ne-eqb, eqb-true, leb-true, lt-leb, le-leb}
 use Rattle.tables.specs.Count.{keep}
+use Rattle.tables.proofs.Cases.{and-left, and-right}
 use Rattle.tables.proofs.CountLaws.{keep-cong}
 use Rattle.boot.specs.declared.layout.Layout.{Layout}
 use Rattle.boot.specs.Internal.{Laid, Apart}
@@ -19,12 +20,20 @@ use Rattle.boot.proofs.Apart.{in-heap, heap-in}
 use Rattle.metadata.specs.Fat.{setFat}
 use Rattle.metadata.specs.Marks.{marked, setMark}
 use Rattle.metadata.specs.Usable.{isUsable}
+use Rattle.metadata.specs.Internal.{markRow, pastFull}
+use Rattle.metadata.proofs.RowLaws.{row-append}
+use Rattle.metadata.proofs.FullLaws.{full-bounds, full-unusable}
 use Rattle.metadata.proofs.Frame.{Fits, fits-kept, length-mark, mark-mark-same, mark-mark-other, mark-fat}
 use Rattle.metadata.proofs.Counting.{usable-mark-other, usable-fat-marked, usable-fat-other}
 use Rattle.write_alloc.specs.declared.take.Taken.{Taken}
 use Rattle.tables.specs.Lists.{lastOr}
 use Rattle.write_alloc.specs.Take.{markRun, linkRun, takeOne, takeAll}
-use Rattle.write_alloc.specs.Internal.{prevTaken, takenFrom, takenOf}
+use Rattle.write_alloc.specs.Internal.{prevTaken, takenFrom, takenOf, wholeByte}
+
+as-row : (y : Layout) (d : List ℕ) (k n : ℕ) → markRun y d k n ≡ markRow y d k n
+unfolding markRun markRow
+as-row y d k zero = refl
+as-row y d k (suc n) = as-row y (setMark y d k true) (k + 1) n
 
 module _ (y : Layout) (d : List ℕ) where
   pub mark-none : (k n : ℕ) → n ≤ 0 → markRun y d k n ≡ d
@@ -36,6 +45,12 @@ module _ (y : Layout) (d : List ℕ) where
   unfolding markRun
   mark-step k zero h = absurd (omega arith)
   mark-step k (suc n) h = rw sub-one refl
+
+  -- eight at once
+  pub mark-eight : (k n : ℕ) → 8 ≤ n → markRun y d k n ≡ markRun y (markRow y d k 8) (k + 8) (n - 8)
+  mark-eight k n h =
+      let q : n ≡ 8 + (n - 8) = omega arith in
+      as-row y d k n ∙ ap (markRow y d k) q ∙ row-append y d k 8 (n - 8) ∙ sym (as-row y (markRow y d k 8) (k + 8) (n - 8))
 
   pub link-none : (k n : ℕ) → n ≤ 0 → linkRun y d k n ≡ d
   unfolding linkRun
@@ -197,6 +212,37 @@ module _ (y : Layout) (d m : List ℕ) (end k prev left : ℕ) where
 
       more : left - suc (length ks) ≡ left - 1 - length ks
       more = omega arith
+
+-- a cluster that is not usable, and those after it whose bytes are full
+pub takes-past : (y : Layout) (d m : List ℕ) (end k prev left next : ℕ) → 2 ≤ k → k < end → isUsable y d m k ≡ false
+    → next ≡ pastFull y d (k + 1) (end - (k + 1)) → takes y d m end k prev left ≡ takes y d m end next prev left
+takes-past y d m end k prev left next l h e q =
+    let b = full-bounds y d (k + 1) (end - (k + 1)) (omega arith) in
+    takes-no y d m end k prev left h e
+    ∙ over (next - (k + 1)) (k + 1) (omega arith) (λ j a t. full-unusable y d m (k + 1) (end - (k + 1)) j (omega arith) a (omega arith))
+    ∙ ap (λ (x : ℕ). takes y d m end x prev left) (omega arith)
+  where
+    over : (i k : ℕ) → k + i ≤ end → ((j : ℕ) → k ≤ j → j < k + i → isUsable y d m j ≡ false)
+        → takes y d m end k prev left ≡ takes y d m end (k + i) prev left
+    over zero k h f = ap (λ (x : ℕ). takes y d m end x prev left) (omega arith)
+    over (suc i) k h f =
+        takes-no y d m end k prev left (omega arith) (f k (omega arith) (omega arith))
+        ∙ over i (k + 1) (omega arith) (λ j a b. f j (omega arith) (omega arith)) ∙ ap (λ (x : ℕ). takes y d m end x prev left) (omega arith)
+
+pub byte-no : (k left : ℕ) → left < 8 → wholeByte k left ≡ false
+unfolding wholeByte
+byte-no k left h = rw (lt-leb 8 left h) refl
+
+pub byte-is : (k left : ℕ) → 8 ≤ left → wholeByte k left ≡ eqb ((k - 2) % 8) 0
+unfolding wholeByte
+byte-is k left h = rw (le-leb 8 left h) refl
+
+pub byte-yes : (k left : ℕ) → wholeByte k left ≡ true → (8 ≤ left) × ((k - 2) % 8 ≡ 0)
+unfolding wholeByte
+byte-yes k left e = (
+  leb-true 8 left (and-left (leb 8 left) (eqb ((k - 2) % 8) 0) e),
+  eqb-true ((k - 2) % 8) 0 (and-right (leb 8 left) (eqb ((k - 2) % 8) 0) e),
+)
 
 -- where it has come to its end, what is taken and where that led
 pub took : (y : Layout) (d m : List ℕ) (end k prev left : ℕ) (e : List ℕ) (p l : ℕ) → still e p l ≡ takes y d m end k prev left

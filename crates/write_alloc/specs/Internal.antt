@@ -1,8 +1,8 @@
 -- What only contracts of inner functions, and proofs, speak of: no promise of a public call and no clause of the claim needs it.
 use mathlib.Core.Bool.{Bool, _&&_, _||_}
 use mathlib.Core.List.{List}
-use Prim.Native.Nat.{ℕ, _-_}
-use lib.Dec.{eqb}
+use Prim.Native.Nat.{ℕ, _-_, _%_}
+use lib.Dec.{eqb, leb}
 use lib.ListN.{length, take}
 use Rattle.tables.specs.Count.{keep}
 use Rattle.tables.specs.Lists.{lastOr}
@@ -11,6 +11,10 @@ use Rattle.boot.specs.Layout.{inHeap}
 use Rattle.metadata.specs.Marks.{marked}
 use Rattle.metadata.specs.Usable.{isUsable}
 use Rattle.write_alloc.specs.declared.take.Taken.{Taken}
+
+-- k is the first cluster of its byte of the bitmap, and left is eight or more
+unfoldable pub wholeByte : (k left : ℕ) → Bool
+wholeByte k left = leb 8 left && eqb ((k - 2) % 8) 0
 
 -- the one before is none, or a cluster that is taken already
 unfoldable pub prevTaken : Layout → List ℕ → ℕ → Bool

@@ -59,7 +59,7 @@ pub fn take_chain(vol: &mut [u8], map: &[u8], y: Layout, start: u32, n: u32, pre
 
 // n clusters from k as a run: marked, their FAT entries untouched.
 fn new_run(vol: &mut [u8], y: Layout, k: u32, n: u32) -> Answer
-    requires { ⌜ Laid y × ((length (now vol) ≡ y .len) × ((2 ≤ k) × ((k + n ≤ y .count + 2) × (1 ≤ n)))) ⌝ }
+    requires { ⌜ Laid y × ((length (now vol) ≡ y .len) × ((2 ≤ k) × ((k + n ≤ y .count + 2) × (Apart y × (1 ≤ n))))) ⌝ }
     ensures { λ r. ⌜ (r ≡ newRun y (now (vol .entry)) k n .answer) × (now (vol .exit) ≡ newRun y (now (vol .entry)) k n .volume) ⌝ }
 {
     crate::take::mark_run(vol, y, k, n);
@@ -148,7 +148,8 @@ fn start_of(given: bool, near: u32, hint: u32) -> u32
     hint
 }
 
-// Allocate on a volume that keeps the limits.
+// Allocate on a volume that keeps the limits. Fewer usable clusters than n are 7 whatever the free count is: it is asked only where near
+// is refused.
 pub fn allocate_in(
     vol: &mut [u8],
     map: &[u8],
@@ -165,12 +166,12 @@ pub fn allocate_in(
         if n == 0 {
             return no_stream(0, hint);
         }
-        if metadata::bitmap::free_count(vol, y) < n {
-            return no_stream(7, hint);
-        }
         if near_ok(y.count, given, near) {
             let start = start_of(given, near, hint);
             return new_stream(vol, map, y, n, start, hint);
+        }
+        if metadata::bitmap::free_count(vol, y) < n {
+            return no_stream(7, hint);
         }
         return no_stream(2, hint);
     }

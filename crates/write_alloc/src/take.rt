@@ -5,7 +5,7 @@ ghost use Prim.Native.Nat.{_+_, _-_, _*_, _≤_, _<_};
 ghost use lib.ListN.{length};
 ghost use Rattle.boot.specs.Internal.{Laid, Apart};
 ghost use Rattle.write_alloc.specs.Take.{markRun, linkRun, takeAll, takeOne};
-ghost use Rattle.write_alloc.specs.Internal.{prevTaken, takenFrom, takenOf};
+ghost use Rattle.write_alloc.specs.Internal.{prevTaken, takenFrom, takenOf, wholeByte};
 use boot::layout::Layout;
 
 // The cluster reached, 0 before the first, and how many are still to be taken.
@@ -14,17 +14,34 @@ pub struct Taken {
     pub left: u32,
 }
 
-// Marks the n clusters from first.
+// Whether k is the first cluster of its byte of the bitmap, and left clusters from k on are eight or more.
+fn whole_byte(k: u32, left: u32) -> bool
+    requires { ⌜ 2 ≤ k ⌝ }
+    ensures { λ r. ⌜ r ≡ wholeByte k left ⌝ }
+{
+    if left < 8 {
+        return false;
+    }
+    (k - 2) % 8 == 0
+}
+
+// Marks the n clusters from first: eight at once where they are one byte of the bitmap.
 pub fn mark_run(vol: &mut [u8], y: Layout, first: u32, n: u32)
-    requires { ⌜ Laid y × ((length (now vol) ≡ y .len) × ((2 ≤ first) × (first + n ≤ y .count + 2))) ⌝ }
+    requires { ⌜ Laid y × ((length (now vol) ≡ y .len) × ((2 ≤ first) × ((first + n ≤ y .count + 2) × Apart y))) ⌝ }
     ensures { λ _. ⌜ now (vol .exit) ≡ markRun y (now (vol .entry)) first n ⌝ }
 {
     let mut k = first;
     let mut left = n;
     while 0 < left {
-        metadata::bitmap::mark(vol, y, k, true);
-        k += 1;
-        left -= 1;
+        if whole_byte(k, left) {
+            metadata::bitmap::mark_byte(vol, y, k);
+            k += 8;
+            left -= 8;
+        } else {
+            metadata::bitmap::mark(vol, y, k, true);
+            k += 1;
+            left -= 1;
+        }
     }
 }
 
@@ -82,7 +99,7 @@ pub fn take_usable(
             left -= 1;
             k = next;
         } else {
-            k = next;
+            k = metadata::bitmap::past_full(vol, y, next, end - next);
         }
     }
     Taken {

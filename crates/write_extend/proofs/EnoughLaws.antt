@@ -17,11 +17,11 @@ use Rattle.boot.specs.declared.layout.Layout.{Layout}
 use Rattle.boot.specs.Layout.{inHeap}
 use Rattle.boot.proofs.Apart.{in-heap, heap-in}
 use Rattle.metadata.specs.Fat.{fatEntry}
-use Rattle.metadata.specs.Marks.{marked, freeCount}
+use Rattle.metadata.specs.Marks.{marked}
 use Rattle.metadata.specs.Usable.{isFree, isUsable}
 use Rattle.metadata.proofs.Frame.{Fits, small}
 use Rattle.metadata.proofs.Stores.{usable-not-free, free-marked}
-use Rattle.metadata.proofs.Counting.{usableCount, usable-facts, usable-free}
+use Rattle.metadata.proofs.Counting.{usable-facts}
 use Rattle.stream.specs.declared.allocation.Allocation.{Allocation}
 use Rattle.stream.specs.Chain.{listed}
 use Rattle.stream.specs.Stream.{numberOf, streamOf, clustersOf}
@@ -120,22 +120,19 @@ module _ (y : Layout) (d m : List ℕ) (w : Fits y d) (a : Allocation) (n hint :
         count-split (isUsable y d m) (marked y d) 2 (y .count) (λ k e. usable-facts y d m k e .0),
       )
 
-  usables-free : usables ≤ freeCount y d
-  usables-free = unfold usableCount in (usable-free y d m)
-
   pub grow-allowed : n ≤ count (isUsable y d m) 2 (y .count) → Allowed y d m a n
   grow-allowed h = record { room = omega (arith, read-room); reads = reads; enough = h }
 
   pub grow-longer : 1 ≤ a .count → 1 ≤ n → n ≤ count (isUsable y d m) 2 (y .count) → extendIn y d m a n hint ≡ longer y d m a n
   grow-longer some one h =
       extend-longer y d m a n hint hint-in (λ t. omega arith) (λ t. omega arith)
-      (more-none y d m a n (numberOf (streamOf y d a)) (omega (arith, read-room)) (omega (arith, usables-free)) refl reads h)
+      (more-none y d m a n (numberOf (streamOf y d a)) (omega (arith, read-room)) refl reads h)
 
   pub grow-new : a .count ≡ 0 → 1 ≤ n → n ≤ count (isUsable y d m) 2 (y .count) → extendIn y d m a n hint ≡ newStream y d m n hint hint
   grow-new z one h =
       extend-new y d m a n hint hint-in (λ t. omega arith) z
       ∙ given-done a (allocateIn y d m n false 0 hint) (allocate-enough y d m w n false 0 hint one hint-in (near-none (y .count) false 0 refl) h)
-      ∙ in-new y d m n false 0 hint hint-in (λ t. omega arith) (omega (arith, usables-free)) (near-none (y .count) false 0 refl)
+      ∙ in-new y d m n false 0 hint hint-in (λ t. omega arith) (near-none (y .count) false 0 refl)
 
   number : (o : Outcome) → extendIn y d m a n hint ≡ o → extendIn y d m a n hint .answer .number ≡ o .answer .number
   number o q = ap (λ (o : Outcome). o .answer .number) q
@@ -143,7 +140,7 @@ module _ (y : Layout) (d m : List ℕ) (w : Fits y d) (a : Allocation) (n hint :
   new-number : 1 ≤ n → n ≤ usables → newStream y d m n hint hint .answer .number ≡ 0
   new-number one h =
       let f = near-none (y .count) false 0 refl in
-      ap (λ (o : Outcome). o .answer .number) (sym (in-new y d m n false 0 hint hint-in (λ t. omega arith) (omega (arith, usables-free)) f))
+      ap (λ (o : Outcome). o .answer .number) (sym (in-new y d m n false 0 hint hint-in (λ t. omega arith) f))
       ∙ allocate-enough y d m w n false 0 hint one hint-in f h
 
   -- fewer usable than wanted

@@ -31,7 +31,7 @@ use Rattle.stream.specs.Internal.{along}
 use Rattle.stream.proofs.StreamLaws.{length-along, consec-along, last-consec}
 use Rattle.stream.proofs.ListingLaws.{stream-read}
 use Rattle.metadata.proofs.Frame.{Fits, fits-kept, length-fat, mark-fat}
-use Rattle.metadata.proofs.Counting.{usable-fat-marked}
+use Rattle.metadata.proofs.Counting.{usable-fat-marked, usable-free, usableCount}
 use Rattle.choice.specs.declared.choice.Choice.{Choice}
 use Rattle.choice.specs.declared.choice.Choice.the-variants.{Run, Scattered, TooFew}
 use Rattle.search.specs.Search.{allFrom}
@@ -62,24 +62,31 @@ module _ (y : Layout) (d m : List ℕ) (a : Allocation) (n : ℕ) where
   more-record r h f e z =
       rw (space-kept (a .count + n) (y .count) h, space-kept n (freeCount y d) f, ne-eqb (numberOf (streamOf y d a)) 0 (λ q. z (e ∙ q))) (sym e)
 
-  pub more-few : (r : ℕ) → a .count + n ≤ y .count → n ≤ freeCount y d → r ≡ numberOf (streamOf y d a) → r ≡ 0
+  usables-free : count (isUsable y d m) 2 (y .count) ≤ freeCount y d
+  usables-free = unfold usableCount in (usable-free y d m)
+
+  -- fewer usable than wanted are 7, whether the free count has as many or not
+  pub more-few : (r : ℕ) → a .count + n ≤ y .count → r ≡ numberOf (streamOf y d a) → r ≡ 0
       → count (isUsable y d m) 2 (y .count) < n → moreCause y d m a n ≡ 7
   unfolding moreCause firstCause
-  more-few r h f e z w =
-      rw (
-        space-kept (a .count + n) (y .count) h,
-        space-kept n (freeCount y d) f,
-        eq-eqb (numberOf (streamOf y d a)) 0 (sym e ∙ z),
-        space-met n (count (isUsable y d m) 2 (y .count)) w,
-      ) refl
+  more-few r h e z w =
+      elim (decLt (freeCount y d) n) [
+        | yes f ↦ more-free h f
+        | no f ↦ rw (
+          space-kept (a .count + n) (y .count) h,
+          space-kept n (freeCount y d) (omega arith),
+          eq-eqb (numberOf (streamOf y d a)) 0 (sym e ∙ z),
+          space-met n (count (isUsable y d m) 2 (y .count)) w,
+        ) refl
+      ]
 
-  pub more-none : (r : ℕ) → a .count + n ≤ y .count → n ≤ freeCount y d → r ≡ numberOf (streamOf y d a) → r ≡ 0
+  pub more-none : (r : ℕ) → a .count + n ≤ y .count → r ≡ numberOf (streamOf y d a) → r ≡ 0
       → n ≤ count (isUsable y d m) 2 (y .count) → moreCause y d m a n ≡ 0
   unfolding moreCause firstCause
-  more-none r h f e z w =
+  more-none r h e z w =
       rw (
         space-kept (a .count + n) (y .count) h,
-        space-kept n (freeCount y d) f,
+        space-kept n (freeCount y d) (omega (arith, usables-free)),
         eq-eqb (numberOf (streamOf y d a)) 0 (sym e ∙ z),
         space-kept n (count (isUsable y d m) 2 (y .count)) w,
       ) refl
@@ -101,7 +108,7 @@ module _ (y : Layout) (d m : List ℕ) (a : Allocation) (n : ℕ) where
       by : a .count + n ≤ y .count → n ≤ freeCount y d → (b : Bool) → eqb (numberOf (streamOf y d a)) 0 ≡ b → Allowed y d m a n
       by h f true q =
           elim (decLt (count (isUsable y d m) 2 (y .count)) n) [
-            | yes w ↦ absurd (seven (sym (more-few (numberOf (streamOf y d a)) h f refl (eqb-true (numberOf (streamOf y d a)) 0 q) w) ∙ e))
+            | yes w ↦ absurd (seven (sym (more-few (numberOf (streamOf y d a)) h refl (eqb-true (numberOf (streamOf y d a)) 0 q) w) ∙ e))
             | no w ↦ record { room = h; reads = eqb-true (numberOf (streamOf y d a)) 0 q; enough = omega arith }
           ]
       by h f false q =

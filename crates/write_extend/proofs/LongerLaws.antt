@@ -19,12 +19,12 @@ use Rattle.boot.specs.Layout.{inHeap}
 use Rattle.tables.proofs.Cases.{and-left}
 use Rattle.boot.proofs.Apart.{in-heap}
 use Rattle.metadata.specs.Fat.{END, fatEntry, setFat}
-use Rattle.metadata.specs.Marks.{marked, freeCount}
+use Rattle.metadata.specs.Marks.{marked}
 use Rattle.metadata.specs.Usable.{isUsable}
 use Rattle.metadata.specs.Cluster.{clusterByte}
 use Rattle.metadata.proofs.Frame.{Fits, fits-kept, fat-fat-same, fat-fat-other, cluster-fat, small}
 use Rattle.metadata.proofs.View.{plain}
-use Rattle.metadata.proofs.Counting.{markedCount, usable-free, usableCount}
+use Rattle.metadata.proofs.Counting.{markedCount}
 use Rattle.stream.specs.declared.allocation.Allocation.{Allocation}
 use Rattle.stream.specs.Chain.{listed, readChain}
 use Rattle.stream.specs.Stream.{numberOf, readStream, streamOf, clustersOf, empty}
@@ -45,7 +45,7 @@ use Rattle.choice.proofs.ChoiceLaws.{choose-after, chosen-run, length-chosen, f
 use Rattle.search.proofs.Lowest.{Whole, all-whole}
 use Rattle.write_alloc.proofs.TakeLaws.{Before, Inside, fits-linkRun, run-link, run-link-other, run-link-byte}
 use Rattle.write_alloc.proofs.AllocateLaws.{wrap-low}
-use Rattle.write_extend.proofs.ExtendLaws.{more-free, more-few, more-none, allowed-of, place-usable, place-facts, link-chain, link-run, LastOf, tail-of, old-kept, length-old, start-in, longer-in, longer-out, given-done, given-refused, extend-hint, extend-none, extend-new, extend-longer, extend-refused}
+use Rattle.write_extend.proofs.ExtendLaws.{more-few, more-none, allowed-of, place-usable, place-facts, link-chain, link-run, LastOf, tail-of, old-kept, length-old, start-in, longer-in, longer-out, given-done, given-refused, extend-hint, extend-none, extend-new, extend-longer, extend-refused}
 use Rattle.write_alloc.proofs.GrowLaws.{Fresh, Grows, fresh-inside, fresh-unmarked, run-fresh, run-new, run-other, run-grown, sealed-long, sealed-mark, sealed-mark-other, sealed-fat, sealed-byte, sealed-count, sealed-end, sealed-links, sealed-first, chosen-fresh, allocate-kept}
 
 -- ---- lists
@@ -422,16 +422,10 @@ module _ (y : Layout) (d m : List ℕ) (w : Fits y d) (a : Allocation) (n hint :
     pub extend-few : count (isUsable y d m) 2 (y .count) < n → extendIn y d m a n hint ≡ unchanged 7 a hint d
     extend-few h =
         extend-refused y d m a n hint 7 hint-in (λ t. omega arith) (λ t. omega arith)
-        (sym (elim (decLt (freeCount y d) n) [
-          | yes f ↦ more-free y d m a n room f
-          | no f ↦ more-few y d m a n (numberOf (streamOf y d a)) room (omega arith) refl reads h
-        ])) (λ t. omega arith)
+        (sym (more-few y d m a n (numberOf (streamOf y d a)) room refl reads h)) (λ t. omega arith)
 
     pub extend-enough : n ≤ count (isUsable y d m) 2 (y .count) → extendIn y d m a n hint .answer .number ≡ 0
     extend-enough h =
-        let c = more-none y d m a n (numberOf (streamOf y d a)) room (omega (arith, enough)) refl reads h in
+        let c = more-none y d m a n (numberOf (streamOf y d a)) room refl reads h in
         number (longer y d m a n) (extend-longer y d m a n hint hint-in (λ t. omega arith) (λ t. omega arith) c)
         ∙ longer-number y d m w a n some one (record { room = room; reads = reads; enough = h })
-      where
-        enough : count (isUsable y d m) 2 (y .count) ≤ freeCount y d
-        enough = unfold usableCount in (usable-free y d m)

@@ -19,7 +19,8 @@ use choice::choice::Choice;
 use stream::allocation::Allocation;
 use write_alloc::answer::Answer;
 
-// What refuses n more clusters for a record that has some.
+// What refuses n more clusters for a record that has some. Fewer usable clusters than n are 7 whatever the free count is: it is asked only
+// where the record is refused.
 fn more_cause(vol: &[u8], map: &[u8], y: Layout, a: Allocation, n: u32) -> u32
     requires { ⌜ Laid y × ((length (now vol) ≡ y .len) × (y .count ≤ 8 * length (now map))) ⌝ }
     ensures { λ r. ⌜ r ≡ moreCause y (now (vol .entry)) (now (map .entry)) a n ⌝ }
@@ -27,14 +28,15 @@ fn more_cause(vol: &[u8], map: &[u8], y: Layout, a: Allocation, n: u32) -> u32
     if (y.count as u64) < a.count as u64 + n as u64 {
         return 7;
     }
-    if metadata::bitmap::free_count(vol, y) < n {
-        return 7;
-    }
     let number = stream::walk::stream_cause(vol, map, y, a);
     if number != 0 {
+        if metadata::bitmap::free_count(vol, y) < n {
+            return 7;
+        }
         return number;
     }
-    if choice::choice::enough(vol, map, y, n as u64) {
+    let next = std::num::wrapping_add_u32(a.last, 1);
+    if choice::choice::enough(vol, map, y, next, n as u64) {
         return 0;
     }
     7
@@ -48,7 +50,7 @@ fn in_place(vol: &[u8], map: &[u8], y: Layout, a: Allocation, n: u32) -> bool
     if a.no_fat_chain {
         let next = a.last + 1;
         if next + n <= y.count + 2 {
-            return choice::choice::run_is_free(vol, map, y, next, n);
+            return metadata::usable::run_is_free(vol, map, y, next, n);
         }
         return false;
     }
@@ -57,7 +59,7 @@ fn in_place(vol: &[u8], map: &[u8], y: Layout, a: Allocation, n: u32) -> bool
 
 // A run that keeps its flag.
 fn longer_run(vol: &mut [u8], y: Layout, a: Allocation, n: u32) -> Answer
-    requires { ⌜ Laid y × ((length (now vol) ≡ y .len) × ((1 ≤ a .last) × ((a .last + 1 + n ≤ y .count + 2) × (a .count + n ≤ y .count)))) ⌝ }
+    requires { ⌜ Laid y × ((length (now vol) ≡ y .len) × ((1 ≤ a .last) × ((a .last + 1 + n ≤ y .count + 2) × ((a .count + n ≤ y .count) × Apart y)))) ⌝ }
     ensures { λ r. ⌜ (r ≡ longerRun y (now (vol .entry)) a n .answer) × (now (vol .exit) ≡ longerRun y (now (vol .entry)) a n .volume) ⌝ }
 {
     write_alloc::take::mark_run(vol, y, a.last + 1, n);

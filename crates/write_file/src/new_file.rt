@@ -19,15 +19,16 @@ use entry_set::stamp::Stamps;
 use file::answer::FileAnswer;
 use stream::allocation::Allocation;
 
-// What refuses n more clusters: 7. The usable ones are searched only where some are wanted.
-fn space_cause(vol: &[u8], map: &[u8], y: Layout, n: u32) -> u32
+// What refuses n more clusters for a directory: 7. The usable ones are searched only where some are wanted, those behind its last one first.
+fn space_cause(vol: &[u8], map: &[u8], y: Layout, dir: Allocation, n: u32) -> u32
     requires { ⌜ Laid y × ((length (now vol) ≡ y .len) × (y .count ≤ 8 * length (now map))) ⌝ }
     ensures { λ r. ⌜ r ≡ spaceCause n (count (isUsable y (now (vol .entry)) (now (map .entry))) 2 (y .count)) ⌝ }
 {
     if n == 0 {
         return 0;
     }
-    if choice::choice::enough(vol, map, y, n as u64) {
+    let next = std::num::wrapping_add_u32(dir.last, 1);
+    if choice::choice::enough(vol, map, y, next, n as u64) {
         return 0;
     }
     7
@@ -76,7 +77,7 @@ fn new_file_in(
         if entry_set::name::attributes_ok(attributes) {
             let n = 2 + entry_set::set::name_entries(name.len());
             let room = directory::entries::free_run(vol, y, dir, n as u32);
-            if space_cause(vol, map, y, room.clusters) == 0 {
+            if space_cause(vol, map, y, dir, room.clusters) == 0 {
                 let set = entry_set::set::new_set(name, attributes, hash, t);
                 return insert(vol, map, y, dir, room, &set, n, hint);
             }

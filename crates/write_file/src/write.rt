@@ -113,7 +113,7 @@ fn write_data(
     }
     let end = offset + src.len() as u64;
     let goal = max(len, end);
-    let number = file::refresh::length_cause(vol, map, y, b, goal);
+    let number = file::refresh::length_cause(vol, map, y, b, goal, hint);
     if number != 0 {
         return unstored(number, b, valid, len, hint);
     }

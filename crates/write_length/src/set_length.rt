@@ -143,7 +143,7 @@ fn set_length_in(
     }
     let b = f.stream;
     let spot = f.spot;
-    let number = file::refresh::length_cause(vol, map, y, b, len);
+    let number = file::refresh::length_cause(vol, map, y, b, len, hint);
     if number != 0 {
         return file::target::refused(number, hint);
     }

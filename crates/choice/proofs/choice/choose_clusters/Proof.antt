@@ -34,8 +34,8 @@ returns-2 c = sym (choose-lowest _ _ _ _ _ (cc) (cc))
 enum-told-2 : tie.Need-enum-told-2
 enum-told-2 c = search needs
 
-enough-requires : tie.Need-enough-requires
-enough-requires c κs = search needs
+counts-to-requires : tie.Need-counts-to-requires
+counts-to-requires c κs = search needs
 
 returns-3 : tie.Need-returns-3
 returns-3 c = sym (choose-scattered _ _ _ _ (cc) (cc) (leb-true _ _ (cc)))
@@ -56,6 +56,6 @@ choose-clusters-spec =
     enum-known-lowest
     returns-2
     enum-told-2
-    enough-requires
+    counts-to-requires
     returns-3
     returns-4)

@@ -37,14 +37,14 @@ sub-loop c = search needs
 unmarked-tail-requires : tie.Need-unmarked-tail-requires Inv-loop μ-loop
 unmarked-tail-requires c κs = search needs
 
-usable-tail-requires : tie.Need-usable-tail-requires Inv-loop μ-loop
-usable-tail-requires c κs = search needs
+window-tail-requires : tie.Need-window-tail-requires Inv-loop μ-loop
+window-tail-requires c κs = search needs
 
 returns-2 : tie.Need-returns-2 Inv-loop μ-loop
 returns-2 c =
     let a = c .before .before .before .before .before .before .before .before .before .args in
     let l = c .before .before .before .before .before .loop in
-    let t = c .before .usable-tail in
+    let t = c .before .window-tail in
     sym (window-hit (isUsable (a .y) (a .vol .now) (a .map .now)) (a .end) (a .n) (l .base) (t .result) (t .ensures .0) (omega arith) (omega arith)) ∙ l .inv .1 .1
 
 loop-less : tie.Need-loop-less Inv-loop μ-loop
@@ -54,7 +54,7 @@ loop-again : tie.Need-loop-again Inv-loop μ-loop
 loop-again c =
     let a = c .before .before .before .before .before .before .before .before .before .args in
     let l = c .before .before .before .before .before .loop in
-    let t = c .before .usable-tail in
+    let t = c .before .window-tail in
     (omega arith, (omega arith, window-skip (isUsable (a .y) (a .vol .now) (a .map .now)) (isUsable (a .y) (a .vol .now) (a .map .now)) (λ k e. e) (a .end) (a .n) (l .base) (t .result) (t .ensures .0) (λ z. omega arith) ∙ l .inv .1 .1))
 
 add-if4 : tie.Need-add-if4 Inv-loop μ-loop
@@ -106,7 +106,7 @@ scan-spec =
     loop-holds
     sub-loop
     unmarked-tail-requires
-    usable-tail-requires
+    window-tail-requires
     returns-2
     loop-less
     loop-again

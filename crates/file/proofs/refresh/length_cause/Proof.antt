@@ -15,6 +15,9 @@ cast-there c = search needs
 returns : tie.Need-returns
 returns c = sym (length-kept _ _ _ _ _ (omega arith))
 
+near-of-requires : tie.Need-near-of-requires
+near-of-requires c κs = search needs
+
 sub-enough : tie.Need-sub-enough
 sub-enough c = search needs
 
@@ -34,6 +37,7 @@ length-cause-spec =
     clusters-for-requires
     cast-there
     returns
+    near-of-requires
     sub-enough
     enough-requires
     returns-2

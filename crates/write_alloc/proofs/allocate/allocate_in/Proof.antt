@@ -1,8 +1,8 @@
 use mathlib.Core.Path.{_≡_, sym, _∙_, refl, ap}
 use native.Mathlib.Omega.{arith}
+use borrow.Author.Needs.{needs}
 use Rattle.boot.proofs.Apart.{in-heap}
 use Rattle.write_alloc.proofs.AllocateLaws.{shown-as, start-heap, in-hint, in-none, in-free, in-near, in-new}
-use borrow.Author.Needs.{needs}
 use Rattle.write_alloc.proofs.allocate.allocate_in.Statement.{statement}
 use Rattle.write_alloc.proofs.allocate.allocate_in.Tie as tie
 
@@ -15,18 +15,6 @@ no-stream-requires c κs = search needs
 returns : tie.Need-returns
 returns c = shown-as (in-none _ _ _ _ _ _ _ (cc) (omega arith)) (c .no-stream .ensures, refl)
 
-free-count-requires : tie.Need-free-count-requires
-free-count-requires c κs = search needs
-
-no-stream-requires-2 : tie.Need-no-stream-requires-2
-no-stream-requires-2 c κs = search needs
-
-same-length : tie.Need-same-length
-same-length c = search needs
-
-returns-2 : tie.Need-returns-2
-returns-2 c = shown-as (in-free _ _ _ _ _ _ _ (cc) (λ z. omega arith) (omega arith)) (c .no-stream2 .ensures, refl)
-
 near-ok-requires : tie.Need-near-ok-requires
 near-ok-requires c κs = search needs
 
@@ -35,18 +23,30 @@ start-of-requires c κs = search needs
 
 new-stream-requires : tie.Need-new-stream-requires
 new-stream-requires c κs =
-    let a = c .before .before .before .before .before .before .before .before .before .before .before .before .args in
-    let p = c .before .before .before .before .before .before .before .before .before .before .before .before .pre in
+    let a = c .before .before .before .before .before .before .before .before .before .args in
+    let p = c .before .before .before .before .before .before .before .before .before .pre in
     let s = start-heap (a .y .count) (a .given) (a .near) (a .hint) (cc) (cc) in
     let h = in-heap _ _ s in
     let e = c .before .start-of .ensures in
     (p .0, (p .1 .0, (p .1 .1 .0, (rw e (h .0), (rw e (h .1), (p .1 .1 .1, omega arith))))))
 
+same-length : tie.Need-same-length
+same-length c = search needs
+
+returns-2 : tie.Need-returns-2
+returns-2 c = shown-as (in-new _ _ _ _ _ _ _ (cc) (λ z. omega arith) (cc) ∙ (cc)) (c .before .before .new-stream .ensures)
+
+free-count-requires : tie.Need-free-count-requires
+free-count-requires c κs = search needs
+
+no-stream-requires-2 : tie.Need-no-stream-requires-2
+no-stream-requires-2 c κs = search needs
+
 same-length-2 : tie.Need-same-length-2
 same-length-2 c = search needs
 
 returns-3 : tie.Need-returns-3
-returns-3 c = shown-as (in-new _ _ _ _ _ _ _ (cc) (λ z. omega arith) (omega arith) (cc) ∙ (cc)) (c .before .before .new-stream .ensures)
+returns-3 c = shown-as (in-free _ _ _ _ _ _ _ (cc) (λ z. omega arith) (omega arith)) (c .no-stream2 .ensures, refl)
 
 no-stream-requires-3 : tie.Need-no-stream-requires-3
 no-stream-requires-3 c κs = search needs
@@ -70,13 +70,13 @@ allocate-in-spec =
     in-heap-requires
     no-stream-requires
     returns
-    free-count-requires
-    no-stream-requires-2
-    same-length
-    returns-2
     near-ok-requires
     start-of-requires
     new-stream-requires
+    same-length
+    returns-2
+    free-count-requires
+    no-stream-requires-2
     same-length-2
     returns-3
     no-stream-requires-3

@@ -23,7 +23,7 @@ new-run-requires c κs =
     let k = c .before .before .choice .given .0 .0 in
     let e : choose (isUsable (a .y) (a .vol .now) (a .map .now)) (a .y .count) (a .n) (a .start) ≡ Run k = cc in
     let i = choose-inside (isUsable (a .y) (a .vol .now) (a .map .now)) (a .y .count) (a .n) (a .start) (p .1 .1 .1 .0) k e in
-    (p .0, (p .1 .0, (i .0, (i .1, p .1 .1 .1 .1 .1 .1))))
+    (p .0, (p .1 .0, (i .0, (i .1, p .1 .1 .1 .1 .1))))
 
 same-length : tie.Need-same-length
 same-length c = search needs

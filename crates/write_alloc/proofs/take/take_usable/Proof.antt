@@ -5,7 +5,7 @@ use native.Mathlib.Omega.{arith}
 use borrow.Author.Needs.{needs}
 use lib.ListN.{length}
 use Rattle.write_alloc.specs.Internal.{prevTaken}
-use Rattle.write_alloc.proofs.Taking.{takes, takes-end, takes-done, takes-no, takes-yes, took, one-taken}
+use Rattle.write_alloc.proofs.Taking.{takes, takes-end, takes-done, takes-past, takes-yes, took, one-taken}
 use Rattle.write_alloc.proofs.take.take_usable.Statement.{statement}
 use Rattle.write_alloc.proofs.take.take_usable.Tie as tie
 
@@ -60,14 +60,29 @@ loop-again c =
       ),
     )
 
+sub-past-full : tie.Need-sub-past-full Inv-loop μ-loop
+sub-past-full c = search needs
+
+past-full-requires : tie.Need-past-full-requires Inv-loop μ-loop
+past-full-requires c κs = search needs
+
 loop-less-2 : tie.Need-loop-less-2 Inv-loop μ-loop
 loop-less-2 c = search needs
 
 loop-again-2 : tie.Need-loop-again-2 Inv-loop μ-loop
 loop-again-2 c =
-    let l = c .before .before .before .before .before .loop in (
+    let l = c .before .before .before .before .before .before .before .loop in (
       l .inv .0,
-      (omega arith, (l .inv .1 .1 .0, (l .inv .1 .1 .1 .0, sym (takes-no _ _ _ _ _ _ _ (omega arith) (cc)) ∙ l .inv .1 .1 .1 .1))),
+      (
+        omega arith,
+        (
+          l .inv .1 .1 .0,
+          (
+            l .inv .1 .1 .1 .0,
+            sym (takes-past _ _ _ _ (l .k) _ _ _ (omega arith) (omega arith) (cc) (c .past-full .ensures .0)) ∙ l .inv .1 .1 .1 .1,
+          ),
+        ),
+      ),
     )
 
 same-length-2 : tie.Need-same-length-2 Inv-loop μ-loop
@@ -91,6 +106,8 @@ take-usable-spec =
     sub-left
     loop-less
     loop-again
+    sub-past-full
+    past-full-requires
     loop-less-2
     loop-again-2
     same-length-2

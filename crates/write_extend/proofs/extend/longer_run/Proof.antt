@@ -1,3 +1,4 @@
+use native.Mathlib.Omega.{arith}
 use Rattle.write_extend.specs.Extend.{longerRun}
 use borrow.Author.Needs.{needs}
 use Rattle.write_extend.proofs.extend.longer_run.Statement.{statement}
@@ -7,7 +8,9 @@ add-mark-run : tie.Need-add-mark-run
 add-mark-run c = search needs
 
 mark-run-requires : tie.Need-mark-run-requires
-mark-run-requires c κs = search needs
+mark-run-requires c κs =
+    let p = c .before .before .before .pre in
+    (p .0, (p .1 .0, (omega arith, (omega arith, p .1 .1 .1 .1 .1))))
 
 add-wrap-cluster : tie.Need-add-wrap-cluster
 add-wrap-cluster c = search needs

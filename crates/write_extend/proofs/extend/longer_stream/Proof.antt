@@ -21,7 +21,7 @@ longer-run-requires c κs =
     let z = p .1 .1 .1 in
     let f = last-facts (a .y) (a .vol .now) (a .map .now) (a .a) (a .n) (p .0) (z .0) (p .1 .0) (z .1 .0) (z .1 .1 .0) (z .1 .1 .1) in
     let h = place-facts (a .y) (a .vol .now) (a .map .now) (a .a) (a .n) (p .0) (z .0) (p .1 .0) (z .1 .0) (z .1 .1 .0) (z .1 .1 .1) (cc) in
-    (p .0, (p .1 .0, (f .0, (h, z .1 .1 .1 .room))))
+    (p .0, (p .1 .0, (f .0, (h, (z .1 .1 .1 .room, z .0)))))
 
 same-length : tie.Need-same-length
 same-length c = search needs

@@ -51,8 +51,10 @@ returns : tie.Need-returns
 returns c =
     let p = c .before .before .before .before .before .before .before .before .before .before .before .before .before .before .before .before .before .before .before .pre in
     let k = c .before .before .before .before .before .before .before .space-cause in
+    let named = sym (c .before .before .before .before .before .before .before .before .before .before .before .before .before .before .before .name-ok .ensures) ∙ c .before .before .before .before .before .before .before .before .before .before .before .before .before .before .if1 .taken in
+    let allowed = sym (c .before .before .before .before .before .before .before .before .before .before .before .before .before .attributes-ok .ensures) ∙ c .before .before .before .before .before .before .before .before .before .before .before .before .if2 .taken in
     let z : k .result ≡ 0 = omega arith in
-    shown-as (new-done _ _ _ _ _ _ _ _ _ p (cc) (cc) _ _ (entries-are _ _ (c .before .before .before .before .before .before .before .before .before .before .before .name-entries .ensures .0)) (c .before .before .before .before .before .before .before .before .before .free-run .ensures) _ (k .ensures) z _ (c .before .before .before .before .before .new-set .ensures)) (c .before .before .insert .ensures)
+    shown-as (new-done _ _ _ _ _ _ _ _ _ p named allowed _ _ (entries-are _ _ (c .before .before .before .before .before .before .before .before .before .before .before .name-entries .ensures .0)) (c .before .before .before .before .before .before .before .before .before .free-run .ensures) _ (k .ensures) z _ (c .before .before .before .before .before .new-set .ensures)) (c .before .before .insert .ensures)
 
 refused-requires : tie.Need-refused-requires
 refused-requires c κs = search needs
