@@ -95,7 +95,7 @@ pub fn known_place(b: Allocation, a: Allocation) -> Place
 // Adds the clusters that a stream misses for a length; then it reads, holds the length, and has the known place.
 pub fn grow_to(vol: &mut [u8], map: &[u8], y: Layout, b: Allocation, len: u64, hint: u32) -> Answer
     requires { ⌜ Laid y × ((length (now vol) ≡ y .len) × ((y .count ≤ 8 * length (now map)) × (Apart y × ((inHeap (y .count) hint ≡ true) × ((numberOf (streamOf y (now vol) b) ≡ 0) × (lengthCause y (now vol) (now map) b len ≡ 0)))))) ⌝ }
-    ensures { λ r. ⌜ (r ≡ extendIn y (now (vol .entry)) (now (map .entry)) b (missing y b len) hint .answer) × ((now (vol .exit) ≡ extendIn y (now (vol .entry)) (now (map .entry)) b (missing y b len) hint .volume) × ((numberOf (streamOf y (now (vol .exit)) (r .allocation)) ≡ 0) × ((len ≤ r .allocation .count * y .size) × Known y (now (vol .exit)) (r .allocation) (knownPlace b (r .allocation))))) ⌝ }
+    ensures { λ r. ⌜ (let o = extendIn y (now (vol .entry)) (now (map .entry)) b (missing y b len) hint in (r ≡ o .answer) × ((now (vol .exit) ≡ o .volume) × ((numberOf (streamOf y (now (vol .exit)) (r .allocation)) ≡ 0) × ((len ≤ r .allocation .count * y .size) × Known y (now (vol .exit)) (r .allocation) (knownPlace b (r .allocation)))))) ⌝ }
 {
     let n = missing(y, b, len);
     write_extend::extend::grow_in(vol, map, y, b, n, hint)
@@ -113,7 +113,7 @@ pub fn record_set(
     t: Stamp,
 )
     requires { ⌜ Laid y × ((length (now vol) ≡ y .len) × Reaches y spot (entriesOf (now set))) ⌝ }
-    ensures { λ _. ⌜ (now (vol .exit) ≡ storeAt y (now (vol .entry)) (spotClusters spot) (spot .at) (take (32 * entriesOf (now (set .entry))) (recorded (now (set .entry)) b valid len t))) × (now (set .exit) ≡ recorded (now (set .entry)) b valid len t) ⌝ }
+    ensures { λ _. ⌜ (let s = now (set .entry) in (now (vol .exit) ≡ storeAt y (now (vol .entry)) (spotClusters spot) (spot .at) (take (32 * entriesOf s) (recorded s b valid len t))) × (now (set .exit) ≡ recorded s b valid len t)) ⌝ }
 {
     let n = entries_of(set);
     entry_set::set::refreshed(set, n, b.first, b.no_fat_chain, valid, len, t);

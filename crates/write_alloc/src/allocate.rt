@@ -36,7 +36,7 @@ pub fn wrap_cluster(count: u32, k: u32) -> u32
 // Takes n usable clusters from start to the end of the heap, then from 2, each linked from the one before; answers the last.
 fn take_around(vol: &mut [u8], map: &[u8], y: Layout, start: u32, n: u32, prev: u32) -> u32
     requires { ⌜ Laid y × ((length (now vol) ≡ y .len) × ((y .count ≤ 8 * length (now map)) × ((2 ≤ start) × ((start < y .count + 2) × ((prevOk y (now vol) prev ≡ true) × Apart y))))) ⌝ }
-    ensures { λ r. ⌜ (now (vol .exit) ≡ takeAll y (now (vol .entry)) prev (take n (around (isUsable y (now (vol .entry)) (now (map .entry))) (y .count) start))) × (r ≡ lastOr prev (take n (around (isUsable y (now (vol .entry)) (now (map .entry))) (y .count) start))) ⌝ }
+    ensures { λ r. ⌜ (let ks = take n (around (isUsable y (now (vol .entry)) (now (map .entry))) (y .count) start) in (now (vol .exit) ≡ takeAll y (now (vol .entry)) prev ks) × (r ≡ lastOr prev ks)) ⌝ }
 {
     let begin = Taken {
         prev: prev,
@@ -50,7 +50,7 @@ fn take_around(vol: &mut [u8], map: &[u8], y: Layout, start: u32, n: u32, prev: 
 // The same, with the last cluster made the end of the chain.
 pub fn take_chain(vol: &mut [u8], map: &[u8], y: Layout, start: u32, n: u32, prev: u32) -> u32
     requires { ⌜ Laid y × ((length (now vol) ≡ y .len) × ((y .count ≤ 8 * length (now map)) × ((2 ≤ start) × ((start < y .count + 2) × ((prevOk y (now vol) prev ≡ true) × (Apart y × ((1 ≤ n) × (n ≤ count (isUsable y (now vol) (now map)) 2 (y .count))))))))) ⌝ }
-    ensures { λ r. ⌜ (now (vol .exit) ≡ setFat y (takeAll y (now (vol .entry)) prev (take n (around (isUsable y (now (vol .entry)) (now (map .entry))) (y .count) start))) r END) × ((r ≡ lastOr prev (take n (around (isUsable y (now (vol .entry)) (now (map .entry))) (y .count) start))) × (r < y .count + 2)) ⌝ }
+    ensures { λ r. ⌜ (let ks = take n (around (isUsable y (now (vol .entry)) (now (map .entry))) (y .count) start) in (now (vol .exit) ≡ setFat y (takeAll y (now (vol .entry)) prev ks) r END) × ((r ≡ lastOr prev ks) × (r < y .count + 2))) ⌝ }
 {
     let last = take_around(vol, map, y, start, n, prev);
     metadata::fat::set_fat(vol, y, last, 0xFFFF_FFFF);
@@ -60,7 +60,7 @@ pub fn take_chain(vol: &mut [u8], map: &[u8], y: Layout, start: u32, n: u32, pre
 // n clusters from k as a run: marked, their FAT entries untouched.
 fn new_run(vol: &mut [u8], y: Layout, k: u32, n: u32) -> Answer
     requires { ⌜ Laid y × ((length (now vol) ≡ y .len) × ((2 ≤ k) × ((k + n ≤ y .count + 2) × (Apart y × (1 ≤ n))))) ⌝ }
-    ensures { λ r. ⌜ (r ≡ newRun y (now (vol .entry)) k n .answer) × (now (vol .exit) ≡ newRun y (now (vol .entry)) k n .volume) ⌝ }
+    ensures { λ r. ⌜ (let o = newRun y (now (vol .entry)) k n in (r ≡ o .answer) × (now (vol .exit) ≡ o .volume)) ⌝ }
 {
     crate::take::mark_run(vol, y, k, n);
     let a = Allocation {
@@ -80,7 +80,7 @@ fn new_run(vol: &mut [u8], y: Layout, k: u32, n: u32) -> Answer
 // n usable clusters from start on, then from 2, as a chain: marked, and linked in that order.
 fn new_chain(vol: &mut [u8], map: &[u8], y: Layout, start: u32, n: u32) -> Answer
     requires { ⌜ Laid y × ((length (now vol) ≡ y .len) × ((y .count ≤ 8 * length (now map)) × ((2 ≤ start) × ((start < y .count + 2) × (Apart y × ((1 ≤ n) × (n ≤ count (isUsable y (now vol) (now map)) 2 (y .count)))))))) ⌝ }
-    ensures { λ r. ⌜ (r ≡ newChain y (now (vol .entry)) (take n (around (isUsable y (now (vol .entry)) (now (map .entry))) (y .count) start)) .answer) × (now (vol .exit) ≡ newChain y (now (vol .entry)) (take n (around (isUsable y (now (vol .entry)) (now (map .entry))) (y .count) start)) .volume) ⌝ }
+    ensures { λ r. ⌜ (let o = newChain y (now (vol .entry)) (take n (around (isUsable y (now (vol .entry)) (now (map .entry))) (y .count) start)) in (r ≡ o .answer) × (now (vol .exit) ≡ o .volume)) ⌝ }
 {
     let first = choice::choice::first_usable(vol, map, y, start);
     let last = take_chain(vol, map, y, start, n, 0);
@@ -112,7 +112,7 @@ fn no_stream(number: u32, hint: u32) -> Answer
 // A new stream of n clusters for a search that starts at start.
 pub fn new_stream(vol: &mut [u8], map: &[u8], y: Layout, n: u32, start: u32, hint: u32) -> Answer
     requires { ⌜ Laid y × ((length (now vol) ≡ y .len) × ((y .count ≤ 8 * length (now map)) × ((2 ≤ start) × ((start < y .count + 2) × (Apart y × (1 ≤ n)))))) ⌝ }
-    ensures { λ r. ⌜ (r ≡ newStream y (now (vol .entry)) (now (map .entry)) n start hint .answer) × (now (vol .exit) ≡ newStream y (now (vol .entry)) (now (map .entry)) n start hint .volume) ⌝ }
+    ensures { λ r. ⌜ (let o = newStream y (now (vol .entry)) (now (map .entry)) n start hint in (r ≡ o .answer) × (now (vol .exit) ≡ o .volume)) ⌝ }
 {
     let choice = choice::choice::choose_clusters(vol, map, y, start, n);
     match choice {
@@ -160,7 +160,7 @@ pub fn allocate_in(
     hint: u32,
 ) -> Answer
     requires { ⌜ Laid y × ((length (now vol) ≡ y .len) × ((y .count ≤ 8 * length (now map)) × Apart y)) ⌝ }
-    ensures { λ r. ⌜ (r ≡ allocateIn y (now (vol .entry)) (now (map .entry)) n given near hint .answer) × (now (vol .exit) ≡ allocateIn y (now (vol .entry)) (now (map .entry)) n given near hint .volume) ⌝ }
+    ensures { λ r. ⌜ (let o = allocateIn y (now (vol .entry)) (now (map .entry)) n given near hint in (r ≡ o .answer) × (now (vol .exit) ≡ o .volume)) ⌝ }
 {
     if boot::layout::in_heap(y.count, hint) {
         if n == 0 {
@@ -188,7 +188,7 @@ pub fn allocate_clusters(
     near: u32,
     hint: u32,
 ) -> Answer
-    ensures { λ r. ⌜ (r ≡ allocateClusters g (now (vol .entry)) (now (map .entry)) n given near hint .answer) × (now (vol .exit) ≡ allocateClusters g (now (vol .entry)) (now (map .entry)) n given near hint .volume) ⌝ }
+    ensures { λ r. ⌜ (let o = allocateClusters g (now (vol .entry)) (now (map .entry)) n given near hint in (r ≡ o .answer) × (now (vol .exit) ≡ o .volume)) ⌝ }
 {
     let admission = boot::layout::admit(g, vol.len(), map);
     if admission.number != 0 {

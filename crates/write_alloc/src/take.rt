@@ -80,7 +80,7 @@ pub fn take_usable(
     start: Taken,
 ) -> Taken
     requires { ⌜ Laid y × ((length (now vol) ≡ y .len) × ((y .count ≤ 8 * length (now map)) × ((2 ≤ from) × ((end ≤ y .count + 2) × ((start .prev < y .count + 2) × ((prevTaken y (now vol) (start .prev) ≡ true) × Apart y)))))) ⌝ }
-    ensures { λ r. ⌜ (now (vol .exit) ≡ takeAll y (now (vol .entry)) (start .prev) (takenFrom y (now (vol .entry)) (now (map .entry)) from end (start .left))) × (r ≡ takenOf start (takenFrom y (now (vol .entry)) (now (map .entry)) from end (start .left))) ⌝ }
+    ensures { λ r. ⌜ (let ks = takenFrom y (now (vol .entry)) (now (map .entry)) from end (start .left) in (now (vol .exit) ≡ takeAll y (now (vol .entry)) (start .prev) ks) × (r ≡ takenOf start ks)) ⌝ }
 {
     let mut k = from;
     let mut prev = start.prev;

@@ -59,7 +59,7 @@ pub fn write_set(vol: &mut [u8], y: Layout, spot: Spot, set: &[u8; 608], n: usiz
 // One cluster added, and zeroed.
 fn grow(vol: &mut [u8], map: &[u8], y: Layout, dir: Allocation, hint: u32) -> Added
     requires { ⌜ Laid y × ((length (now vol) ≡ y .len) × ((y .count ≤ 8 * length (now map)) × (Apart y × Growable y (now vol) (now map) dir 1 hint))) ⌝ }
-    ensures { λ r. ⌜ (r ≡ addedOf (growOne y (now (map .entry)) (standing (now (vol .entry)) dir hint))) × (now (vol .exit) ≡ growOne y (now (map .entry)) (standing (now (vol .entry)) dir hint) .volume) ⌝ }
+    ensures { λ r. ⌜ (let w = growOne y (now (map .entry)) (standing (now (vol .entry)) dir hint) in (r ≡ addedOf w) × (now (vol .exit) ≡ w .volume)) ⌝ }
 {
     let o = write_extend::extend::grow_in(vol, map, y, dir, 1, hint);
     let a = o.allocation;
@@ -73,7 +73,7 @@ fn grow(vol: &mut [u8], map: &[u8], y: Layout, dir: Allocation, hint: u32) -> Ad
 // n clusters added, and zeroed.
 pub fn grow_by(vol: &mut [u8], map: &[u8], y: Layout, dir: Allocation, n: u32, hint: u32) -> Added
     requires { ⌜ Laid y × ((length (now vol) ≡ y .len) × ((y .count ≤ 8 * length (now map)) × (Apart y × Growable y (now vol) (now map) dir n hint))) ⌝ }
-    ensures { λ r. ⌜ (r ≡ addedOf (growBy y (now (map .entry)) n (standing (now (vol .entry)) dir hint))) × (now (vol .exit) ≡ growBy y (now (map .entry)) n (standing (now (vol .entry)) dir hint) .volume) ⌝ }
+    ensures { λ r. ⌜ (let w = growBy y (now (map .entry)) n (standing (now (vol .entry)) dir hint) in (r ≡ addedOf w) × (now (vol .exit) ≡ w .volume)) ⌝ }
 {
     let mut w = Added {
         allocation: dir,

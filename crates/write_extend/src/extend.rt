@@ -60,7 +60,7 @@ fn in_place(vol: &[u8], map: &[u8], y: Layout, a: Allocation, n: u32) -> bool
 // A run that keeps its flag.
 fn longer_run(vol: &mut [u8], y: Layout, a: Allocation, n: u32) -> Answer
     requires { ⌜ Laid y × ((length (now vol) ≡ y .len) × ((1 ≤ a .last) × ((a .last + 1 + n ≤ y .count + 2) × ((a .count + n ≤ y .count) × Apart y)))) ⌝ }
-    ensures { λ r. ⌜ (r ≡ longerRun y (now (vol .entry)) a n .answer) × (now (vol .exit) ≡ longerRun y (now (vol .entry)) a n .volume) ⌝ }
+    ensures { λ r. ⌜ (let o = longerRun y (now (vol .entry)) a n in (r ≡ o .answer) × (now (vol .exit) ≡ o .volume)) ⌝ }
 {
     write_alloc::take::mark_run(vol, y, a.last + 1, n);
     let b = Allocation {
@@ -108,7 +108,7 @@ fn begin_of(choice: Choice, start: u32) -> u32
 // n more clusters linked on, sought from last + 1.
 fn longer_chain(vol: &mut [u8], map: &[u8], y: Layout, a: Allocation, n: u32) -> Answer
     requires { ⌜ Laid y × ((length (now vol) ≡ y .len) × ((y .count ≤ 8 * length (now map)) × (Apart y × ((1 ≤ a .count) × ((1 ≤ n) × Allowed y (now vol) (now map) a n))))) ⌝ }
-    ensures { λ r. ⌜ (r ≡ longerChain y (now (vol .entry)) a (chosen (isUsable y (now (vol .entry)) (now (map .entry))) (y .count) n (wrap (y .count) (a .last + 1))) .answer) × (now (vol .exit) ≡ longerChain y (now (vol .entry)) a (chosen (isUsable y (now (vol .entry)) (now (map .entry))) (y .count) n (wrap (y .count) (a .last + 1))) .volume) ⌝ }
+    ensures { λ r. ⌜ (let o = longerChain y (now (vol .entry)) a (chosen (isUsable y (now (vol .entry)) (now (map .entry))) (y .count) n (wrap (y .count) (a .last + 1))) in (r ≡ o .answer) × (now (vol .exit) ≡ o .volume)) ⌝ }
 {
     let start = write_alloc::allocate::wrap_cluster(y.count, a.last + 1);
     let choice = choice::choice::choose_clusters(vol, map, y, start, n);
@@ -132,7 +132,7 @@ fn longer_chain(vol: &mut [u8], map: &[u8], y: Layout, a: Allocation, n: u32) ->
 // n more clusters for a record that has some.
 fn longer_stream(vol: &mut [u8], map: &[u8], y: Layout, a: Allocation, n: u32) -> Answer
     requires { ⌜ Laid y × ((length (now vol) ≡ y .len) × ((y .count ≤ 8 * length (now map)) × (Apart y × ((1 ≤ a .count) × ((1 ≤ n) × Allowed y (now vol) (now map) a n))))) ⌝ }
-    ensures { λ r. ⌜ (r ≡ longer y (now (vol .entry)) (now (map .entry)) a n .answer) × (now (vol .exit) ≡ longer y (now (vol .entry)) (now (map .entry)) a n .volume) ⌝ }
+    ensures { λ r. ⌜ (let o = longer y (now (vol .entry)) (now (map .entry)) a n in (r ≡ o .answer) × (now (vol .exit) ≡ o .volume)) ⌝ }
 {
     if in_place(vol, map, y, a, n) {
         return longer_run(vol, y, a, n);
@@ -154,7 +154,7 @@ fn as_given(number: u32, a: Allocation, hint: u32) -> Answer
 // An empty record is an allocation without near; a refusal keeps the record as given.
 fn extend_empty(vol: &mut [u8], map: &[u8], y: Layout, a: Allocation, n: u32, hint: u32) -> Answer
     requires { ⌜ Laid y × ((length (now vol) ≡ y .len) × ((y .count ≤ 8 * length (now map)) × Apart y)) ⌝ }
-    ensures { λ r. ⌜ (r ≡ orGiven a (allocateIn y (now (vol .entry)) (now (map .entry)) n false 0 hint) .answer) × (now (vol .exit) ≡ orGiven a (allocateIn y (now (vol .entry)) (now (map .entry)) n false 0 hint) .volume) ⌝ }
+    ensures { λ r. ⌜ (let o = orGiven a (allocateIn y (now (vol .entry)) (now (map .entry)) n false 0 hint) in (r ≡ o .answer) × (now (vol .exit) ≡ o .volume)) ⌝ }
 {
     let r = write_alloc::allocate::allocate_in(vol, map, y, n, false, 0, hint);
     if r.number == 0 {
@@ -166,7 +166,7 @@ fn extend_empty(vol: &mut [u8], map: &[u8], y: Layout, a: Allocation, n: u32, hi
 // Extend on a volume that keeps the limits.
 fn extend_in(vol: &mut [u8], map: &[u8], y: Layout, a: Allocation, n: u32, hint: u32) -> Answer
     requires { ⌜ Laid y × ((length (now vol) ≡ y .len) × ((y .count ≤ 8 * length (now map)) × Apart y)) ⌝ }
-    ensures { λ r. ⌜ (r ≡ extendIn y (now (vol .entry)) (now (map .entry)) a n hint .answer) × (now (vol .exit) ≡ extendIn y (now (vol .entry)) (now (map .entry)) a n hint .volume) ⌝ }
+    ensures { λ r. ⌜ (let o = extendIn y (now (vol .entry)) (now (map .entry)) a n hint in (r ≡ o .answer) × (now (vol .exit) ≡ o .volume)) ⌝ }
 {
     if boot::layout::in_heap(y.count, hint) {
         if n == 0 {
@@ -187,7 +187,7 @@ fn extend_in(vol: &mut [u8], map: &[u8], y: Layout, a: Allocation, n: u32, hint:
 // n more clusters for a stream whose record is known to read, n of them known to be usable: what extend does where nothing refuses.
 pub fn grow_in(vol: &mut [u8], map: &[u8], y: Layout, a: Allocation, n: u32, hint: u32) -> Answer
     requires { ⌜ Laid y × ((length (now vol) ≡ y .len) × ((y .count ≤ 8 * length (now map)) × (Apart y × ((inHeap (y .count) hint ≡ true) × ((numberOf (streamOf y (now vol) a) ≡ 0) × (n ≤ count (isUsable y (now vol) (now map)) 2 (y .count))))))) ⌝ }
-    ensures { λ r. ⌜ (r ≡ extendIn y (now (vol .entry)) (now (map .entry)) a n hint .answer) × (now (vol .exit) ≡ extendIn y (now (vol .entry)) (now (map .entry)) a n hint .volume) ⌝ }
+    ensures { λ r. ⌜ (let o = extendIn y (now (vol .entry)) (now (map .entry)) a n hint in (r ≡ o .answer) × (now (vol .exit) ≡ o .volume)) ⌝ }
 {
     if n == 0 {
         return as_given(0, a, hint);
@@ -207,7 +207,7 @@ pub fn extend_clusters(
     n: u32,
     hint: u32,
 ) -> Answer
-    ensures { λ r. ⌜ (r ≡ extendClusters g (now (vol .entry)) (now (map .entry)) a n hint .answer) × (now (vol .exit) ≡ extendClusters g (now (vol .entry)) (now (map .entry)) a n hint .volume) ⌝ }
+    ensures { λ r. ⌜ (let o = extendClusters g (now (vol .entry)) (now (map .entry)) a n hint in (r ≡ o .answer) × (now (vol .exit) ≡ o .volume)) ⌝ }
 {
     let admission = boot::layout::admit(g, vol.len(), map);
     if admission.number != 0 {

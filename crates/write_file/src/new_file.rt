@@ -46,7 +46,7 @@ fn insert(
     hint: u32,
 ) -> FileAnswer
     requires { ⌜ Ready y (now vol) (now map) dir hint × ((1 ≤ n) × ((n ≤ 19) × ((room ≡ roomFor (y .size) (bytesIn y (now vol) dir) n) × (room .clusters ≤ count (isUsable y (now vol) (now map)) 2 (y .count))))) ⌝ }
-    ensures { λ r. ⌜ (r ≡ placed y (growBy y (now (map .entry)) (room .clusters) (standing (now (vol .entry)) dir hint)) n (now (set .entry)) .answer) × (now (vol .exit) ≡ placed y (growBy y (now (map .entry)) (room .clusters) (standing (now (vol .entry)) dir hint)) n (now (set .entry)) .volume) ⌝ }
+    ensures { λ r. ⌜ (let o = placed y (growBy y (now (map .entry)) (room .clusters) (standing (now (vol .entry)) dir hint)) n (now (set .entry)) in (r ≡ o .answer) × (now (vol .exit) ≡ o .volume)) ⌝ }
 {
     let w = write_dir::place::grow_by(vol, map, y, dir, room.clusters, hint);
     let spot = directory::spot::locate(vol, y, w.allocation, room.slot);
@@ -71,7 +71,7 @@ fn new_file_in(
     hint: u32,
 ) -> FileAnswer
     requires { ⌜ Ready y (now vol) (now map) dir hint ⌝ }
-    ensures { λ r. ⌜ (r ≡ newFileIn y (now (vol .entry)) (now (map .entry)) dir (now (name .entry)) attributes hash t hint .answer) × (now (vol .exit) ≡ newFileIn y (now (vol .entry)) (now (map .entry)) dir (now (name .entry)) attributes hash t hint .volume) ⌝ }
+    ensures { λ r. ⌜ (let o = newFileIn y (now (vol .entry)) (now (map .entry)) dir (now (name .entry)) attributes hash t hint in (r ≡ o .answer) × (now (vol .exit) ≡ o .volume)) ⌝ }
 {
     if entry_set::name::name_ok(name) {
         if entry_set::name::attributes_ok(attributes) {
@@ -99,7 +99,7 @@ pub fn make_in(
     t: Stamps,
     hint: u32,
 ) -> FileAnswer
-    ensures { λ r. ⌜ (r ≡ newFile g (now (vol .entry)) (now (map .entry)) (now (name .entry)) attributes hash t hint .answer) × (now (vol .exit) ≡ newFile g (now (vol .entry)) (now (map .entry)) (now (name .entry)) attributes hash t hint .volume) ⌝ }
+    ensures { λ r. ⌜ (let o = newFile g (now (vol .entry)) (now (map .entry)) (now (name .entry)) attributes hash t hint in (r ≡ o .answer) × (now (vol .exit) ≡ o .volume)) ⌝ }
 {
     let admission = boot::layout::admit(g, vol.len(), map);
     if admission.number != 0 {

@@ -69,7 +69,7 @@ fn put_grown(
     hint: u32,
 ) -> Answer
     requires { ⌜ Laid y × ((length (now vol) ≡ y .len) × ((y .count ≤ 8 * length (now map)) × (Apart y × ((inHeap (y .count) hint ≡ true) × ((numberOf (streamOf y (now vol) b) ≡ 0) × ((lengthCause y (now vol) (now map) b len ≡ 0) × (offset + length (now src) ≤ len))))))) ⌝ }
-    ensures { λ r. ⌜ (r ≡ extendIn y (now (vol .entry)) (now (map .entry)) b (missing y b len) hint .answer) × (now (vol .exit) ≡ withData y (extendIn y (now (vol .entry)) (now (map .entry)) b (missing y b len) hint .volume) (clustersIn y (extendIn y (now (vol .entry)) (now (map .entry)) b (missing y b len) hint .volume) (r .allocation)) valid offset (now (src .entry))) ⌝ }
+    ensures { λ r. ⌜ (let o = extendIn y (now (vol .entry)) (now (map .entry)) b (missing y b len) hint in (r ≡ o .answer) × (now (vol .exit) ≡ withData y (o .volume) (clustersIn y (o .volume) (r .allocation)) valid offset (now (src .entry)))) ⌝ }
 {
     let r = file::refresh::grow_to(vol, map, y, b, len, hint);
     let known = file::refresh::known_place(b, r.allocation);
@@ -176,7 +176,7 @@ pub fn write_into(
     t: Stamp,
     hint: u32,
 ) -> FileAnswer
-    ensures { λ r. ⌜ (r ≡ writeInto g (now (vol .entry)) (now (map .entry)) slot offset (now (src .entry)) t hint .answer) × (now (vol .exit) ≡ writeInto g (now (vol .entry)) (now (map .entry)) slot offset (now (src .entry)) t hint .volume) ⌝ }
+    ensures { λ r. ⌜ (let o = writeInto g (now (vol .entry)) (now (map .entry)) slot offset (now (src .entry)) t hint in (r ≡ o .answer) × (now (vol .exit) ≡ o .volume)) ⌝ }
 {
     let admission = boot::layout::admit(g, vol.len(), map);
     if admission.number != 0 {

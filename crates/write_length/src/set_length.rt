@@ -89,7 +89,7 @@ fn grow_zeroed(
     hint: u32,
 ) -> Answer
     requires { ⌜ Laid y × ((length (now vol) ≡ y .len) × ((y .count ≤ 8 * length (now map)) × (Apart y × ((inHeap (y .count) hint ≡ true) × ((numberOf (streamOf y (now vol) b) ≡ 0) × ((lengthCause y (now vol) (now map) b len ≡ 0) × ((valid ≤ len) × (valid ≤ 1073741824)))))))) ⌝ }
-    ensures { λ r. ⌜ (r ≡ extendIn y (now (vol .entry)) (now (map .entry)) b (missing y b len) hint .answer) × (now (vol .exit) ≡ storeAt y (extendIn y (now (vol .entry)) (now (map .entry)) b (missing y b len) hint .volume) (clustersIn y (extendIn y (now (vol .entry)) (now (map .entry)) b (missing y b len) hint .volume) (r .allocation)) valid (replicate (zeroEnd (y .size) valid len - valid) 0)) ⌝ }
+    ensures { λ r. ⌜ (let o = extendIn y (now (vol .entry)) (now (map .entry)) b (missing y b len) hint in (r ≡ o .answer) × (now (vol .exit) ≡ storeAt y (o .volume) (clustersIn y (o .volume) (r .allocation)) valid (replicate (zeroEnd (y .size) valid len - valid) 0))) ⌝ }
 {
     let to = zero_end(y, valid, len);
     let r = file::refresh::grow_to(vol, map, y, b, len, hint);
@@ -182,7 +182,7 @@ pub fn set_length(
     t: Stamp,
     hint: u32,
 ) -> FileAnswer
-    ensures { λ r. ⌜ (r ≡ setLength g (now (vol .entry)) (now (map .entry)) slot len t hint .answer) × (now (vol .exit) ≡ setLength g (now (vol .entry)) (now (map .entry)) slot len t hint .volume) ⌝ }
+    ensures { λ r. ⌜ (let o = setLength g (now (vol .entry)) (now (map .entry)) slot len t hint in (r ≡ o .answer) × (now (vol .exit) ≡ o .volume)) ⌝ }
 {
     let admission = boot::layout::admit(g, vol.len(), map);
     if admission.number != 0 {

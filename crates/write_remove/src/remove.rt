@@ -49,7 +49,7 @@ fn remove_in(vol: &mut [u8], map: &[u8], y: Layout, root: u32, slot: u32, hint: 
 
 // Removes a file of the root.
 pub fn remove(vol: &mut [u8], map: &[u8], g: Geometry, slot: u32, hint: u32) -> FileAnswer
-    ensures { λ r. ⌜ (r ≡ remove g (now (vol .entry)) (now (map .entry)) slot hint .answer) × (now (vol .exit) ≡ remove g (now (vol .entry)) (now (map .entry)) slot hint .volume) ⌝ }
+    ensures { λ r. ⌜ (let o = remove g (now (vol .entry)) (now (map .entry)) slot hint in (r ≡ o .answer) × (now (vol .exit) ≡ o .volume)) ⌝ }
 {
     let admission = boot::layout::admit(g, vol.len(), map);
     if admission.number != 0 {

@@ -109,7 +109,7 @@ pub fn kept_record(first: u32, keep: u32, part: Kept) -> Allocation
 // Shrinks a record that is not refused: 9, or the cut.
 fn shrink_read(vol: &mut [u8], map: &[u8], y: Layout, a: Allocation, keep: u32, hint: u32) -> Answer
     requires { ⌜ Laid y × ((length (now vol) ≡ y .len) × ((y .count ≤ 8 * length (now map)) × (Apart y × ((keep < a .count) × ((inHeap (y .count) hint ≡ true) × (numberOf (streamOf y (now vol) a) ≡ 0)))))) ⌝ }
-    ensures { λ r. ⌜ (r ≡ shrinkIn y (now (vol .entry)) (now (map .entry)) a keep hint .answer) × (now (vol .exit) ≡ shrinkIn y (now (vol .entry)) (now (map .entry)) a keep hint .volume) ⌝ }
+    ensures { λ r. ⌜ (let o = shrinkIn y (now (vol .entry)) (now (map .entry)) a keep hint in (r ≡ o .answer) × (now (vol .exit) ≡ o .volume)) ⌝ }
 {
     let part = kept_part(vol, y, a.no_fat_chain, a.first, keep);
     let number = stream::system::system_cause(
@@ -145,7 +145,7 @@ pub fn shrink_in(
     hint: u32,
 ) -> Answer
     requires { ⌜ Laid y × ((length (now vol) ≡ y .len) × ((y .count ≤ 8 * length (now map)) × Apart y)) ⌝ }
-    ensures { λ r. ⌜ (r ≡ shrinkIn y (now (vol .entry)) (now (map .entry)) a keep hint .answer) × (now (vol .exit) ≡ shrinkIn y (now (vol .entry)) (now (map .entry)) a keep hint .volume) ⌝ }
+    ensures { λ r. ⌜ (let o = shrinkIn y (now (vol .entry)) (now (map .entry)) a keep hint in (r ≡ o .answer) × (now (vol .exit) ≡ o .volume)) ⌝ }
 {
     if boot::layout::in_heap(y.count, hint) {
         if a.count <= keep {
@@ -181,7 +181,7 @@ pub fn shrink_clusters(
     keep: u32,
     hint: u32,
 ) -> Answer
-    ensures { λ r. ⌜ (r ≡ shrinkClusters g (now (vol .entry)) (now (map .entry)) a keep hint .answer) × (now (vol .exit) ≡ shrinkClusters g (now (vol .entry)) (now (map .entry)) a keep hint .volume) ⌝ }
+    ensures { λ r. ⌜ (let o = shrinkClusters g (now (vol .entry)) (now (map .entry)) a keep hint in (r ≡ o .answer) × (now (vol .exit) ≡ o .volume)) ⌝ }
 {
     let admission = boot::layout::admit(g, vol.len(), map);
     if admission.number != 0 {
