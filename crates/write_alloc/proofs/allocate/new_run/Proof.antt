@@ -1,11 +1,14 @@
 use mathlib.Core.Path.{_≡_, sym, _∙_, refl}
+use native.Mathlib.Omega.{arith}
 use Rattle.write_alloc.specs.Allocate.{newRun}
 use borrow.Author.Needs.{needs}
 use Rattle.write_alloc.proofs.allocate.new_run.Statement.{statement}
 use Rattle.write_alloc.proofs.allocate.new_run.Tie as tie
 
 mark-run-requires : tie.Need-mark-run-requires
-mark-run-requires c κs = search needs
+mark-run-requires c κs =
+    let p = c .before .before .pre in
+    (p .0, (p .1 .0, (omega arith, (omega arith, p .1 .1 .1 .1 .0))))
 
 add-t10 : tie.Need-add-t10
 add-t10 c = search needs
