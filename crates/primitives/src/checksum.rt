@@ -13,7 +13,7 @@ fn rotate_right_1(x: u16) -> u16
 }
 
 // The sum after one more byte.
-fn add_byte(sum: u16, b: u8) -> u16
+fn checksum_step(sum: u16, b: u8) -> u16
     ensures { λ r. ⌜ r ≡ addByte sum b ⌝ }
 {
     std::num::wrapping_add_u16(rotate_right_1(sum), b as u16)
@@ -27,7 +27,7 @@ fn add_bytes(set: &[u8], from: usize, n: usize, start: u16) -> u16
     let mut sum = start;
     let mut i = 0;
     while i < n {
-        sum = add_byte(sum, set[from + i]);
+        sum = checksum_step(sum, set[from + i]);
         i += 1;
     }
     sum

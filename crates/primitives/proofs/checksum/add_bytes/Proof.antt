@@ -16,14 +16,14 @@ abbrev μ-loop : tie.MeasureT-loop
 loop-holds : tie.Need-loop-holds Inv-loop μ-loop
 loop-holds c = (omega arith, sym (bytes-none _ _ _))
 
-add-add-byte : tie.Need-add-add-byte Inv-loop μ-loop
-add-add-byte c = search needs
+add-checksum-step : tie.Need-add-checksum-step Inv-loop μ-loop
+add-checksum-step c = search needs
 
-shared-slice-read-add-byte : tie.Need-shared-slice-read-add-byte Inv-loop μ-loop
-shared-slice-read-add-byte c = search needs
+shared-slice-read-checksum-step : tie.Need-shared-slice-read-checksum-step Inv-loop μ-loop
+shared-slice-read-checksum-step c = search needs
 
-add-byte-requires : tie.Need-add-byte-requires Inv-loop μ-loop
-add-byte-requires c κs = search needs
+checksum-step-requires : tie.Need-checksum-step-requires Inv-loop μ-loop
+checksum-step-requires c κs = search needs
 
 add-i : tie.Need-add-i Inv-loop μ-loop
 add-i c = search needs
@@ -44,9 +44,9 @@ add-bytes-spec =
     Inv-loop
     μ-loop
     loop-holds
-    add-add-byte
-    shared-slice-read-add-byte
-    add-byte-requires
+    add-checksum-step
+    shared-slice-read-checksum-step
+    checksum-step-requires
     add-i
     loop-less
     loop-again

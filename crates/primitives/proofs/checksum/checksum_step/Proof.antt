@@ -1,7 +1,7 @@
 use Rattle.primitives.specs.Internal.{addByte}
 use borrow.Author.Needs.{needs}
-use Rattle.primitives.proofs.checksum.add_byte.Statement.{statement}
-use Rattle.primitives.proofs.checksum.add_byte.Tie as tie
+use Rattle.primitives.proofs.checksum.checksum_step.Statement.{statement}
+use Rattle.primitives.proofs.checksum.checksum_step.Tie as tie
 
 rotate-right-1-requires : tie.Need-rotate-right-1-requires
 rotate-right-1-requires c κs = search needs
@@ -13,5 +13,5 @@ returns : tie.Need-returns
 unfolding addByte
 returns c = cc
 
-pub add-byte-spec : {M : Type 1} → statement M
-add-byte-spec = tie.close (tie.spec rotate-right-1-requires wrapping-add-u16-requires returns)
+pub checksum-step-spec : {M : Type 1} → statement M
+checksum-step-spec = tie.close (tie.spec rotate-right-1-requires wrapping-add-u16-requires returns)
