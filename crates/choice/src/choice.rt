@@ -1,7 +1,7 @@
 // Which clusters are taken: the lowest run that fits, else usable clusters one by one.
 ghost use mathlib.Core.Path.{_≡_};
 ghost use mathlib.Core.Bool.{not};
-ghost use Prim.Native.Nat.{_+_, _-_, _*_, _≤_, _<_};
+ghost use Prim.Native.Nat.{_+_, _-_, _*_, _≤_, _<_, min};
 ghost use lib.Dec.{leb};
 ghost use lib.ListN.{length};
 ghost use Rattle.tables.specs.Count.{count};
@@ -157,7 +157,7 @@ pub fn enough(vol: &[u8], map: &[u8], y: Layout, near: u32, n: u64) -> bool
 // Where the search of the whole heap may end: a run that starts at or after start was looked for.
 fn wrap_end(start: u32, end: u32, n: u32) -> u32
     requires { ⌜ (1 ≤ n) × (end ≤ 65536) ⌝ }
-    ensures { λ r. ⌜ r ≡ end - (end - (start + n - 1)) ⌝ }
+    ensures { λ r. ⌜ r ≡ min end (start + n - 1) ⌝ }
 {
     if end <= start {
         return end;

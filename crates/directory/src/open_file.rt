@@ -169,12 +169,7 @@ fn set_cause(set: &[u8; 608], count: u32, size: usize) -> u32
 pub fn no_file(number: u32) -> OpenFile
     ensures { λ r. ⌜ r ≡ noFile number ⌝ }
 {
-    let a = Allocation {
-        first: 0,
-        last: 0,
-        count: 0,
-        no_fat_chain: false,
-    };
+    let a = stream::allocation::empty_record();
     let spot = Spot {
         first: 0,
         second: 0,

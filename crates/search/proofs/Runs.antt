@@ -2,7 +2,7 @@
 use mathlib.Core.Path.{_≡_, refl, sym, _∙_, ap, ap₂}
 use mathlib.Core.Logic.{_≢_}
 use mathlib.Core.Bool.{Bool, true, false, and-false}
-use Prim.Native.Nat.{ℕ, zero, suc, _+_, _-_, _≤_, _<_}
+use Prim.Native.Nat.{ℕ, zero, suc, _+_, _-_, _≤_, _<_, min}
 use native.Mathlib.Decide.{decLt}
 use native.Mathlib.Numerals.{sub-one}
 use native.Mathlib.Omega.{arith}
@@ -12,10 +12,10 @@ use Rattle.search.specs.declared.found.Found.the-variants.{At, Nothing}
 use Rattle.search.specs.Search.{allFrom, firstRun, runFrom}
 use Rattle.search.specs.Internal.{pastFailing}
 
-lesser-left : (a b : ℕ) → a ≤ b → a - (a - b) ≡ a
+lesser-left : (a b : ℕ) → a ≤ b → min a b ≡ a
 lesser-left a b h = omega arith
 
-lesser-right : (a b : ℕ) → b ≤ a → a - (a - b) ≡ b
+lesser-right : (a b : ℕ) → b ≤ a → min a b ≡ b
 lesser-right a b h = omega arith
 
 -- the starts from 2 on are those before s and those from s on
@@ -174,7 +174,7 @@ module _ (u : ℕ → Bool) where
         ∙ first-cut n (s - 2) (end + 1 - (n + s)) 2 (ap (firstRun u n (end + 1 - (n + s))) (starts-from s l) ∙ e))
 
     -- no run starts at or after s: the search of the whole may end where one that starts before s does
-    pub run-before : (s : ℕ) → 2 ≤ s → 1 ≤ n → runFrom u end n s ≡ Nothing → runFrom u (end - (end - (s + n - 1))) n 2 ≡ runFrom u end n 2
+    pub run-before : (s : ℕ) → 2 ≤ s → 1 ≤ n → runFrom u end n s ≡ Nothing → runFrom u (min end (s + n - 1)) n 2 ≡ runFrom u end n 2
     run-before s l h e =
         elim (decLt end (s + n - 1)) [
           | yes w ↦ ap (λ (x : ℕ). runFrom u x n 2) (lesser-left end (s + n - 1) (omega arith))

@@ -33,7 +33,7 @@ use Rattle.stream.proofs.StreamLaws.{along-step, along-head, along-rest
 -- ---- parts of lists
 
 -- a number cut to the length of the list takes and drops the same
-pub take-lesser : (a : ℕ) (s : List ℕ) (m : ℕ) → m ≡ a - (a - length s) → (take a s ≡ take m s) × (drop a s ≡ drop m s)
+pub take-lesser : (a : ℕ) (s : List ℕ) (m : ℕ) → m ≡ min a (length s) → (take a s ≡ take m s) × (drop a s ≡ drop m s)
 take-lesser a s m e =
     elim (decLe a (length s)) [
       | yes h ↦ let q : a ≡ m = omega arith in (ap (λ (n : ℕ). take n s) q, ap (λ (n : ℕ). drop n s) q)
@@ -299,7 +299,7 @@ module _ (y : Layout) (d : List ℕ) (w : Fits y d) (run : Bool) (k n : ℕ) (so
   heap-turn bs f =
       ap (every (inHeap (y .count))) (sym (turn-along bs f)) ∙ along-rest (inHeap (y .count)) (fatEntry y d) run k n some h
 
-  store-turn : (bs : List ℕ) (m : ℕ) → m ≡ y .size - at - (y .size - at - length bs)
+  store-turn : (bs : List ℕ) (m : ℕ) → m ≡ min (y .size - at) (length bs)
       → storeAt y d (along (fatEntry y d) run k n) at bs
       ≡ storeAt y (putBytes y d k at (take m bs)) (along (fatEntry y (putBytes y d k at (take m bs))) run (after (fatEntry y d) run k) (n - 1)) 0 (drop m bs)
   store-turn bs m e =
@@ -311,7 +311,7 @@ module _ (y : Layout) (d : List ℕ) (w : Fits y d) (run : Bool) (k n : ℕ) (so
       ∙ ap (λ (ks : List ℕ). storeAt y (putBytes y d k at (take m bs)) ks 0 (drop m bs)) (turn-along (take m bs) (omega arith))
 
   -- the same where the next volume and cluster have other names
-  pub store-next : (bs d′ : List ℕ) (m next : ℕ) → m ≡ y .size - at - (y .size - at - length bs) → d′ ≡ putBytes y d k at (take m bs)
+  pub store-next : (bs d′ : List ℕ) (m next : ℕ) → m ≡ min (y .size - at) (length bs) → d′ ≡ putBytes y d k at (take m bs)
       → next ≡ after (fatEntry y d) run k
       → (every (inHeap (y .count)) (along (fatEntry y d′) run next (n - 1)) ≡ true)
       × (storeAt y d′ (along (fatEntry y d′) run next (n - 1)) 0 (drop m bs) ≡ storeAt y d (along (fatEntry y d) run k n) at bs)
@@ -356,7 +356,7 @@ module _ (y : Layout) (d : List ℕ) (l : Laid y) (long : length d ≡ y .len) w
 
   -- a turn of a loop that reads
   module _ (fat : ℕ → ℕ) (run : Bool) (k n : ℕ) (some : 0 < n) (h : every (inHeap (y .count)) (along fat run k n) ≡ true) (at : ℕ) (low : at < y .size) where
-    read-turn : (m r : ℕ) → r ≡ y .size - at - (y .size - at - m)
+    read-turn : (m r : ℕ) → r ≡ min (y .size - at) m
         → take m (drop at (bytesOf y d (along fat run k n)))
         ≡ take r (drop at (clusterBytes y d k)) ++ take (m - r) (drop 0 (bytesOf y d (along fat run (after fat run k) (n - 1))))
     read-turn m r e =
@@ -368,7 +368,7 @@ module _ (y : Layout) (d : List ℕ) (l : Laid y) (long : length d ≡ y .len) w
         ∙ take-two m (drop at c) t r (omega (arith, length-drop at c))
 
     -- the same with the piece in place, where the next list and cluster have other names
-    pub read-next : (dst dst′ : List ℕ) (to m r next : ℕ) → r ≡ y .size - at - (y .size - at - m) → to + m ≤ length dst
+    pub read-next : (dst dst′ : List ℕ) (to m r next : ℕ) → r ≡ min (y .size - at) m → to + m ≤ length dst
         → dst′ ≡ splice dst to (take r (drop at (clusterBytes y d k))) → next ≡ after fat run k
         → (every (inHeap (y .count)) (along fat run next (n - 1)) ≡ true)
         × (splice dst′ (to + r) (take (m - r) (drop 0 (bytesOf y d (along fat run next (n - 1)))))

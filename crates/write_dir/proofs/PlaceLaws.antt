@@ -1,7 +1,7 @@
 -- A set stored at a spot. Assumes nothing.
 use mathlib.Core.Path.{_≡_, refl, sym, _∙_, ap, ap₂}
 use mathlib.Core.List.{List, [], _∷_}
-use Prim.Native.Nat.{ℕ, _+_, _-_, _*_, _≤_, _<_}
+use Prim.Native.Nat.{ℕ, _+_, _-_, _*_, _≤_, _<_, min}
 use native.Mathlib.Omega.{arith}
 use lib.ListN.{length, take, drop, length-drop}
 use lib.Seq.{length-take-le, take-take, drop-drop}
@@ -18,13 +18,13 @@ unfolding putBytes
 put-none y d k at s = splice-none d _ 0 s (omega arith)
 
 -- parts of x bytes, each no more than is left
-lesser-low : (a n r : ℕ) → r ≡ a - (a - n) → r ≤ n
+lesser-low : (a n r : ℕ) → r ≡ min a n → r ≤ n
 lesser-low a n r e = omega arith
 
 parts-room : (x one two l : ℕ) → one ≤ x → two ≤ x - one → x ≤ l → (one + (x - one) ≤ l) × (one + two + (x - one - two) ≤ l)
 parts-room x one two l a b h = (omega arith, omega arith)
 
-part-full : (x n r : ℕ) → r ≡ x - (x - n) → 0 < n - r → r ≡ x
+part-full : (x n r : ℕ) → r ≡ min x n → 0 < n - r → r ≡ x
 part-full x n r e h = omega arith
 
 part-first : (size at x one : ℕ) → one ≡ size - at → at < size → 0 < x - one → size < at + x
@@ -37,8 +37,8 @@ part-before : (x one two : ℕ) → 0 < x - one - two → 0 < x - one
 part-before x one two h = omega arith
 
 -- the parts of n entries in a first and a second cluster
-pub parts-reach : (size at n one two : ℕ) → at < size → one ≡ size - at - (size - at - 32 * n)
-    → two ≡ size - 0 - (size - 0 - (32 * n - one))
+pub parts-reach : (size at n one two : ℕ) → at < size → one ≡ min (size - at) (32 * n)
+    → two ≡ min (size - 0) (32 * n - one)
     → (one ≤ 32 * n) × (two ≤ 32 * n - one) × (0 < 32 * n - one → size < at + 32 * n) × (0 < 32 * n - one - two → 2 * size < at + 32 * n)
 parts-reach size at n one two i p q = (
   lesser-low (size - at) (32 * n) one p,
@@ -51,8 +51,8 @@ parts-sum : (x one two : ℕ) → one ≤ x → two ≤ x - one → one + two �
 parts-sum x one two a b = omega arith
 
 -- and they lie in the set
-pub parts-fit : (size at n one two l : ℕ) → n ≤ 19 → l ≡ 608 → one ≡ size - at - (size - at - 32 * n)
-    → two ≡ size - 0 - (size - 0 - (32 * n - one))
+pub parts-fit : (size at n one two l : ℕ) → n ≤ 19 → l ≡ 608 → one ≡ min (size - at) (32 * n)
+    → two ≡ min (size - 0) (32 * n - one)
     → (one + (32 * n - one) ≤ l) × (one + two + (32 * n - one - two) ≤ l) × (one + two ≤ 608)
 parts-fit size at n one two l f e p q =
     let a = lesser-low (size - at) (32 * n) one p in
@@ -63,7 +63,7 @@ parts-fit size at n one two l f e p q =
 module _ (y : Layout) where
   -- one cluster of a store
   store-part : (d : List ℕ) (k : ℕ) (ks : List ℕ) (at : ℕ) (s : List ℕ) (from n r next : ℕ) → at < y .size → from + n ≤ length s
-      → r ≡ y .size - at - (y .size - at - n) → from + r ≡ next
+      → r ≡ min (y .size - at) n → from + r ≡ next
       → storeAt y d (k ∷ ks) at (take n (drop from s)) ≡ storeAt y (putBytes y d k at (take r (drop from s))) ks 0 (take (n - r) (drop next s))
   store-part d k ks at s from n r next low f e i =
       let bs = take n (drop from s) in
@@ -76,9 +76,9 @@ module _ (y : Layout) where
 
   -- one cluster after the other
   pub store-spot : (d d₁ d₂ d₃ : List ℕ) (spot : Spot) (s : List ℕ) (n one two three : ℕ) → Laid y → Reaches y spot n → length s ≡ 608
-      → one ≡ y .size - spot .at - (y .size - spot .at - 32 * n)
-      → two ≡ y .size - 0 - (y .size - 0 - (32 * n - one))
-      → three ≡ y .size - 0 - (y .size - 0 - (32 * n - one - two))
+      → one ≡ min (y .size - spot .at) (32 * n)
+      → two ≡ min (y .size - 0) (32 * n - one)
+      → three ≡ min (y .size - 0) (32 * n - one - two)
       → d₁ ≡ putBytes y d (spot .first) (spot .at) (take one (drop 0 s))
       → d₂ ≡ putBytes y d₁ (spot .second) 0 (take two (drop one s))
       → d₃ ≡ putBytes y d₂ (spot .third) 0 (take three (drop (one + two) s))

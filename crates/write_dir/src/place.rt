@@ -1,7 +1,7 @@
 // A set stored where it stands in a directory, and clusters added to a directory (Rust: `insert`, `grow`).
 ghost use mathlib.Core.Path.{_≡_};
 ghost use mathlib.Core.Bool.{true};
-ghost use Prim.Native.Nat.{_+_, _-_, _*_, _≤_, _<_};
+ghost use Prim.Native.Nat.{_+_, _-_, _*_, _≤_, _<_, min};
 ghost use lib.ListN.{length, take, drop};
 ghost use Rattle.boot.specs.Internal.{Laid, Apart};
 ghost use Rattle.boot.specs.Layout.{inHeap};
@@ -31,7 +31,7 @@ fn put_part(
     n: usize,
 ) -> usize
     requires { ⌜ Laid y × ((length (now vol) ≡ y .len) × ((at < y .size) × ((from + n ≤ length (now src)) × (0 < n → inHeap (y .count) k ≡ true)))) ⌝ }
-    ensures { λ r. ⌜ (r ≡ y .size - at - (y .size - at - n)) × (now (vol .exit) ≡ putBytes y (now (vol .entry)) k at (take r (drop from (now (src .entry))))) ⌝ }
+    ensures { λ r. ⌜ (r ≡ min (y .size - at) n) × (now (vol .exit) ≡ putBytes y (now (vol .entry)) k at (take r (drop from (now (src .entry))))) ⌝ }
 {
     if n == 0 {
         return 0;
