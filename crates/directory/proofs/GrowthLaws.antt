@@ -17,9 +17,9 @@ use Rattle.entry_set.proofs.LengthLaws.{clusters-hold, clusters-below}
 use Rattle.entry_set.specs.Sound.{wellFormed}
 use Rattle.search.specs.declared.found.Found.{Found}
 use Rattle.search.specs.declared.found.Found.the-variants.{At, Nothing}
-use Rattle.search.specs.Search.{allFrom, runFrom, fewest}
+use Rattle.search.specs.Search.{allFrom, runFrom}
 use Rattle.search.proofs.Runs.{run-hit}
-use Rattle.search.proofs.Lowest.{Whole, Lowest, all-whole, whole-all, all-cong, run-at, run-nothing, run-cong}
+use Rattle.search.proofs.Lowest.{Whole, Lowest, all-whole, whole-all, all-cong, run-at, run-nothing, run-cong, fewest-is}
 use Rattle.directory.specs.Entries.{entryCount, typeAt, inUse, beforeEnd, isFile, entriesAt, setAt}
 use Rattle.directory.specs.Internal.{sets}
 use Rattle.directory.specs.Room.{Row, freeRun, isAt, slotOf, withZeros, growth}
@@ -151,16 +151,6 @@ module _ (u : ℕ → Bool) (end n : ℕ) where
       by Nothing e = absurd (run-nothing u end n 0 e b (omega arith) h w)
       by (At a) e = e
 
--- the least number that a test takes
-fewest-is : (p : ℕ → Bool) (n g m : ℕ) → g ≤ m → m ≤ g + n → p m ≡ true → ((h : ℕ) → g ≤ h → h < m → p h ≡ false) → fewest p n g ≡ m
-unfolding fewest
-fewest-is p zero g m a b t f = omega arith
-fewest-is p (suc n) g m a b t f =
-    elim (decLt g m) [
-      | yes l ↦ rw (f g (omega arith) l) (fewest-is p n (g + 1) m (omega arith) (omega arith) t (λ h c d. f h (omega arith) d))
-      | no l ↦ (let e : g ≡ m = omega arith in let q : p g ≡ true = ap p e ∙ t in rw q e)
-    ]
-
 -- ---- where the lowest n entries not in use stand, if zeros follow
 
 module _ (bs : List ℕ) (n : ℕ) (whole : length bs ≡ 32 * entryCount bs) where
@@ -251,7 +241,7 @@ module _ (bs : List ℕ) (n : ℕ) (whole : length bs ≡ 32 * entryCount bs) wh
       pub growth-is : growth size bs n ≡ clustersFor size (32 * (base + n - entryCount bs))
       unfolding growth isAt
       growth-is =
-          fewest-is (λ g. isAt (freeRun (withZeros bs (g * size)) n)) n 0 needed (omega arith) (omega (arith, few)) (ap isAt needed-at)
+          fewest-is (λ g. isAt (freeRun (withZeros bs (g * size)) n)) n 0 needed (omega arith) (omega (arith, few)) (λ _. ap isAt needed-at)
           (λ g a l. ap isAt (less-none g l))
 
       pub grown-at : freeRun (withZeros bs (growth size bs n * size)) n ≡ At base

@@ -1,6 +1,6 @@
 pub mod Stores
 pub mod Frame
-pub mod FullLaws
+pub mod UnmarkedLaws
 pub mod WindowLaws
 pub mod RowLaws
 pub mod View

@@ -12,8 +12,7 @@ use Rattle.primitives.proofs.Every.{at}
 use Rattle.boot.specs.declared.layout.Layout.{Layout}
 use Rattle.boot.specs.Geometry.{bitmapBytes}
 use Rattle.boot.proofs.Apart.{bitmap-bitmap}
-use Rattle.metadata.specs.Marks.{markByte, putByte, setMark}
-use Rattle.metadata.specs.Internal.{markRow}
+use Rattle.metadata.specs.Marks.{markByte, putByte, setMark, markRun}
 use Rattle.metadata.proofs.Stores.{byte-two, byte-one}
 use Rattle.metadata.proofs.Frame.{Fits, by-two, byte-active, fits-kept, length-byte}
 
@@ -47,11 +46,11 @@ module _ (y : Layout) (d : List ℕ) (w : Fits y d) (i : ℕ) (h : i < bitmapByt
       let p : (k - 2) % 8 ≡ r = omega arith in
       rw (q, p, byte-active y d w i b h) (byte-again b (setBit b r))
 
-  row-bits : (m k r b : ℕ) → k ≡ 2 + 8 * i + r → r + m ≤ 8 → markRow y (putByte y d i b) k m ≡ putByte y d i (setBits b r m)
-  unfolding markRow setBits
+  row-bits : (m k r b : ℕ) → k ≡ 2 + 8 * i + r → r + m ≤ 8 → markRun y (putByte y d i b) k m ≡ putByte y d i (setBits b r m)
+  unfolding markRun setBits
   row-bits zero k r b e t = refl
   row-bits (suc m) k r b e t =
-      ap (λ (l : List ℕ). markRow y l (k + 1) m) (mark-again k r b e (omega arith)) ∙ row-bits m (k + 1) (r + 1) (setBit b r) (omega arith) (omega arith)
+      ap (λ (l : List ℕ). markRun y l (k + 1) m) (mark-again k r b e (omega arith)) ∙ row-bits m (k + 1) (r + 1) (setBit b r) (omega arith) (omega arith)
 
   first-mark : (k : ℕ) → k ≡ 2 + 8 * i → setMark y d k true ≡ putByte y d i (setBit (markByte y d k) 0)
   unfolding setMark putBit
@@ -60,20 +59,20 @@ module _ (y : Layout) (d : List ℕ) (w : Fits y d) (i : ℕ) (h : i < bitmapByt
       let p : (k - 2) % 8 ≡ 0 = omega arith in
       rw (q, p) refl
 
-  row-eight : (k : ℕ) → k ≡ 2 + 8 * i → markByte y d k < 256 → markRow y d k 8 ≡ putByte y d i 255
-  unfolding markRow setBits
+  row-eight : (k : ℕ) → k ≡ 2 + 8 * i → markByte y d k < 256 → markRun y d k 8 ≡ putByte y d i 255
+  unfolding markRun setBits
   row-eight k e t =
-      ap (λ (l : List ℕ). markRow y l (k + 1) 7) (first-mark k e)
+      ap (λ (l : List ℕ). markRun y l (k + 1) 7) (first-mark k e)
       ∙ row-bits 7 (k + 1) 1 (setBit (markByte y d k) 0) (omega arith) (omega arith) ∙ ap (putByte y d i) (bits-eight (markByte y d k) t)
 
 -- the eight clusters from k, the first one of its byte
 pub row-byte : (y : Layout) (d : List ℕ) (k : ℕ) → Fits y d → 2 ≤ k → k + 8 ≤ y .count + 2 → (k - 2) % 8 ≡ 0 → markByte y d k < 256
-    → putByte y d ((k - 2) / 8) 255 ≡ markRow y d k 8
+    → putByte y d ((k - 2) / 8) 255 ≡ markRun y d k 8
 row-byte y d k w l h e t = sym (row-eight y d w ((k - 2) / 8) (omega arith) k (omega arith) t)
 
 -- m of them first
-pub row-append : (y : Layout) (d : List ℕ) (k m n : ℕ) → markRow y d k (m + n) ≡ markRow y (markRow y d k m) (k + m) n
-unfolding markRow
+pub row-append : (y : Layout) (d : List ℕ) (k m n : ℕ) → markRun y d k (m + n) ≡ markRun y (markRun y d k m) (k + m) n
+unfolding markRun
 row-append y d k zero n =
     let q : zero + n ≡ n = omega arith in
     let p : k + zero ≡ k = omega arith in
@@ -81,4 +80,4 @@ row-append y d k zero n =
 row-append y d k (suc m) n =
     let q : suc m + n ≡ suc (m + n) = omega arith in
     let p : k + 1 + m ≡ k + suc m = omega arith in
-    rw q (row-append y (setMark y d k true) (k + 1) m n ∙ ap (λ (x : ℕ). markRow y (markRow y (setMark y d k true) (k + 1) m) x n) p)
+    rw q (row-append y (setMark y d k true) (k + 1) m n ∙ ap (λ (x : ℕ). markRun y (markRun y (setMark y d k true) (k + 1) m) x n) p)

@@ -28,7 +28,7 @@ use Rattle.metadata.specs.Internal.{firstBad, noneRefused, byteUnmarked}
 use Rattle.metadata.proofs.Stores.{bad-none, bad-step, bad-hit}
 
 -- a bit of the bitmap's part is the cluster's mark
-bit-mark : (y : Layout) (d : List ℕ) (c k i : ℕ) → i ≡ k - 2 → i < 8 * c → eqb (bitAt (take c (drop (y .bitmap) d)) i) 1 ≡ marked y d k
+pub bit-mark : (y : Layout) (d : List ℕ) (c k i : ℕ) → i ≡ k - 2 → i < 8 * c → eqb (bitAt (take c (drop (y .bitmap) d)) i) 1 ≡ marked y d k
 unfolding bitAt marked markByte
 bit-mark y d c k i e h =
     rw (e, getD-take c (drop (y .bitmap) d) ((k - 2) / 8) 0 (omega arith), getD-drop (y .bitmap) d ((k - 2) / 8) 0) refl

@@ -1,36 +1,28 @@
 -- What only contracts of inner functions, and proofs, speak of: no promise of a public call and no clause of the claim needs it.
-use mathlib.Core.Bool.{Bool, true, cond, not, _&&_}
+use mathlib.Core.Bool.{Bool, cond, not, _&&_}
 use mathlib.Core.List.{List}
 use Prim.Native.Nat.{ℕ, _+_, _*_, _-_, _%_, zero, suc}
 use lib.Dec.{eqb}
-use lib.ListN.{drop}
 use Rattle.primitives.specs.Words.{getLe}
 use Rattle.boot.specs.declared.layout.Layout.{Layout}
-use Rattle.primitives.specs.Internal.{pastBytes}
 use Rattle.search.specs.declared.found.Found.{Found}
 use Rattle.search.specs.declared.found.Found.the-variants.{At, Nothing}
-use Rattle.search.specs.Search.{allFrom}
+use Rattle.search.specs.Search.{allFrom, fewest}
 use Rattle.boot.specs.Limits.{inMap}
 use Rattle.metadata.specs.Fat.{BAD, fatEntry}
-use Rattle.metadata.specs.Marks.{markByte, setMark}
+use Rattle.metadata.specs.Marks.{markByte, marked}
 
 -- entry k of a FAT's bytes
 unfoldable pub entryOf : List ℕ → ℕ → ℕ
 entryOf l k = getLe 4 l (4 * k)
 
--- where k is the first cluster of its byte, the first of the n clusters from k whose byte has an unmarked cluster, k + n where
--- there is none; else k
-unfoldable pub pastFull : (y : Layout) (d : List ℕ) (k n : ℕ) → ℕ
-pastFull y d k n = cond (eqb ((k - 2) % 8) 0) (pastBytes (drop (y .bitmap) d) 255 (k - 2) n + 2) k
+-- the first of the n clusters from k that is not marked; k + n where there is none
+unfoldable pub firstUnmarked : (y : Layout) (d : List ℕ) (k n : ℕ) → ℕ
+firstUnmarked y d k n = fewest (λ j. not (marked y d j)) n k
 
 -- cluster k is the last one of its byte, and the byte marks none
 unfoldable pub byteUnmarked : (y : Layout) (d : List ℕ) (k : ℕ) → Bool
 byteUnmarked y d k = eqb ((k - 2) % 8) 7 && eqb (markByte y d k) 0
-
--- the volume with the n clusters from k marked, one after the other
-unfoldable pub markRow : (y : Layout) (d : List ℕ) (k n : ℕ) → List ℕ
-markRow y d k zero = d
-markRow y d k (suc n) = markRow y (setMark y d k true) (k + 1) n
 
 -- the first of the n clusters from k whose FAT entry is bad
 unfoldable pub firstBad : (ℕ → ℕ) → ℕ → ℕ → Found

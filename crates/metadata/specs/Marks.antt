@@ -1,7 +1,7 @@
 -- Marks of clusters in the allocation bitmap (exFAT specification, 7.1).
-use mathlib.Core.Bool.{Bool, cond}
+use mathlib.Core.Bool.{Bool, true, cond}
 use mathlib.Core.List.{List}
-use Prim.Native.Nat.{ℕ, _+_, _-_, _/_, _%_}
+use Prim.Native.Nat.{ℕ, zero, suc, _+_, _-_, _/_, _%_}
 use lib.Dec.{eqb}
 use lib.ListN.{getD, set, drop}
 use Rattle.primitives.specs.Bits.{bitOf, putBit, countBits}
@@ -24,6 +24,11 @@ putByte y d i b =
 -- the volume with cluster k marked or unmarked: every bitmap takes the changed byte of the active one, whole
 unfoldable pub setMark : Layout → List ℕ → ℕ → Bool → List ℕ
 setMark y d k on = putByte y d ((k - 2) / 8) (putBit (markByte y d k) ((k - 2) % 8) on)
+
+-- the n clusters from k marked
+unfoldable pub markRun : (y : Layout) (d : List ℕ) (k n : ℕ) → List ℕ
+markRun y d k zero = d
+markRun y d k (suc n) = markRun y (setMark y d k true) (k + 1) n
 
 -- the ones in the first C bits of the active FAT's bitmap
 unfoldable pub allocatedCount : Layout → List ℕ → ℕ

@@ -6,8 +6,8 @@ ghost use lib.ListN.{length};
 ghost use Rattle.boot.specs.Geometry.{bitmapBytes};
 ghost use Rattle.boot.specs.Internal.{Laid, Apart};
 ghost use Rattle.search.specs.Search.{allFrom};
-ghost use Rattle.metadata.specs.Marks.{marked, putByte, setMark, allocatedCount, freeCount};
-ghost use Rattle.metadata.specs.Internal.{pastFull, byteUnmarked, markRow};
+ghost use Rattle.metadata.specs.Marks.{marked, putByte, setMark, markRun, allocatedCount, freeCount};
+ghost use Rattle.metadata.specs.Internal.{firstUnmarked, byteUnmarked};
 use boot::layout::Layout;
 
 // Whether cluster k is marked.
@@ -46,7 +46,7 @@ pub fn mark(vol: &mut [u8], y: Layout, k: u32, on: bool)
 // Marks the eight clusters from k, the first one of its byte: every bitmap takes the byte 0xFF.
 pub fn mark_byte(vol: &mut [u8], y: Layout, k: u32)
     requires { ⌜ Laid y × ((length (now vol) ≡ y .len) × ((2 ≤ k) × ((k + 8 ≤ y .count + 2) × (((k - 2) % 8 ≡ 0) × Apart y)))) ⌝ }
-    ensures { λ _. ⌜ now (vol .exit) ≡ markRow y (now (vol .entry)) k 8 ⌝ }
+    ensures { λ _. ⌜ now (vol .exit) ≡ markRun y (now (vol .entry)) k 8 ⌝ }
 {
     let i = ((k - 2) / 8) as usize;
     put_byte(vol, y, i, 0xFF);
@@ -70,17 +70,14 @@ pub fn free_count(vol: &[u8], y: Layout) -> u32
     y.count - allocated_count(vol, y)
 }
 
-// The first of the n clusters from k whose byte of the active FAT's bitmap is not 0xFF, k + n where there is none; k itself inside a byte.
-pub fn past_full(vol: &[u8], y: Layout, k: u32, n: u32) -> u32
+// The first of the n clusters from k that is not marked; k + n where there is none. Bytes of marks alone are passed at once.
+pub fn first_unmarked(vol: &[u8], y: Layout, k: u32, n: u32) -> u32
     requires { ⌜ Laid y × ((length (now vol) ≡ y .len) × ((2 ≤ k) × (k + n ≤ y .count + 2))) ⌝ }
-    ensures { λ r. ⌜ (r ≡ pastFull y (now (vol .entry)) k n) × ((k ≤ r) × (r ≤ k + n)) ⌝ }
+    ensures { λ r. ⌜ (r ≡ firstUnmarked y (now (vol .entry)) k n) × ((k ≤ r) × (r ≤ k + n)) ⌝ }
 {
-    if (k - 2) % 8 != 0 {
-        return k;
-    }
     let a = y.bitmap;
     let e = a + ((y.count + 7) / 8) as usize;
-    primitives::bits::past_bytes(&vol[a..e], 0xFF, k - 2, n) + 2
+    primitives::bits::first_clear(&vol[a..e], k - 2, n) + 2
 }
 
 // Whether none of the n clusters from first is marked. Bytes of none marked are passed at once.

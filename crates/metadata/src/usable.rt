@@ -5,7 +5,7 @@ ghost use lib.ListN.{length};
 ghost use Rattle.boot.specs.Internal.{Laid};
 ghost use Rattle.metadata.specs.Fat.{fatEntry};
 ghost use Rattle.metadata.specs.Internal.{entryOf, firstBad, noneRefused};
-ghost use Rattle.search.specs.Search.{allFrom};
+ghost use Rattle.search.specs.Search.{allFrom, fewest};
 ghost use Rattle.metadata.specs.Usable.{isFree, isUsable};
 use boot::layout::Layout;
 use search::found::Found;
@@ -70,6 +70,26 @@ pub fn usable(vol: &[u8], map: &[u8], y: Layout, k: u32) -> bool
         }
     }
     false
+}
+
+// The first of the n clusters from k that may be taken; k + n where there is none.
+pub fn next_usable(vol: &[u8], map: &[u8], y: Layout, k: u32, n: u32) -> u32
+    requires { ⌜ Laid y × ((length (now vol) ≡ y .len) × ((y .count ≤ 8 * length (now map)) × ((2 ≤ k) × (k + n ≤ y .count + 2)))) ⌝ }
+    ensures { λ r. ⌜ (r ≡ fewest (isUsable y (now (vol .entry)) (now (map .entry))) n k) × ((k ≤ r) × (r ≤ k + n)) ⌝ }
+{
+    let end = k + n;
+    let mut at = k;
+    while at < end {
+        let free = crate::bitmap::first_unmarked(vol, y, at, end - at);
+        if free == end {
+            return end;
+        }
+        if usable(vol, map, y, free) {
+            return free;
+        }
+        at = free + 1;
+    }
+    end
 }
 
 // Whether none of the n clusters from first is in the system map or bad.

@@ -7,11 +7,10 @@ use native.Mathlib.Decide.{decLt, ℕ-discrete}
 use native.Mathlib.Numerals.{add-one}
 use native.Mathlib.Omega.{arith}
 use lib.Dec.{eqb, ltb, eqb→eq}
-use lib.ListN.{getD, take}
-use lib.Seq.{getD-take}
+use lib.ListN.{getD}
 use borrow.Author.Tests.{eq-eqb, ne-eqb, lt-ltb, le-ltb}
 use Rattle.primitives.specs.Bits.{bitOf, bitAt}
-use Rattle.primitives.specs.Internal.{sameBytes, pastBytes, clearFrom}
+use Rattle.primitives.specs.Internal.{sameBytes, pastBytes, clearFrom, firstClear}
 use Rattle.primitives.proofs.Every.{at}
 
 module _ (l : List ℕ) (b : ℕ) where
@@ -128,12 +127,6 @@ module _ (l : List ℕ) (b : ℕ) where
         | no e ↦ absurd (omega (arith, past-stop k (suc n) (omega arith) e))
       ]
 
--- only the bytes of the numbers matter
-pub past-take : (l : List ℕ) (m b k n : ℕ) → k + n ≤ 8 * m → pastBytes (take m l) b k n ≡ pastBytes l b k n
-unfolding pastBytes
-past-take l m b k zero h = refl
-past-take l m b k (suc n) h = rw (getD-take m l (k / 8) 0 (omega arith), past-take l m b (k + 1) n (omega arith)) refl
-
 -- each bit of 255 is set
 pub full-byte : (j : ℕ) → j < 8 → bitOf 255 j ≡ 1
 unfolding bitOf
@@ -203,3 +196,60 @@ module _ (l : List ℕ) where
       let q : k + suc n ≡ k + 1 + n = omega arith in
       ap (λ b. b && not (eqb (bitAt l (k + suc n)) 1)) (clear-first k n)
       ∙ rw q (and-assoc (not (eqb (bitAt l k) 1)) (clearFrom l (k + 1) n) (not (eqb (bitAt l (k + 1 + n)) 1)))
+
+  -- ---- the first bit that is not set
+
+  -- a bit of a byte that is 255 is set
+  pub set-bit : (j : ℕ) → getD l (j / 8) 0 ≡ 255 → eqb (bitAt l j) 1 ≡ true
+  unfolding bitAt
+  set-bit j e = rw (e, full-byte (j % 8) (omega arith)) refl
+
+  pub first-none : (k n : ℕ) → n ≤ 0 → firstClear l k n ≡ k
+  unfolding firstClear
+  first-none k zero h = refl
+  first-none k (suc n) h = absurd (omega arith)
+
+  pub first-stop : (k n : ℕ) → 0 < n → eqb (bitAt l k) 1 ≡ false → firstClear l k n ≡ k
+  unfolding firstClear
+  first-stop k zero h e = absurd (omega arith)
+  first-stop k (suc n) h e = rw e refl
+
+  first-step : (k n : ℕ) → eqb (bitAt l k) 1 ≡ true → firstClear l k (suc n) ≡ firstClear l (k + 1) n
+  unfolding firstClear
+  first-step k n e = rw e refl
+
+  -- bits that are set are passed
+  pub first-past : (m k next end : ℕ) → next ≡ k + m → next ≤ end → ((j : ℕ) → k ≤ j → j < next → eqb (bitAt l j) 1 ≡ true)
+      → firstClear l next (end - next) ≡ firstClear l k (end - k)
+  first-past zero k next end e h f = let q : next ≡ k = omega arith in rw q refl
+  first-past (suc m) k next end e h f =
+      let q : end - k ≡ suc (end - (k + 1)) = omega arith in
+      first-past m (k + 1) next end (omega arith) h (λ j a b. f j (omega arith) b)
+      ∙ sym (ap (firstClear l k) q ∙ first-step k (end - (k + 1)) (f k (omega arith) (omega arith)))
+
+  -- a bit that is set, and the bytes of 255 after it
+  pub first-full : (at n next end : ℕ) → eqb (bitAt l at) 1 ≡ true → next ≡ pastBytes l 255 (at + 1) n → at + 1 + n ≤ end
+      → firstClear l next (end - next) ≡ firstClear l at (end - at)
+  first-full at n next end e q h =
+      let r = past-bounds l 255 (at + 1) n in
+      first-past (next - at) at next end (omega arith) (omega arith)
+      (λ j a b. elim (ℕ-discrete j at) [
+        | yes s ↦ ap (λ (x : ℕ). eqb (bitAt l x) 1) s ∙ e
+        | no s ↦ set-bit j (past-each l 255 (at + 1) n j (omega arith) (omega arith))
+      ])
+
+  pub first-next : (at end : ℕ) → eqb (bitAt l at) 1 ≡ true → at < end → firstClear l (at + 1) (end - (at + 1)) ≡ firstClear l at (end - at)
+  first-next at end e h =
+      first-past 1 at (at + 1) end refl (omega arith)
+      (λ j a b. let q : j ≡ at = omega arith in ap (λ (x : ℕ). eqb (bitAt l x) 1) q ∙ e)
+
+  pub first-bounds : (k n r : ℕ) → r ≡ firstClear l k n → (r ≡ firstClear l k n) × ((k ≤ r) × (r ≤ k + n))
+  first-bounds k n r e = let t = bounds k n in (e, (omega arith, omega arith))
+    where
+      bounds : (k n : ℕ) → (k ≤ firstClear l k n) × (firstClear l k n ≤ k + n)
+      bounds k zero = omega (arith, first-none k 0 (omega arith))
+      bounds k (suc n) =
+          elim (ℕ-discrete (bitAt l k) 1) [
+            | yes e ↦ omega (arith, first-step k n (eq-eqb (bitAt l k) 1 e), bounds (k + 1) n)
+            | no e ↦ omega (arith, first-stop k (suc n) (omega arith) (ne-eqb (bitAt l k) 1 e))
+          ]

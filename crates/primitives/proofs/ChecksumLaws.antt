@@ -10,8 +10,8 @@ use native.Mathlib.Omega.{arith}
 use borrow.Author.Tests.{eq-eqb, ne-eqb}
 use lib.Dec.{eqb}
 use lib.ListN.{length, getD}
-use Rattle.primitives.specs.Checksum.{checksum, checksumStep, rotateRight}
-use Rattle.primitives.specs.Internal.{addByte, addBytes}
+use Rattle.primitives.specs.Checksum.{addByte, checksum, checksumStep}
+use Rattle.primitives.specs.Internal.{addBytes}
 use Rattle.primitives.specs.Words.{getLe, putLe}
 use Rattle.primitives.proofs.Cases.{eq-or-ne}
 use Rattle.primitives.proofs.WordLaws.{get-put, put-below, put-above}
@@ -28,14 +28,14 @@ module _ (l : List ℕ) where
   bytes-next i sum n = rw add-one refl
 
   pub checksum-start : (n : ℕ) → n < 3 → checksum l n ≡ addBytes l 0 0 n
-  unfolding checksum addBytes addByte
+  unfolding checksum addBytes
   checksum-start zero h = refl
   checksum-start (suc zero) h = refl
   checksum-start (suc (suc zero)) h = refl
   checksum-start (suc (suc (suc n))) h = absurd (omega arith)
 
   pub checksum-gap : (n : ℕ) → 2 ≤ n → n < 5 → checksum l n ≡ addBytes l 0 0 2
-  unfolding checksum addBytes addByte
+  unfolding checksum addBytes
   checksum-gap zero h t = absurd (omega arith)
   checksum-gap (suc zero) h t = absurd (omega arith)
   checksum-gap (suc (suc zero)) h t = refl
@@ -44,7 +44,7 @@ module _ (l : List ℕ) where
   checksum-gap (suc (suc (suc (suc (suc n))))) h t = absurd (omega arith)
 
   checksum-on : (k : ℕ) → 4 ≤ k → checksum l (suc k) ≡ addByte (checksum l k) (getD l k 0)
-  unfolding checksum addByte
+  unfolding checksum
   checksum-on k h = simp (ne-eqb k 2 (omega arith), ne-eqb k 3 (omega arith))
 
   pub checksum-rest : (n : ℕ) → checksum l (n + 4) ≡ addBytes l 4 (addBytes l 0 0 2) n
@@ -60,7 +60,7 @@ cond-lt true ha hb = ha
 cond-lt false ha hb = hb
 
 pub checksum-lt : (l : List ℕ) (n : ℕ) → checksum l n < 65536
-unfolding checksum
+unfolding checksum addByte
 checksum-lt l zero = omega arith
 checksum-lt l (suc n) = cond-lt (eqb n 2) (checksum-lt l n) (cond-lt (eqb n 3) (checksum-lt l n) (omega arith))
 

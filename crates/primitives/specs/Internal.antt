@@ -1,11 +1,11 @@
 -- What only contracts of inner functions, and proofs, speak of: no promise of a public call and no clause of the claim needs it.
 use mathlib.Core.Bool.{Bool, true, cond, not, _&&_}
 use mathlib.Core.List.{List}
-use Prim.Native.Nat.{ℕ, zero, suc, _+_, _/_, _%_, _^_}
+use Prim.Native.Nat.{ℕ, zero, suc, _+_, _/_}
 use lib.Dec.{eqb}
 use lib.ListN.{getD}
 use Rattle.primitives.specs.Bits.{bitAt}
-use Rattle.primitives.specs.Checksum.{rotateRight}
+use Rattle.primitives.specs.Checksum.{addByte}
 
 -- the n bytes of a list from i on are all b
 unfoldable pub sameBytes : List ℕ → ℕ → ℕ → ℕ → Bool
@@ -22,11 +22,12 @@ unfoldable pub clearFrom : List ℕ → ℕ → ℕ → Bool
 clearFrom l k zero = true
 clearFrom l k (suc n) = clearFrom l k n && not (eqb (bitAt l (k + n)) 1)
 
--- a checksum's sum after byte b
-unfoldable pub addByte : (sum b : ℕ) → ℕ
-addByte sum b = (rotateRight sum + b) % 2 ^ 16
+-- the first of the n bits of a bitmap from k on that is not set; k + n where there is none
+unfoldable pub firstClear : (l : List ℕ) (k n : ℕ) → ℕ
+firstClear l k zero = k
+firstClear l k (suc n) = cond (eqb (bitAt l k) 1) (firstClear l (k + 1) n) k
 
--- the sum after the n bytes of a list from i on
+-- a checksum's sum after the n bytes of a list from i on
 unfoldable pub addBytes : (l : List ℕ) (i sum n : ℕ) → ℕ
 addBytes l i sum zero = sum
 addBytes l i sum (suc n) = addByte (addBytes l i sum n) (getD l (i + n) 0)

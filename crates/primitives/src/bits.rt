@@ -5,7 +5,7 @@ ghost use Prim.Native.Nat.{_+_, _*_, _≤_, _<_};
 ghost use lib.Dec.{eqb};
 ghost use lib.ListN.{length};
 ghost use Rattle.primitives.specs.Bits.{bitOf, setBit, clearBit, putBit};
-ghost use Rattle.primitives.specs.Internal.{sameBytes, pastBytes, clearFrom};
+ghost use Rattle.primitives.specs.Internal.{sameBytes, pastBytes, clearFrom, firstClear};
 
 // Whether bit j of b is set.
 pub fn bit_test(b: u8, j: u8) -> bool
@@ -121,4 +121,27 @@ pub fn clear_from(bitmap: &[u8], k: u32, n: u32) -> bool
         }
     }
     true
+}
+
+// The first of the n bits from k that is not set; k + n where there is none. Bytes of 0xFF are passed at once.
+pub fn first_clear(bitmap: &[u8], k: u32, n: u32) -> u32
+    requires { ⌜ (k + n ≤ 65536) × (k + n ≤ 8 * length (now bitmap)) ⌝ }
+    ensures { λ r. ⌜ (r ≡ firstClear (now (bitmap .entry)) k n) × ((k ≤ r) × (r ≤ k + n)) ⌝ }
+{
+    let end = k + n;
+    let mut at = k;
+    while at < end {
+        let b = bitmap[(at / 8) as usize];
+        let next = at + 1;
+        if bit_test(b, (at % 8) as u8) {
+            if next % 8 == 0 {
+                at = past_bytes(bitmap, 0xFF, next, end - next);
+            } else {
+                at = next;
+            }
+        } else {
+            return at;
+        }
+    }
+    end
 }

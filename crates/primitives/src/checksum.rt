@@ -2,8 +2,8 @@
 ghost use mathlib.Core.Path.{_≡_};
 ghost use Prim.Native.Nat.{_+_, _≤_};
 ghost use lib.ListN.{length};
-ghost use Rattle.primitives.specs.Checksum.{rotateRight, checksum};
-ghost use Rattle.primitives.specs.Internal.{addByte, addBytes};
+ghost use Rattle.primitives.specs.Checksum.{rotateRight, addByte, checksum};
+ghost use Rattle.primitives.specs.Internal.{addBytes};
 
 // x rotated right by one bit.
 fn rotate_right_1(x: u16) -> u16

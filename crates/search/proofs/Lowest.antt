@@ -1,13 +1,13 @@
--- The lowest row that passes a test, and that only the numbers looked at matter. Assumes nothing.
-use mathlib.Core.Path.{_≡_, refl, sym, _∙_, subst}
+-- The lowest row that passes a test, the least number that one takes, and that only the numbers looked at matter. Assumes nothing.
+use mathlib.Core.Path.{_≡_, refl, sym, _∙_, ap, subst}
 use mathlib.Core.Logic.{_≢_}
 use mathlib.Core.Bool.{Bool, true, false, false≢true}
 use Prim.Native.Nat.{ℕ, zero, suc, _+_, _-_, _≤_, _<_}
-use native.Mathlib.Decide.{decLt}
+use native.Mathlib.Decide.{decLt, ℕ-discrete}
 use native.Mathlib.Omega.{arith}
 use Rattle.tables.proofs.Cases.{clash, cond-case, and-left, and-right, and-both}
 use Rattle.search.specs.declared.found.Found.the-variants.{At, Nothing}
-use Rattle.search.specs.Search.{allFrom, firstRun, runFrom}
+use Rattle.search.specs.Search.{allFrom, firstRun, runFrom, fewest}
 use Rattle.search.proofs.Runs.{run-none}
 
 -- the n numbers from s all pass
@@ -108,3 +108,40 @@ module _ (u u′ : ℕ → Bool) where
         | yes w ↦ run-none u′ end n s w ∙ sym (run-none u end n s w)
         | no w ↦ unfold runFrom in (first-cong n (end + 1 - (n + s)) s (λ k a b. h k a (omega arith)))
       ]
+
+-- ---- the least number that a test takes
+
+module _ (p : ℕ → Bool) where
+  -- the first that passes, g + n where none of them does
+  pub fewest-is : (n g m : ℕ) → g ≤ m → m ≤ g + n → (m < g + n → p m ≡ true) → ((h : ℕ) → g ≤ h → h < m → p h ≡ false) → fewest p n g ≡ m
+  unfolding fewest
+  fewest-is zero g m a b t f = omega arith
+  fewest-is (suc n) g m a b t f =
+      elim (decLt g m) [
+        | yes l ↦ rw (f g (omega arith) l) (fewest-is n (g + 1) m (omega arith) (omega arith) (λ h. t (omega arith)) (λ h c d. f h (omega arith) d))
+        | no l ↦ (let e : g ≡ m = omega arith in let q : p g ≡ true = ap p e ∙ t (omega arith) in rw q e)
+      ]
+
+  pub fewest-bounds : (n g : ℕ) → (g ≤ fewest p n g) × (fewest p n g ≤ g + n)
+  unfolding fewest
+  fewest-bounds zero g = omega arith
+  fewest-bounds (suc n) g =
+      cond-case (λ x. (g ≤ x) × (x ≤ g + suc n)) (p g) g (fewest p n (g + 1)) (λ e. omega arith) (λ e. omega (arith, fewest-bounds n (g + 1)))
+
+  -- none before it passes
+  pub fewest-before : (n g j : ℕ) → g ≤ j → j < fewest p n g → p j ≡ false
+  unfolding fewest
+  fewest-before zero g j a b = absurd (omega arith)
+  fewest-before (suc n) g j a b =
+      cond-case (λ x. j < x → p j ≡ false) (p g) g (fewest p n (g + 1)) (λ e h. absurd (omega arith))
+      (λ e h. elim (ℕ-discrete j g) [
+        | yes q ↦ ap p q ∙ e
+        | no q ↦ fewest-before n (g + 1) j (omega arith) h
+      ]) b
+
+  -- it passes, where one does
+  pub fewest-at : (n g : ℕ) → fewest p n g < g + n → p (fewest p n g) ≡ true
+  unfolding fewest
+  fewest-at zero g h = absurd (omega arith)
+  fewest-at (suc n) g h =
+      cond-case (λ x. x < g + suc n → p x ≡ true) (p g) g (fewest p n (g + 1)) (λ e q. e) (λ e q. fewest-at n (g + 1) (omega arith)) h

@@ -179,15 +179,7 @@ module _ (u : ℕ → Bool) where
       plus : (d : ℕ) → lo + 1 + d ≡ lo + suc d
       plus d = omega arith
 
-  -- numbers that fail do not count: lo, and those from there to e
-  pub count-beyond : (lo e hi : ℕ) → lo < e → e ≤ hi → u lo ≡ false → ((j : ℕ) → lo + 1 ≤ j → j < e → u j ≡ false)
-      → count u lo (hi - lo) ≡ count u e (hi - e)
-  count-beyond lo e hi h i z f =
-      ap (count u lo) (omega arith) ∙ count-over (e - lo) lo (hi - e) (λ j a b. at j a (omega arith)) ∙ ap (λ (x : ℕ). count u x (hi - e)) (omega arith)
-    where
-      at : (j : ℕ) → lo ≤ j → j < e → u j ≡ false
-      at j a b =
-          elim (ℕ-discrete j lo) [
-            | yes q ↦ ap u q ∙ z
-            | no q ↦ f j (omega arith) b
-          ]
+  -- numbers that fail do not count
+  pub count-beyond : (lo e hi : ℕ) → lo ≤ e → e ≤ hi → ((j : ℕ) → lo ≤ j → j < e → u j ≡ false) → count u lo (hi - lo) ≡ count u e (hi - e)
+  count-beyond lo e hi h i f =
+      ap (count u lo) (omega arith) ∙ count-over (e - lo) lo (hi - e) (λ j a b. f j a (omega arith)) ∙ ap (λ (x : ℕ). count u x (hi - e)) (omega arith)

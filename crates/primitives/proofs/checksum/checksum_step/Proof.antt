@@ -1,4 +1,4 @@
-use Rattle.primitives.specs.Internal.{addByte}
+use Rattle.primitives.specs.Checksum.{addByte}
 use borrow.Author.Needs.{needs}
 use Rattle.primitives.proofs.checksum.checksum_step.Statement.{statement}
 use Rattle.primitives.proofs.checksum.checksum_step.Tie as tie
