@@ -78,14 +78,11 @@ fn unmarked_tail(vol: &[u8], y: Layout, low: u32, n: u32) -> u32
 }
 
 // The lowest run of n usable clusters from start to end (Rust: the closure `scan` of `free_run`). A window of n clusters is tested
-// from its end, by its marks first; no run starts before base.
+// from its end, by its marks first; no run starts before base. Behind a window whose last cluster is marked, the marked ones are passed.
 fn scan(vol: &[u8], map: &[u8], y: Layout, start: u32, end: u32, n: u32) -> Found
-    requires { ⌜ Laid y × ((length (now vol) ≡ y .len) × ((y .count ≤ 8 * length (now map)) × ((2 ≤ start) × ((end ≤ y .count + 2) × (1 ≤ n))))) ⌝ }
+    requires { ⌜ Laid y × ((length (now vol) ≡ y .len) × ((y .count ≤ 8 * length (now map)) × ((2 ≤ start) × ((start ≤ end) × ((end ≤ y .count + 2) × (1 ≤ n)))))) ⌝ }
     ensures { λ r. ⌜ r ≡ runFrom (isUsable y (now (vol .entry)) (now (map .entry))) end n start ⌝ }
 {
-    if end < start {
-        return Found::Nothing;
-    }
     let mut base = start;
     while n <= end - base {
         let next = unmarked_tail(vol, y, base, n);
@@ -97,7 +94,7 @@ fn scan(vol: &[u8], map: &[u8], y: Layout, start: u32, end: u32, n: u32) -> Foun
             base = last;
         } else {
             if next == base + n {
-                base = metadata::bitmap::past_full(vol, y, next, end - next);
+                base = metadata::bitmap::first_unmarked(vol, y, next, end - next);
             } else {
                 base = next;
             }
@@ -118,13 +115,12 @@ fn counts_to(vol: &[u8], map: &[u8], y: Layout, n: u64) -> bool
         if left == 0 {
             return true;
         }
-        let next = k + 1;
-        if metadata::usable::usable(vol, map, y, k) {
-            k = next;
-            left -= 1;
-        } else {
-            k = metadata::bitmap::past_full(vol, y, next, end - next);
+        let next = metadata::usable::next_usable(vol, map, y, k, end - k);
+        if next == end {
+            return false;
         }
+        k = next + 1;
+        left -= 1;
     }
     left == 0
 }
@@ -156,12 +152,9 @@ pub fn enough(vol: &[u8], map: &[u8], y: Layout, near: u32, n: u64) -> bool
 
 // Where the search of the whole heap may end: a run that starts at or after start was looked for.
 fn wrap_end(start: u32, end: u32, n: u32) -> u32
-    requires { ⌜ (1 ≤ n) × (end ≤ 65536) ⌝ }
+    requires { ⌜ (start ≤ end) × ((end ≤ 65536) × (1 ≤ n)) ⌝ }
     ensures { λ r. ⌜ r ≡ min end (start + n - 1) ⌝ }
 {
-    if end <= start {
-        return end;
-    }
     if end - start < n {
         return end;
     }
@@ -170,7 +163,7 @@ fn wrap_end(start: u32, end: u32, n: u32) -> u32
 
 // The lowest run of n usable clusters where none starts at or after start: those that start there are not tested again.
 fn scan_before(vol: &[u8], map: &[u8], y: Layout, start: u32, n: u32) -> Found
-    requires { ⌜ Laid y × ((length (now vol) ≡ y .len) × ((y .count ≤ 8 * length (now map)) × ((2 ≤ start) × ((1 ≤ n) × (runFrom (isUsable y (now vol) (now map)) (y .count + 2) n start ≡ Nothing))))) ⌝ }
+    requires { ⌜ Laid y × ((length (now vol) ≡ y .len) × ((y .count ≤ 8 * length (now map)) × ((2 ≤ start) × ((start < y .count + 2) × ((1 ≤ n) × (runFrom (isUsable y (now vol) (now map)) (y .count + 2) n start ≡ Nothing)))))) ⌝ }
     ensures { λ r. ⌜ r ≡ runFrom (isUsable y (now (vol .entry)) (now (map .entry))) (y .count + 2) n 2 ⌝ }
 {
     let end = wrap_end(start, y.count + 2, n);
@@ -179,7 +172,7 @@ fn scan_before(vol: &[u8], map: &[u8], y: Layout, start: u32, n: u32) -> Found
 
 // The choice of n clusters for a search that starts at start (Rust: `free_run`, `free_list`).
 pub fn choose_clusters(vol: &[u8], map: &[u8], y: Layout, start: u32, n: u32) -> Choice
-    requires { ⌜ Laid y × ((length (now vol) ≡ y .len) × ((y .count ≤ 8 * length (now map)) × ((2 ≤ start) × (1 ≤ n)))) ⌝ }
+    requires { ⌜ Laid y × ((length (now vol) ≡ y .len) × ((y .count ≤ 8 * length (now map)) × ((2 ≤ start) × ((start < y .count + 2) × (1 ≤ n))))) ⌝ }
     ensures { λ r. ⌜ r ≡ choose (isUsable y (now (vol .entry)) (now (map .entry))) (y .count) n start ⌝ }
 {
     let after = scan(vol, map, y, start, y.count + 2, n);
@@ -202,21 +195,15 @@ pub fn choose_clusters(vol: &[u8], map: &[u8], y: Layout, start: u32, n: u32) ->
     Choice::TooFew
 }
 
-// The first usable cluster from start on, then from 2; 0 where there is none.
+// The first usable cluster from start on, then from 2; there is one.
 pub fn first_usable(vol: &[u8], map: &[u8], y: Layout, start: u32) -> u32
-    requires { ⌜ Laid y × ((length (now vol) ≡ y .len) × ((y .count ≤ 8 * length (now map)) × ((2 ≤ start) × (start < y .count + 2)))) ⌝ }
+    requires { ⌜ Laid y × ((length (now vol) ≡ y .len) × ((y .count ≤ 8 * length (now map)) × ((2 ≤ start) × ((start < y .count + 2) × (1 ≤ count (isUsable y (now vol) (now map)) 2 (y .count)))))) ⌝ }
     ensures { λ r. ⌜ r ≡ firstUsable (isUsable y (now (vol .entry)) (now (map .entry))) (y .count) start ⌝ }
 {
-    let choice = choose_clusters(vol, map, y, start, 1);
-    match choice {
-        Choice::Run(k) => {
-            return k;
-        }
-        Choice::Scattered => {
-            return 0;
-        }
-        Choice::TooFew => {
-            return 0;
-        }
+    let end = y.count + 2;
+    let after = metadata::usable::next_usable(vol, map, y, start, end - start);
+    if after < end {
+        return after;
     }
+    metadata::usable::next_usable(vol, map, y, 2, start - 2)
 }

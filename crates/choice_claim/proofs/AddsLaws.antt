@@ -17,7 +17,7 @@ use Rattle.boot.specs.Layout.{inHeap, layoutOf}
 use Rattle.boot.proofs.Admission.{Admits, limits-refused, limits-admits}
 use Rattle.boot.proofs.Apart.{in-heap, heap-in}
 use Rattle.metadata.specs.Fat.{END, setFat}
-use Rattle.metadata.specs.Marks.{freeCount}
+use Rattle.metadata.specs.Marks.{freeCount, markRun}
 use Rattle.metadata.specs.Usable.{isUsable}
 use Rattle.metadata.proofs.Frame.{Fits}
 use Rattle.metadata.proofs.Keeps.{Own, Keeps, Went, went-none, fat-on}
@@ -27,7 +27,7 @@ use Rattle.choice.specs.declared.choice.Choice.{Choice}
 use Rattle.choice.specs.declared.choice.Choice.the-variants.{Run, Scattered, TooFew}
 use Rattle.choice.specs.Choice.{choose, chosen}
 use Rattle.choice_claim.specs.Picked.{Picked}
-use Rattle.write_alloc.specs.Take.{markRun, takeAll}
+use Rattle.write_alloc.specs.Take.{takeAll}
 use Rattle.write_alloc.specs.Outcome.{Outcome, unchanged}
 use Rattle.stream.specs.Stream.{empty}
 use Rattle.boot.specs.Causes.{wrap}

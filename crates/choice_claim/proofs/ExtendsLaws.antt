@@ -15,7 +15,7 @@ use Rattle.boot.specs.Layout.{inHeap, layoutOf}
 use Rattle.boot.proofs.Admission.{Admits, limits-refused, limits-admits}
 use Rattle.boot.proofs.Apart.{in-heap}
 use Rattle.metadata.specs.Fat.{END, fatEntry}
-use Rattle.metadata.specs.Marks.{marked}
+use Rattle.metadata.specs.Marks.{marked, markRun}
 use Rattle.metadata.specs.Usable.{isUsable}
 use Rattle.metadata.proofs.Frame.{Fits}
 use Rattle.metadata.proofs.Keeps.{Keeps, went-none}
@@ -28,7 +28,7 @@ use Rattle.stream.proofs.Distinct.{read-length, read-run}
 use Rattle.choice.specs.declared.choice.Choice.the-variants.{Run}
 use Rattle.choice.specs.Choice.{choose, chosen}
 use Rattle.choice_claim.specs.Picked.{RunAt, Picked}
-use Rattle.write_alloc.specs.Take.{markRun, linkRun, takeAll}
+use Rattle.write_alloc.specs.Take.{linkRun, takeAll}
 use Rattle.write_alloc.specs.Outcome.{Outcome, unchanged}
 use Rattle.boot.specs.Causes.{wrap}
 use Rattle.choice_claim.specs.Adds.{OffBitmaps, OffEntries, Allocates}

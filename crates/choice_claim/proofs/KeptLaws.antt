@@ -18,10 +18,10 @@ use Rattle.boot.specs.declared.layout.Layout.{Layout}
 use Rattle.boot.specs.Layout.{inHeap}
 use Rattle.boot.proofs.Apart.{in-heap, heap-in, cluster-start}
 use Rattle.metadata.specs.Fat.{setFat}
-use Rattle.metadata.specs.Marks.{markByte, putByte, setMark}
+use Rattle.metadata.specs.Marks.{markByte, putByte, setMark, markRun}
 use Rattle.kept.specs.Copies.{fat0At, fat1At}
 use Rattle.metadata.proofs.Frame.{Fits}
-use Rattle.write_alloc.specs.Take.{markRun, linkRun, takeOne, takeAll}
+use Rattle.write_alloc.specs.Take.{linkRun, takeOne, takeAll}
 use Rattle.choice_claim.specs.Adds.{OffBitmaps, OffEntries, EntryKept}
 use Rattle.write_alloc.proofs.TakeLaws.{Inside}
 

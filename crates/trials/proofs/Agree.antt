@@ -12,7 +12,7 @@ use Rattle.boot.specs.Geometry.{geometryOf, sectorSize, clusterSize, bitmapClus
 use Rattle.boot.specs.Layout.{fatStart, clusterStart, bitmapFirst, layoutOf, inRun, inHeap}
 use Rattle.boot.specs.Limits.{shapeTests, roomTests, inMap, allInMap, runInMap, apart, secondBitmap, mapTests, limits}
 use Rattle.metadata.specs.Fat.{fatEntry, setFat}
-use Rattle.metadata.specs.Marks.{markByte, marked, putByte, setMark, allocatedCount, freeCount}
+use Rattle.metadata.specs.Marks.{markByte, marked, putByte, setMark, allocatedCount, freeCount, markRun}
 use Rattle.metadata.specs.Usable.{isFree, isUsable}
 use Rattle.stream.specs.Chain.{nextOf, chainFrom, readChain}
 use Rattle.stream.specs.Listing.{roomCause, listedNumber, listedList, listingNumber, listingList}
@@ -22,7 +22,7 @@ use Rattle.search.specs.Search.{allFrom, firstRun, runFrom}
 use Rattle.choice.specs.Choice.{choose, around, chosen}
 use Rattle.write_extend.specs.Extend.{moreCause, inPlace, longerRun, linkOld, longerChain, longer, extendIn, extendClusters}
 use Rattle.write_shrink.specs.Shrink.{freeAll, keptRecord, endKept, shrinkCause, cut, shrinkIn, shrinkClusters}
-use Rattle.write_alloc.specs.Take.{markRun, linkRun, takeOne, takeAll}
+use Rattle.write_alloc.specs.Take.{linkRun, takeOne, takeAll}
 use Rattle.trials.specs.Table.{new, bad6, page, list6, after6, file, after8, after9, loop, old, eight, T1, T2, T3, T4, T5, T6, T6-list, T7, T8, T8-list, T9, T10-list, T10-extend, T10-shrink, T11, T12, old-entries, eight-list, eight-extend, eight-shrink, trials}
 use Rattle.trials.specs.Trial.{Trial, wanted, resultOf, sameFlag, sameList, sameRecord, sameAnswer, sameResult, said, agrees, allAgree}
 use Rattle.trials.specs.Volume.{geometry, system, linkAt, trialEntry, wordBytes, fatBytes, padded, trialBytes, linked}

@@ -7,7 +7,7 @@ use Prim.Native.Nat.{ℕ, _*_}
 use native.Mathlib.Omega.{arith}
 use lib.ListN.{length, getD, replicate}
 use Rattle.primitives.specs.Bits.{bitOf, bitAt}
-use Rattle.primitives.specs.Checksum.{checksum}
+use Rattle.primitives.specs.Checksum.{addByte, checksum}
 use Rattle.primitives.specs.Splice.{splice}
 use Rattle.primitives.specs.Words.{getLe}
 use Rattle.tables.specs.Lists.{every, lastOr, consec}
@@ -38,7 +38,7 @@ owners = 0 ∷ 0 ∷ 0 ∷ 16 ∷ 3 ∷ 12 ∷ 3 ∷ 0 ∷ 6 ∷ 6 ∷ 17 ∷ []
 
 -- the volume with everything open that has to compute
 unfoldable opened : List ℕ
-unfolding bitOf bitAt checksum splice getLe every lastOr consec firstCause geometryOf sectorSize clusterSize bitmapClusters fatStart clusterStart bitmapFirst layoutOf clusterAt inRun inHeap isBitmapCluster shapeTests roomTests inMap allInMap runInMap apart secondBitmap mapTests limits fatEntry markByte marked clusterBytes bytesOf nextOf chainFrom readChain numberOf runCause readRun checkChain readStream streamOf entryType secondaryCount setChecksum isDirectory allocationPossible noFatChain nameLength validLength firstCluster dataLength clustersFor nameEntries headOk streamEntryOk namesOk lengthsOk wellFormed allFrom systemCause chainRecord rootRecord bitmapCause directoryCause clustersIn bytesIn entryCount typeAt inUse beforeEnd isFile entriesAt setAt isSound fileRecord streamCause lay root rootClusters rootBytes setOf streamAt shown hasFile contents exampleGeometry exampleMap word filled exampleSet exampleRoot exampleFat exampleMarks exampleContents exampleVolume implies owns slotTest pairTest owners
+unfolding bitOf bitAt addByte checksum splice getLe every lastOr consec firstCause geometryOf sectorSize clusterSize bitmapClusters fatStart clusterStart bitmapFirst layoutOf clusterAt inRun inHeap isBitmapCluster shapeTests roomTests inMap allInMap runInMap apart secondBitmap mapTests limits fatEntry markByte marked clusterBytes bytesOf nextOf chainFrom readChain numberOf runCause readRun checkChain readStream streamOf entryType secondaryCount setChecksum isDirectory allocationPossible noFatChain nameLength validLength firstCluster dataLength clustersFor nameEntries headOk streamEntryOk namesOk lengthsOk wellFormed allFrom systemCause chainRecord rootRecord bitmapCause directoryCause clustersIn bytesIn entryCount typeAt inUse beforeEnd isFile entriesAt setAt isSound fileRecord streamCause lay root rootClusters rootBytes setOf streamAt shown hasFile contents exampleGeometry exampleMap word filled exampleSet exampleRoot exampleFat exampleMarks exampleContents exampleVolume implies owns slotTest pairTest owners
 opened = exampleVolume
 
 root-bytes : rootBytes exampleGeometry exampleVolume ≡ exampleRoot

@@ -16,7 +16,7 @@ use Rattle.boot.specs.declared.layout.Layout.{Layout}
 use Rattle.boot.specs.Layout.{inHeap}
 use Rattle.boot.proofs.Apart.{in-heap, heap-in}
 use Rattle.metadata.specs.Fat.{END, fatEntry, setFat}
-use Rattle.metadata.specs.Marks.{marked, freeCount}
+use Rattle.metadata.specs.Marks.{marked, freeCount, markRun}
 use Rattle.metadata.specs.Usable.{isUsable}
 use Rattle.metadata.specs.Cluster.{clusterByte}
 use Rattle.metadata.proofs.Frame.{small, Fits, fits-kept, length-fat, fat-fat-same, fat-fat-other, mark-fat, cluster-fat}
@@ -30,7 +30,7 @@ use Rattle.stream.proofs.Distinct.{chain-links, chain-listed, run-listed, recor
 use Rattle.choice.specs.declared.choice.Choice.{Choice}
 use Rattle.choice.specs.declared.choice.Choice.the-variants.{Run, Scattered, TooFew}
 use Rattle.choice.specs.Choice.{choose, chosen}
-use Rattle.write_alloc.specs.Take.{markRun, takeAll}
+use Rattle.write_alloc.specs.Take.{takeAll}
 use Rattle.write_alloc.specs.Outcome.{Outcome, unchanged}
 use Rattle.write_alloc.specs.Allocate.{nearCause, newRun, newChain, newStream, allocateIn}
 use Rattle.write_alloc.proofs.Links.{Linked, linked-at}

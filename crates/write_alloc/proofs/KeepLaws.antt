@@ -14,13 +14,13 @@ use Rattle.boot.specs.declared.layout.Layout.{Layout}
 use Rattle.boot.specs.Layout.{inHeap}
 use Rattle.boot.proofs.Apart.{in-heap, heap-in}
 use Rattle.metadata.specs.Fat.{END, setFat}
-use Rattle.metadata.specs.Marks.{setMark}
+use Rattle.metadata.specs.Marks.{setMark, markRun}
 use Rattle.metadata.specs.Usable.{isUsable}
 use Rattle.metadata.proofs.Keeps.{Own, Keeps, Went, fat-on, mark-on}
 use Rattle.choice.specs.declared.choice.Choice.{Choice}
 use Rattle.choice.specs.declared.choice.Choice.the-variants.{Run, Scattered, TooFew}
 use Rattle.choice.specs.Choice.{choose, chosen}
-use Rattle.write_alloc.specs.Take.{markRun, linkRun, takeOne, takeAll}
+use Rattle.write_alloc.specs.Take.{linkRun, takeOne, takeAll}
 use Rattle.write_alloc.specs.Outcome.{unchanged}
 use Rattle.stream.specs.Stream.{empty}
 use Rattle.write_alloc.specs.Allocate.{newRun, newChain, byChoice, newStream}

@@ -19,14 +19,14 @@ use Rattle.boot.specs.declared.layout.Layout.{Layout}
 use Rattle.boot.specs.Layout.{inHeap}
 use Rattle.boot.proofs.Apart.{in-heap, heap-in}
 use Rattle.metadata.specs.Fat.{fatEntry, setFat}
-use Rattle.metadata.specs.Marks.{marked, setMark, freeCount}
+use Rattle.metadata.specs.Marks.{marked, setMark, freeCount, markRun}
 use Rattle.metadata.specs.Usable.{isUsable}
 use Rattle.metadata.specs.Cluster.{clusterByte}
 use Rattle.metadata.proofs.Frame.{Fits, fits-kept, length-fat, length-mark}
 use Rattle.metadata.proofs.View.{Tables, plain, view, withFat, withMark, view-fat-at, view-mark-at, view-byte-at, view-setFat, view-setMark}
 use Rattle.metadata.proofs.Counting.{markedCount, free-is-unmarked}
 use Rattle.choice.specs.Choice.{around}
-use Rattle.write_alloc.specs.Take.{markRun, linkRun, takeOne, takeAll}
+use Rattle.write_alloc.specs.Take.{linkRun, takeOne, takeAll}
 use Rattle.write_alloc.specs.Internal.{prevTaken, takenFrom}
 use Rattle.write_alloc.proofs.Links.{last-append, linkOne, linkAll, Linked, one-is, link-other, link-last, link-linked, link-list, link-cong, linked-cong, link-consec, link-consec-other}
 use Rattle.write_alloc.proofs.Taking.{one-first, one-more, one-usable, one-taken, taken-cong}

@@ -18,22 +18,17 @@ use Rattle.boot.specs.Internal.{Laid, Apart}
 use Rattle.boot.specs.Layout.{inHeap}
 use Rattle.boot.proofs.Apart.{in-heap, heap-in}
 use Rattle.metadata.specs.Fat.{setFat}
-use Rattle.metadata.specs.Marks.{marked, setMark}
+use Rattle.metadata.specs.Marks.{marked, setMark, markRun}
 use Rattle.metadata.specs.Usable.{isUsable}
-use Rattle.metadata.specs.Internal.{markRow, pastFull}
 use Rattle.metadata.proofs.RowLaws.{row-append}
-use Rattle.metadata.proofs.FullLaws.{full-bounds, full-unusable}
+use Rattle.search.specs.Search.{fewest}
+use Rattle.search.proofs.Lowest.{fewest-bounds, fewest-before}
 use Rattle.metadata.proofs.Frame.{Fits, fits-kept, length-mark, mark-mark-same, mark-mark-other, mark-fat}
 use Rattle.metadata.proofs.Counting.{usable-mark-other, usable-fat-marked, usable-fat-other}
 use Rattle.write_alloc.specs.declared.take.Taken.{Taken}
 use Rattle.tables.specs.Lists.{lastOr}
-use Rattle.write_alloc.specs.Take.{markRun, linkRun, takeOne, takeAll}
+use Rattle.write_alloc.specs.Take.{linkRun, takeOne, takeAll}
 use Rattle.write_alloc.specs.Internal.{prevTaken, takenFrom, takenOf, wholeByte}
-
-as-row : (y : Layout) (d : List ℕ) (k n : ℕ) → markRun y d k n ≡ markRow y d k n
-unfolding markRun markRow
-as-row y d k zero = refl
-as-row y d k (suc n) = as-row y (setMark y d k true) (k + 1) n
 
 module _ (y : Layout) (d : List ℕ) where
   pub mark-none : (k n : ℕ) → n ≤ 0 → markRun y d k n ≡ d
@@ -47,10 +42,10 @@ module _ (y : Layout) (d : List ℕ) where
   mark-step k (suc n) h = rw sub-one refl
 
   -- eight at once
-  pub mark-eight : (k n : ℕ) → 8 ≤ n → markRun y d k n ≡ markRun y (markRow y d k 8) (k + 8) (n - 8)
+  pub mark-eight : (k n : ℕ) → 8 ≤ n → markRun y d k n ≡ markRun y (markRun y d k 8) (k + 8) (n - 8)
   mark-eight k n h =
       let q : n ≡ 8 + (n - 8) = omega arith in
-      as-row y d k n ∙ ap (markRow y d k) q ∙ row-append y d k 8 (n - 8) ∙ sym (as-row y (markRow y d k 8) (k + 8) (n - 8))
+      ap (markRun y d k) q ∙ row-append y d k 8 (n - 8)
 
   pub link-none : (k n : ℕ) → n ≤ 0 → linkRun y d k n ≡ d
   unfolding linkRun
@@ -184,7 +179,7 @@ module _ (y : Layout) (d m : List ℕ) (end k prev left : ℕ) where
   pub takes-done : left ≡ 0 → takes y d m end k prev left ≡ still d prev left
   takes-done e = takes-nil (rw e (taken-zero y d m k end))
 
-  pub takes-no : k < end → isUsable y d m k ≡ false → takes y d m end k prev left ≡ takes y d m end (k + 1) prev left
+  takes-no : k < end → isUsable y d m k ≡ false → takes y d m end k prev left ≡ takes y d m end (k + 1) prev left
   unfolding takes
   takes-no h e = rw (taken-no y d m k end left h e) refl
 
@@ -213,13 +208,12 @@ module _ (y : Layout) (d m : List ℕ) (end k prev left : ℕ) where
       more : left - suc (length ks) ≡ left - 1 - length ks
       more = omega arith
 
--- a cluster that is not usable, and those after it whose bytes are full
-pub takes-past : (y : Layout) (d m : List ℕ) (end k prev left next : ℕ) → 2 ≤ k → k < end → isUsable y d m k ≡ false
-    → next ≡ pastFull y d (k + 1) (end - (k + 1)) → takes y d m end k prev left ≡ takes y d m end next prev left
-takes-past y d m end k prev left next l h e q =
-    let b = full-bounds y d (k + 1) (end - (k + 1)) (omega arith) in
-    takes-no y d m end k prev left h e
-    ∙ over (next - (k + 1)) (k + 1) (omega arith) (λ j a t. full-unusable y d m (k + 1) (end - (k + 1)) j (omega arith) a (omega arith))
+-- on to the first cluster that is usable
+pub takes-past : (y : Layout) (d m : List ℕ) (end k prev left next : ℕ) → k ≤ end → next ≡ fewest (isUsable y d m) (end - k) k
+    → takes y d m end k prev left ≡ takes y d m end next prev left
+takes-past y d m end k prev left next h e =
+    let b = fewest-bounds (isUsable y d m) (end - k) k in
+    over (next - k) k (omega arith) (λ j a t. fewest-before (isUsable y d m) (end - k) k j a (omega arith))
     ∙ ap (λ (x : ℕ). takes y d m end x prev left) (omega arith)
   where
     over : (i k : ℕ) → k + i ≤ end → ((j : ℕ) → k ≤ j → j < k + i → isUsable y d m j ≡ false)

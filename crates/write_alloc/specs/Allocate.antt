@@ -11,12 +11,12 @@ use Rattle.boot.specs.declared.layout.Layout.{Layout}
 use Rattle.boot.specs.Layout.{layoutOf}
 use Rattle.boot.specs.Causes.{firstCause, heapCause, wrap, spaceCause, admitCause}
 use Rattle.metadata.specs.Fat.{END, setFat}
-use Rattle.metadata.specs.Marks.{freeCount}
+use Rattle.metadata.specs.Marks.{freeCount, markRun}
 use Rattle.metadata.specs.Usable.{isUsable}
 use Rattle.choice.specs.declared.choice.Choice.{Choice}
 use Rattle.choice.specs.declared.choice.Choice.the-variants.{Run, Scattered, TooFew}
 use Rattle.choice.specs.Choice.{choose, chosen}
-use Rattle.write_alloc.specs.Take.{markRun, takeAll}
+use Rattle.write_alloc.specs.Take.{takeAll}
 use Rattle.write_alloc.specs.Outcome.{Outcome, unchanged, done}
 use Rattle.stream.specs.Stream.{empty}
 

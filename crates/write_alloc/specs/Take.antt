@@ -7,11 +7,6 @@ use Rattle.boot.specs.declared.layout.Layout.{Layout}
 use Rattle.metadata.specs.Fat.{setFat}
 use Rattle.metadata.specs.Marks.{setMark}
 
--- the n clusters from k marked
-unfoldable pub markRun : Layout → List ℕ → ℕ → ℕ → List ℕ
-markRun y d k zero = d
-markRun y d k (suc n) = markRun y (setMark y d k true) (k + 1) n
-
 -- n clusters from k, each linked to the next one
 unfoldable pub linkRun : Layout → List ℕ → ℕ → ℕ → List ℕ
 linkRun y d k zero = d

@@ -4,7 +4,8 @@ ghost use mathlib.Core.Bool.{true};
 ghost use Prim.Native.Nat.{_+_, _-_, _*_, _≤_, _<_};
 ghost use lib.ListN.{length};
 ghost use Rattle.boot.specs.Internal.{Laid, Apart};
-ghost use Rattle.write_alloc.specs.Take.{markRun, linkRun, takeAll, takeOne};
+ghost use Rattle.metadata.specs.Marks.{markRun};
+ghost use Rattle.write_alloc.specs.Take.{linkRun, takeAll, takeOne};
 ghost use Rattle.write_alloc.specs.Internal.{prevTaken, takenFrom, takenOf, wholeByte};
 use boot::layout::Layout;
 
@@ -92,15 +93,17 @@ pub fn take_usable(
                 left: left,
             };
         }
-        let next = k + 1;
-        if metadata::usable::usable(vol, map, y, k) {
-            take_one(vol, y, prev, k);
-            prev = k;
-            left -= 1;
-            k = next;
-        } else {
-            k = metadata::bitmap::past_full(vol, y, next, end - next);
+        let next = metadata::usable::next_usable(vol, map, y, k, end - k);
+        if next == end {
+            return Taken {
+                prev: prev,
+                left: left,
+            };
         }
+        take_one(vol, y, prev, next);
+        prev = next;
+        left -= 1;
+        k = next + 1;
     }
     Taken {
         prev: prev,

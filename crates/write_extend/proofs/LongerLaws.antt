@@ -19,7 +19,7 @@ use Rattle.boot.specs.Layout.{inHeap}
 use Rattle.tables.proofs.Cases.{and-left}
 use Rattle.boot.proofs.Apart.{in-heap}
 use Rattle.metadata.specs.Fat.{END, fatEntry, setFat}
-use Rattle.metadata.specs.Marks.{marked}
+use Rattle.metadata.specs.Marks.{marked, markRun}
 use Rattle.metadata.specs.Usable.{isUsable}
 use Rattle.metadata.specs.Cluster.{clusterByte}
 use Rattle.metadata.proofs.Frame.{Fits, fits-kept, fat-fat-same, fat-fat-other, cluster-fat, small}
@@ -33,7 +33,7 @@ use Rattle.stream.proofs.ListingLaws.{stream-read}
 use Rattle.stream.proofs.Distinct.{Chain, chain-links, chain-listed, chain-append, run-listed, record-listed, read-length, read-run, read-chain}
 use Rattle.search.specs.Search.{allFrom}
 use Rattle.choice.specs.Choice.{chosen}
-use Rattle.write_alloc.specs.Take.{markRun, linkRun, takeAll}
+use Rattle.write_alloc.specs.Take.{linkRun, takeAll}
 use Rattle.write_alloc.specs.Outcome.{Outcome, unchanged}
 use Rattle.boot.specs.Causes.{wrap}
 use Rattle.write_alloc.specs.Allocate.{allocateIn}

@@ -11,13 +11,13 @@ use Rattle.boot.specs.declared.layout.Layout.{Layout}
 use Rattle.boot.specs.Layout.{layoutOf}
 use Rattle.boot.specs.Causes.{firstCause, heapCause, wrap, spaceCause, admitCause}
 use Rattle.metadata.specs.Fat.{END, setFat}
-use Rattle.metadata.specs.Marks.{freeCount}
+use Rattle.metadata.specs.Marks.{freeCount, markRun}
 use Rattle.metadata.specs.Usable.{isUsable}
 use Rattle.stream.specs.declared.allocation.Allocation.{Allocation}
 use Rattle.stream.specs.Stream.{numberOf, streamOf}
 use Rattle.search.specs.Search.{allFrom}
 use Rattle.choice.specs.Choice.{chosen}
-use Rattle.write_alloc.specs.Take.{markRun, linkRun, takeAll}
+use Rattle.write_alloc.specs.Take.{linkRun, takeAll}
 use Rattle.write_alloc.specs.Outcome.{Outcome, unchanged, done}
 use Rattle.write_alloc.specs.Allocate.{allocateIn}
 

@@ -23,7 +23,7 @@ enum-told c = search needs
 scan-before-requires : tie.Need-scan-before-requires
 scan-before-requires c κs =
     let p = c .before .before .before .before .before .before .pre in
-    (p .0, (p .1 .0, (p .1 .1 .0, (p .1 .1 .1 .0, (p .1 .1 .1 .1, cc)))))
+    (p .0, (p .1 .0, (p .1 .1 .0, (p .1 .1 .1 .0, (p .1 .1 .1 .1 .0, (p .1 .1 .1 .1 .1, cc))))))
 
 enum-known-lowest : tie.Need-enum-known-lowest
 enum-known-lowest c = search needs

@@ -1,15 +1,30 @@
-use Prim.Native.Nat.{_+_, _-_, _≤_}
+use Prim.Native.Nat.{ℕ, _+_, _-_, _≤_, _<_}
 use mathlib.Core.Path.{_≡_, sym, _∙_, ap}
+use mathlib.Core.Bool.{Bool}
 use native.Mathlib.Omega.{arith}
 use borrow.Author.Needs.{needs}
-use borrow.Author.Tests.{le-leb}
+use borrow.Author.Tests.{le-leb, lt-leb}
 use Rattle.tables.specs.Count.{count}
-use Rattle.metadata.specs.Usable.{isUsable}
-use Rattle.metadata.proofs.FullLaws.{full-unusable}
-use Rattle.choice.proofs.ChoiceLaws.{enough-left}
 use Rattle.tables.proofs.CountLaws.{count-none, count-yes, count-beyond}
+use Rattle.search.specs.Search.{fewest}
+use Rattle.search.proofs.Lowest.{fewest-bounds, fewest-before, fewest-at}
+use Rattle.metadata.specs.Usable.{isUsable}
+use Rattle.choice.proofs.ChoiceLaws.{enough-left}
 use Rattle.choice.proofs.choice.counts_to.Statement.{statement}
 use Rattle.choice.proofs.choice.counts_to.Tie as tie
+
+-- what is counted from k on, by the first that passes
+module _ (u : ℕ → Bool) (k end next : ℕ) (h : k ≤ end) (e : next ≡ fewest u (end - k) k) where
+  to-next : count u k (end - k) ≡ count u next (end - next)
+  to-next =
+      let b = fewest-bounds u (end - k) k in
+      count-beyond u k next end (omega arith) (omega arith) (λ j s t. fewest-before u (end - k) k j s (omega arith))
+
+  next-none : next ≡ end → count u k (end - k) ≡ 0
+  next-none q = to-next ∙ count-none u next (end - next) (omega arith)
+
+  next-one : next < end → count u k (end - k) ≡ 1 + count u (next + 1) (end - (next + 1))
+  next-one l = to-next ∙ count-yes u next end l (ap u e ∙ fewest-at u (end - k) k (omega arith))
 
 abbrev Inv-loop : tie.InvT-loop
 Inv-loop vol map y n end k₀ left₀ k left = (2 ≤ k) × ((k ≤ end) × ((left ≤ n) × (n - left + count (isUsable y vol map) k (end - k) ≡ count (isUsable y vol map) 2 (y .count))))
@@ -31,11 +46,21 @@ returns c =
     let a = c .before .before .before .before .before .before .args in
     sym (le-leb (a .n) (count (isUsable (a .y) (a .vol .now) (a .map .now)) 2 (a .y .count)) (omega arith))
 
-add-next : tie.Need-add-next Inv-loop μ-loop
-add-next c = search needs
+sub-next-usable : tie.Need-sub-next-usable Inv-loop μ-loop
+sub-next-usable c = search needs
 
-usable-requires : tie.Need-usable-requires Inv-loop μ-loop
-usable-requires c κs = search needs
+next-usable-requires : tie.Need-next-usable-requires Inv-loop μ-loop
+next-usable-requires c κs = search needs
+
+returns-2 : tie.Need-returns-2 Inv-loop μ-loop
+returns-2 c =
+    let a = c .before .before .before .before .before .before .before .before .args in
+    let l = c .before .before .before .before .loop in
+    let z = next-none (isUsable (a .y) (a .vol .now) (a .map .now)) (l .k) (a .y .count + 2) _ (omega arith) (c .before .next-usable .ensures .0) (omega arith) in
+    sym (lt-leb (a .n) (count (isUsable (a .y) (a .vol .now) (a .map .now)) 2 (a .y .count)) (omega arith))
+
+add-k : tie.Need-add-k Inv-loop μ-loop
+add-k c = search needs
 
 sub-left : tie.Need-sub-left Inv-loop μ-loop
 sub-left c = search needs
@@ -47,29 +72,11 @@ loop-again : tie.Need-loop-again Inv-loop μ-loop
 loop-again c =
     let a = c .before .before .before .before .before .before .before .before .args in
     let l = c .before .before .before .before .loop in
-    let e = count-yes (isUsable (a .y) (a .vol .now) (a .map .now)) (l .k) (a .y .count + 2) (omega arith) (cc) in
+    let e = next-one (isUsable (a .y) (a .vol .now) (a .map .now)) (l .k) (a .y .count + 2) _ (omega arith) (c .before .next-usable .ensures .0) (omega arith) in
     (omega arith, (omega arith, (omega arith, omega arith)))
 
-sub-past-full : tie.Need-sub-past-full Inv-loop μ-loop
-sub-past-full c = search needs
-
-past-full-requires : tie.Need-past-full-requires Inv-loop μ-loop
-past-full-requires c κs = search needs
-
-loop-less-2 : tie.Need-loop-less-2 Inv-loop μ-loop
-loop-less-2 c = search needs
-
-loop-again-2 : tie.Need-loop-again-2 Inv-loop μ-loop
-loop-again-2 c =
-    let a = c .before .before .before .before .before .before .before .before .before .args in
-    let l = c .before .before .before .before .before .loop in
-    let e =
-    count-beyond (isUsable (a .y) (a .vol .now) (a .map .now)) (l .k) (c .past-full .result) (a .y .count + 2) (omega arith) (omega arith) (cc)
-    (λ j i b. full-unusable (a .y) (a .vol .now) (a .map .now) (l .k + 1) (a .y .count + 2 - (l .k + 1)) j (omega arith) i (omega arith)) in
-    (omega arith, (omega arith, (omega arith, omega arith)))
-
-returns-2 : tie.Need-returns-2 Inv-loop μ-loop
-returns-2 c =
+returns-3 : tie.Need-returns-3 Inv-loop μ-loop
+returns-3 c =
     let a = c .before .before .before .before .before .args in
     let l = c .before .loop in
     let z = count-none (isUsable (a .y) (a .vol .now) (a .map .now)) (l .k) (a .y .count + 2 - l .k) (omega arith) in
@@ -84,13 +91,11 @@ counts-to-spec =
     add-end
     loop-holds
     returns
-    add-next
-    usable-requires
+    sub-next-usable
+    next-usable-requires
+    returns-2
+    add-k
     sub-left
     loop-less
     loop-again
-    sub-past-full
-    past-full-requires
-    loop-less-2
-    loop-again-2
-    returns-2)
+    returns-3)

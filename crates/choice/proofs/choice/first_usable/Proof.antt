@@ -1,39 +1,41 @@
 use mathlib.Core.Path.{_≡_, sym, _∙_}
 use native.Mathlib.Omega.{arith}
-use Rattle.choice.proofs.FirstLaws.{first-run, first-scattered, first-few}
+use Rattle.choice.proofs.FirstLaws.{first-after, first-before}
 use borrow.Author.Needs.{needs}
 use Rattle.choice.proofs.choice.first_usable.Statement.{statement}
 use Rattle.choice.proofs.choice.first_usable.Tie as tie
 
-choose-clusters-requires : tie.Need-choose-clusters-requires
-choose-clusters-requires c κs = search needs
+add-end : tie.Need-add-end
+add-end c = search needs
 
-enum-known-choice : tie.Need-enum-known-choice
-enum-known-choice c = search needs
+sub-next-usable : tie.Need-sub-next-usable
+sub-next-usable c = search needs
+
+next-usable-requires : tie.Need-next-usable-requires
+next-usable-requires c κs = search needs
 
 returns : tie.Need-returns
-returns c = sym (first-run _ _ _ (omega arith) (omega arith) _ (cc))
+returns c = sym (first-after _ _ _ (omega arith) (omega arith) _ (c .before .next-usable .ensures .0) (omega arith))
 
-enum-told : tie.Need-enum-told
-enum-told c = search needs
+sub-next-usable-2 : tie.Need-sub-next-usable-2
+sub-next-usable-2 c = search needs
+
+next-usable-requires-2 : tie.Need-next-usable-requires-2
+next-usable-requires-2 c κs = search needs
 
 returns-2 : tie.Need-returns-2
-returns-2 c = sym (first-scattered _ _ _ (omega arith) (omega arith) (cc))
-
-enum-told-2 : tie.Need-enum-told-2
-enum-told-2 c = search needs
-
-returns-3 : tie.Need-returns-3
-returns-3 c = sym (first-few _ _ _ (omega arith) (omega arith) (cc))
+returns-2 c =
+    let p = c .before .before .before .before .before .before .pre in
+    sym (first-before _ _ _ (omega arith) (omega arith) _ _ (c .before .before .next-usable .ensures .0) (omega arith) (c .next-usable2 .ensures .0) (p .1 .1 .1 .1 .1))
 
 pub first-usable-spec : {M : Type 1} → statement M
 first-usable-spec =
     tie.close
     (tie.spec
-    choose-clusters-requires
-    enum-known-choice
+    add-end
+    sub-next-usable
+    next-usable-requires
     returns
-    enum-told
-    returns-2
-    enum-told-2
-    returns-3)
+    sub-next-usable-2
+    next-usable-requires-2
+    returns-2)

@@ -9,7 +9,7 @@ use Rattle.boot.specs.declared.layout.Layout.{Layout}
 use Rattle.metadata.specs.Marks.{marked}
 use Rattle.metadata.specs.Usable.{isUsable}
 use Rattle.metadata.proofs.Stores.{free-marked, usable-not-free}
-use Rattle.metadata.proofs.FullLaws.{full-unusable}
+use Rattle.metadata.proofs.UnmarkedLaws.{before-unusable}
 use Rattle.search.specs.Search.{runFrom}
 use Rattle.search.proofs.Runs.{run-none, window-hit, window-skip, window-beyond}
 use Rattle.choice.proofs.choice.scan.Statement.{statement}
@@ -25,9 +25,6 @@ Inv-loop vol map y start end n base₀ base = (2 ≤ base) × ((base ≤ end) ×
 abbrev μ-loop : tie.MeasureT-loop
 μ-loop vol map y start end n base₀ base = end - base
 
-returns : tie.Need-returns Inv-loop μ-loop
-returns c = sym (run-none _ _ _ _ (omega arith))
-
 loop-holds : tie.Need-loop-holds Inv-loop μ-loop
 loop-holds c = (omega arith, (omega arith, refl))
 
@@ -40,9 +37,9 @@ unmarked-tail-requires c κs = search needs
 window-tail-requires : tie.Need-window-tail-requires Inv-loop μ-loop
 window-tail-requires c κs = search needs
 
-returns-2 : tie.Need-returns-2 Inv-loop μ-loop
-returns-2 c =
-    let a = c .before .before .before .before .before .before .before .before .before .args in
+returns : tie.Need-returns Inv-loop μ-loop
+returns c =
+    let a = c .before .before .before .before .before .before .before .before .args in
     let l = c .before .before .before .before .before .loop in
     let t = c .before .window-tail in
     sym (window-hit (isUsable (a .y) (a .vol .now) (a .map .now)) (a .end) (a .n) (l .base) (t .result) (t .ensures .0) (omega arith) (omega arith)) ∙ l .inv .1 .1
@@ -52,33 +49,33 @@ loop-less c = search needs
 
 loop-again : tie.Need-loop-again Inv-loop μ-loop
 loop-again c =
-    let a = c .before .before .before .before .before .before .before .before .before .args in
+    let a = c .before .before .before .before .before .before .before .before .args in
     let l = c .before .before .before .before .before .loop in
     let t = c .before .window-tail in
     (omega arith, (omega arith, window-skip (isUsable (a .y) (a .vol .now) (a .map .now)) (isUsable (a .y) (a .vol .now) (a .map .now)) (λ k e. e) (a .end) (a .n) (l .base) (t .result) (t .ensures .0) (λ z. omega arith) ∙ l .inv .1 .1))
 
-add-if4 : tie.Need-add-if4 Inv-loop μ-loop
-add-if4 c = search needs
+add-if3 : tie.Need-add-if3 Inv-loop μ-loop
+add-if3 c = search needs
 
-sub-past-full : tie.Need-sub-past-full Inv-loop μ-loop
-sub-past-full c = search needs
+sub-first-unmarked : tie.Need-sub-first-unmarked Inv-loop μ-loop
+sub-first-unmarked c = search needs
 
-past-full-requires : tie.Need-past-full-requires Inv-loop μ-loop
-past-full-requires c κs = search needs
+first-unmarked-requires : tie.Need-first-unmarked-requires Inv-loop μ-loop
+first-unmarked-requires c κs = search needs
 
 loop-less-2 : tie.Need-loop-less-2 Inv-loop μ-loop
 loop-less-2 c = search needs
 
 loop-again-2 : tie.Need-loop-again-2 Inv-loop μ-loop
 loop-again-2 c =
-    let a = c .before .before .before .before .before .before .before .before .before .args in
+    let a = c .before .before .before .before .before .before .before .before .args in
     let l = c .before .before .before .before .before .loop in
     let t = c .before .before .before .unmarked-tail in (
       omega arith,
       (
         omega arith,
-        window-beyond (isUsable (a .y) (a .vol .now) (a .map .now)) (λ k. not (marked (a .y) (a .vol .now) k)) (weaker (a .y) (a .vol .now) (a .map .now)) (a .end) (a .n) (l .base) (t .result) (t .ensures .0) (λ z. omega arith) (c .past-full .result) (omega arith) (omega arith)
-            (λ j i b. full-unusable (a .y) (a .vol .now) (a .map .now) (t .result) (a .end - t .result) j (omega arith) i (omega arith))
+        window-beyond (isUsable (a .y) (a .vol .now) (a .map .now)) (λ k. not (marked (a .y) (a .vol .now) k)) (weaker (a .y) (a .vol .now) (a .map .now)) (a .end) (a .n) (l .base) (t .result) (t .ensures .0) (λ z. omega arith) (c .first-unmarked .result) (omega arith) (omega arith)
+            (λ j i b. before-unusable (a .y) (a .vol .now) (a .map .now) (t .result) (a .end - t .result) j i (omega arith))
             ∙ l .inv .1 .1,
       ),
     )
@@ -88,13 +85,13 @@ loop-less-3 c = search needs
 
 loop-again-3 : tie.Need-loop-again-3 Inv-loop μ-loop
 loop-again-3 c =
-    let a = c .before .before .before .before .before .before .before .before .args in
+    let a = c .before .before .before .before .before .before .before .args in
     let l = c .before .before .before .before .loop in
     let t = c .before .before .unmarked-tail in
     (omega arith, (omega arith, window-skip (isUsable (a .y) (a .vol .now) (a .map .now)) (λ k. not (marked (a .y) (a .vol .now) k)) (weaker (a .y) (a .vol .now) (a .map .now)) (a .end) (a .n) (l .base) (t .result) (t .ensures .0) (λ z. omega arith) ∙ l .inv .1 .1))
 
-returns-3 : tie.Need-returns-3 Inv-loop μ-loop
-returns-3 c = sym (run-none _ _ _ _ (omega arith)) ∙ c .before .loop .inv .1 .1
+returns-2 : tie.Need-returns-2 Inv-loop μ-loop
+returns-2 c = sym (run-none _ _ _ _ (omega arith)) ∙ c .before .loop .inv .1 .1
 
 pub scan-spec : {M : Type 1} → statement M
 scan-spec =
@@ -102,19 +99,18 @@ scan-spec =
     (tie.spec
     Inv-loop
     μ-loop
-    returns
     loop-holds
     sub-loop
     unmarked-tail-requires
     window-tail-requires
-    returns-2
+    returns
     loop-less
     loop-again
-    add-if4
-    sub-past-full
-    past-full-requires
+    add-if3
+    sub-first-unmarked
+    first-unmarked-requires
     loop-less-2
     loop-again-2
     loop-less-3
     loop-again-3
-    returns-3)
+    returns-2)

@@ -23,7 +23,7 @@ returns c =
     let p = c .before .before .before .before .before .pre in
     let u = isUsable (a .y) (a .vol .now) (a .map .now) in
     c .scan .ensures ∙ ap (λ (e : ℕ). runFrom u e (a .n) 2) (c .before .wrap-end .ensures)
-    ∙ run-before u (a .y .count + 2) (a .n) (a .start) (p .1 .1 .1 .0) (p .1 .1 .1 .1 .0) (p .1 .1 .1 .1 .1)
+    ∙ run-before u (a .y .count + 2) (a .n) (a .start) (p .1 .1 .1 .0) (p .1 .1 .1 .1 .1 .0) (p .1 .1 .1 .1 .1 .1)
 
 pub scan-before-spec : {M : Type 1} → statement M
 scan-before-spec = tie.close (tie.spec add-wrap-end wrap-end-requires scan-requires returns)

@@ -3,7 +3,7 @@ use mathlib.Core.Path.{_≡_, refl, sym, _∙_}
 use native.Mathlib.Omega.{arith}
 use borrow.Author.Needs.{needs}
 use lib.ListN.{length}
-use Rattle.write_alloc.specs.Take.{markRun}
+use Rattle.metadata.specs.Marks.{markRun}
 use Rattle.write_alloc.proofs.Taking.{mark-none, mark-step, mark-eight, byte-yes}
 use Rattle.write_alloc.proofs.take.mark_run.Statement.{statement}
 use Rattle.write_alloc.proofs.take.mark_run.Tie as tie

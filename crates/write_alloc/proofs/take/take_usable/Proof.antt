@@ -1,9 +1,11 @@
 use Prim.Native.Nat.{_+_, _-_, _≤_, _<_}
-use mathlib.Core.Path.{_≡_, sym, _∙_}
+use mathlib.Core.Path.{_≡_, sym, _∙_, ap}
 use mathlib.Core.Bool.{true}
 use native.Mathlib.Omega.{arith}
 use borrow.Author.Needs.{needs}
 use lib.ListN.{length}
+use Rattle.search.proofs.Lowest.{fewest-at}
+use Rattle.metadata.specs.Usable.{isUsable}
 use Rattle.write_alloc.specs.Internal.{prevTaken}
 use Rattle.write_alloc.proofs.Taking.{takes, takes-end, takes-done, takes-past, takes-yes, took, one-taken}
 use Rattle.write_alloc.proofs.take.take_usable.Statement.{statement}
@@ -24,17 +26,29 @@ same-length c = search needs
 returns : tie.Need-returns Inv-loop μ-loop
 returns c = took _ _ _ _ _ _ _ _ _ _ (sym (takes-done _ _ _ _ _ _ _ (omega arith)) ∙ c .before .before .loop .inv .1 .1 .1 .1)
 
-add-next : tie.Need-add-next Inv-loop μ-loop
-add-next c = search needs
+sub-next-usable : tie.Need-sub-next-usable Inv-loop μ-loop
+sub-next-usable c = search needs
 
-usable-requires : tie.Need-usable-requires Inv-loop μ-loop
-usable-requires c κs = search needs
+next-usable-requires : tie.Need-next-usable-requires Inv-loop μ-loop
+next-usable-requires c κs = search needs
+
+same-length-2 : tie.Need-same-length-2 Inv-loop μ-loop
+same-length-2 c = search needs
+
+returns-2 : tie.Need-returns-2 Inv-loop μ-loop
+returns-2 c =
+    let l = c .before .before .before .before .before .loop in
+    took _ _ _ _ _ _ _ _ _ _
+    (sym (takes-past _ _ _ _ (l .k) _ _ _ (omega arith) (c .before .next-usable .ensures .0) ∙ takes-end _ _ _ _ _ _ _ (omega arith)) ∙ l .inv .1 .1 .1 .1)
 
 take-one-requires : tie.Need-take-one-requires Inv-loop μ-loop
 take-one-requires c κs = search needs
 
 sub-left : tie.Need-sub-left Inv-loop μ-loop
 sub-left c = search needs
+
+add-k : tie.Need-add-k Inv-loop μ-loop
+add-k c = search needs
 
 loop-less : tie.Need-loop-less Inv-loop μ-loop
 loop-less c = search needs
@@ -43,8 +57,11 @@ loop-again : tie.Need-loop-again Inv-loop μ-loop
 loop-again c =
     let l = c .before .before .before .before .before .before .before .before .before .loop in
     let p = c .before .before .before .before .before .before .before .before .before .before .before .before .pre in
+    let a = c .before .before .before .before .before .before .before .before .before .before .before .before .args in
+    let q = c .before .before .before .before .before .next-usable in
     let len = l .inv .0 ∙ p .1 .0 in
-    let apart = p .1 .1 .1 .1 .1 .1 .1 in (
+    let apart = p .1 .1 .1 .1 .1 .1 .1 in
+    let u = ap (isUsable (a .y) (l .vol) (a .map .now)) (q .ensures .0) ∙ fewest-at (isUsable (a .y) (l .vol) (a .map .now)) (a .end - l .k) (l .k) (omega arith) in (
       c .before .before .take-one .kept .0 ∙ l .inv .0,
       (
         omega arith,
@@ -53,43 +70,18 @@ loop-again c =
           (
             one-taken _ _ _ _ _ (p .0) apart len (omega arith) (omega arith) (l .inv .1 .1 .0) (c .before .before .take-one .ensures),
             (cc)
-                ∙ (sym (takes-yes _ _ _ _ _ _ _ (p .0) apart len (omega arith) (omega arith) (omega arith) (omega arith) (l .inv .1 .1 .0) (l .inv .1 .1 .1 .0) (cc))
+                ∙ (sym (takes-past _ _ _ _ (l .k) _ _ _ (omega arith) (q .ensures .0) ∙ takes-yes _ _ _ _ _ _ _ (p .0) apart len (omega arith) (omega arith) (omega arith) (omega arith) (l .inv .1 .1 .0) (l .inv .1 .1 .1 .0) u)
                 ∙ l .inv .1 .1 .1 .1),
           ),
         ),
       ),
     )
 
-sub-past-full : tie.Need-sub-past-full Inv-loop μ-loop
-sub-past-full c = search needs
+same-length-3 : tie.Need-same-length-3 Inv-loop μ-loop
+same-length-3 c = search needs
 
-past-full-requires : tie.Need-past-full-requires Inv-loop μ-loop
-past-full-requires c κs = search needs
-
-loop-less-2 : tie.Need-loop-less-2 Inv-loop μ-loop
-loop-less-2 c = search needs
-
-loop-again-2 : tie.Need-loop-again-2 Inv-loop μ-loop
-loop-again-2 c =
-    let l = c .before .before .before .before .before .before .before .loop in (
-      l .inv .0,
-      (
-        omega arith,
-        (
-          l .inv .1 .1 .0,
-          (
-            l .inv .1 .1 .1 .0,
-            sym (takes-past _ _ _ _ (l .k) _ _ _ (omega arith) (omega arith) (cc) (c .past-full .ensures .0)) ∙ l .inv .1 .1 .1 .1,
-          ),
-        ),
-      ),
-    )
-
-same-length-2 : tie.Need-same-length-2 Inv-loop μ-loop
-same-length-2 c = search needs
-
-returns-2 : tie.Need-returns-2 Inv-loop μ-loop
-returns-2 c = took _ _ _ _ _ _ _ _ _ _ (sym (takes-end _ _ _ _ _ _ _ (omega arith)) ∙ c .before .loop .inv .1 .1 .1 .1)
+returns-3 : tie.Need-returns-3 Inv-loop μ-loop
+returns-3 c = took _ _ _ _ _ _ _ _ _ _ (sym (takes-end _ _ _ _ _ _ _ (omega arith)) ∙ c .before .loop .inv .1 .1 .1 .1)
 
 pub take-usable-spec : {M : Type 1} → statement M
 take-usable-spec =
@@ -100,15 +92,14 @@ take-usable-spec =
     loop-holds
     same-length
     returns
-    add-next
-    usable-requires
+    sub-next-usable
+    next-usable-requires
+    same-length-2
+    returns-2
     take-one-requires
     sub-left
+    add-k
     loop-less
     loop-again
-    sub-past-full
-    past-full-requires
-    loop-less-2
-    loop-again-2
-    same-length-2
-    returns-2)
+    same-length-3
+    returns-3)

@@ -27,7 +27,7 @@ choose-clusters-requires c κs =
     let p = c .before .before .before .before .before .pre in
     let z = p .1 .1 .1 in
     let h = in-heap _ _ (start-in (a .y) (a .vol .now) (a .map .now) (a .a) (a .n) (p .0) (z .0) (p .1 .0) (z .1 .0) (z .1 .1 .0) (z .1 .1 .1)) in
-    (p .0, (p .1 .0, (p .1 .1 .0, (rw (c .before .wrap-cluster .ensures) (h .0), z .1 .1 .0))))
+    (p .0, (p .1 .0, (p .1 .1 .0, (rw (c .before .wrap-cluster .ensures) (h .0), (rw (c .before .wrap-cluster .ensures) (h .1), z .1 .1 .0)))))
 
 begin-of-requires : tie.Need-begin-of-requires
 begin-of-requires c κs = search needs
