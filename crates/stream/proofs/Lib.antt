@@ -7,3 +7,4 @@ pub mod BytesLaws
 pub mod RowLaws
 pub mod KeepLaws
 pub mod SystemLaws
+pub mod ClearLaws

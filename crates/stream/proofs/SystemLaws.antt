@@ -6,6 +6,7 @@ use Prim.Native.Nat.{ℕ, zero, suc, _+_, _-_, _≤_, _<_}
 use native.Mathlib.Numerals.{sub-one}
 use native.Mathlib.Omega.{arith}
 use lib.Dec.{eqb}
+use lib.ListN.{drop}
 use Rattle.primitives.specs.Bits.{bitAt}
 use Rattle.primitives.specs.Internal.{clearFrom}
 use Rattle.primitives.proofs.ByteLaws.{clear-first}
@@ -13,6 +14,7 @@ use Rattle.tables.specs.Lists.{every, consec}
 use Rattle.boot.specs.Limits.{inMap}
 use Rattle.stream.specs.Stream.{systemCause}
 use Rattle.stream.specs.Internal.{after, along}
+use Rattle.stream.proofs.BytesSteps.{every-drop}
 
 -- a run has a system cluster where one of its bits of the map is set
 run-every : (m : List ℕ) (k n : ℕ) → 2 ≤ k → every (λ j. not (inMap m j)) (consec k n) ≡ clearFrom m (k - 2) n
@@ -45,3 +47,20 @@ module _ (fat : ℕ → ℕ) (run : Bool) where
   unfolding systemCause along every
   system-step m k zero h e = absurd (omega arith)
   system-step m k (suc n) h e = rw (e, sub-one) refl
+
+-- ---- a list with none
+
+none-every : (m ks : List ℕ) (b : Bool) → every (λ k. not (inMap m k)) ks ≡ b → _≡_ {A = ℕ} (cond b 0 9) 0 → every (λ k. not (inMap m k)) ks ≡ true
+none-every m ks true e z = e
+none-every m ks false e z = absurd (omega arith)
+
+pub system-clear : (m ks : List ℕ) → every (λ k. not (inMap m k)) ks ≡ true → systemCause m ks ≡ 0
+unfolding systemCause
+system-clear m ks e = rw e refl
+
+-- what is left of it has none
+pub system-drop : (m ks : List ℕ) (n : ℕ) → systemCause m ks ≡ 0 → systemCause m (drop n ks) ≡ 0
+unfolding systemCause
+system-drop m ks n e =
+    let t = none-every m ks (every (λ k. not (inMap m k)) ks) refl e in
+    rw (every-drop (λ k. not (inMap m k)) n ks t) refl

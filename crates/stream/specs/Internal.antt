@@ -1,5 +1,5 @@
 -- What only contracts of inner functions, and proofs, speak of: no promise of a public call and no clause of the claim needs it.
-use mathlib.Core.Bool.{Bool, cond, false, _&&_}
+use mathlib.Core.Bool.{Bool, cond, false, not, _&&_}
 use mathlib.Core.List.{List, [], _∷_}
 use Prim.Native.Nat.{ℕ, zero, suc, _+_, _-_, _≤_}
 use mathlib.Core.Path.{_≡_}
@@ -9,11 +9,12 @@ use Rattle.boot.specs.declared.layout.Layout.{Layout}
 use Rattle.boot.specs.Limits.{inMap}
 use Rattle.boot.specs.Layout.{isBitmapCluster}
 use Rattle.metadata.specs.Fat.{fatEntry}
+use Rattle.metadata.specs.Marks.{marked}
 use Rattle.stream.specs.declared.allocation.Allocation.{Allocation}
 use Rattle.stream.specs.declared.bytes.Place.{Place}
 use Rattle.tables.specs.Lists.{every, lastOr}
 use Rattle.stream.specs.declared.walk.Walked.{Walked}
-use Rattle.stream.specs.Chain.{Clusters, listed, refused}
+use Rattle.stream.specs.Chain.{Clusters, listed, refused, readChain}
 
 -- the cluster after k: the next number in a run, what the FAT says in a chain
 unfoldable pub after : (ℕ → ℕ) → Bool → ℕ → ℕ
@@ -48,3 +49,11 @@ walked mark free (refused n) = record { number = n; last = 0; count = 0; marked 
 unfoldable pub walkCause : (w : Walked) (last count : ℕ) → ℕ
 walkCause w last count =
     cond (eqb (w .number) 0) (cond (eqb (w .count) count && eqb (w .last) last) (cond (w .marked) 0 6) 5) (w .number)
+
+-- a walk of the chain from first sees that none of its clusters is a system cluster
+unfoldable pub chainClear : (y : Layout) (d m : List ℕ) (first : ℕ) → Bool
+chainClear y d m first = walked (marked y d) (λ k. not (barred y m false k)) (readChain (y .count) (fatEntry y d) first) .clear
+
+-- a record is a chain's, and the walk of it sees that
+unfoldable pub streamClear : (y : Layout) (d m : List ℕ) (a : Allocation) → Bool
+streamClear y d m a = not (eqb (a .count) 0) && (not (a .«no_fat_chain») && chainClear y d m (a .first))

@@ -110,12 +110,9 @@ fn store_chain(vol: &mut [u8], y: Layout, first: u32, count: u32, at: usize, src
 
 // Stores src in count clusters, from byte `at` of the first one on. A run's clusters are one piece of the volume, and take one copy.
 fn store_from(vol: &mut [u8], y: Layout, run: bool, first: u32, count: u32, at: usize, src: &[u8])
-    requires { ⌜ Laid y × ((length (now vol) ≡ y .len) × ((every (inHeap (y .count)) (along (fatEntry y (now vol)) run first count) ≡ true) × ((at < y .size) × ((at + length (now src) ≤ count * y .size) × Apart y)))) ⌝ }
+    requires { ⌜ Laid y × ((length (now vol) ≡ y .len) × ((every (inHeap (y .count)) (along (fatEntry y (now vol)) run first count) ≡ true) × ((at < y .size) × ((at + length (now src) ≤ count * y .size) × (Apart y × (1 ≤ length (now src))))))) ⌝ }
     ensures { λ _. ⌜ now (vol .exit) ≡ storeAt y (now (vol .entry)) (along (fatEntry y (now (vol .entry))) run first count) at (now (src .entry)) ⌝ }
 {
-    if src.len() == 0 {
-        return;
-    }
     if run {
         put_piece(vol, y, first, at, src, 0, src.len());
     } else {
@@ -146,12 +143,9 @@ fn fill_chain(vol: &mut [u8], y: Layout, first: u32, count: u32, at: usize, n: u
 
 // Fills n bytes of count clusters with zeros, from byte `at` of the first one on. A run's clusters are one piece of the volume, and take one fill.
 fn fill_from(vol: &mut [u8], y: Layout, run: bool, first: u32, count: u32, at: usize, n: usize)
-    requires { ⌜ Laid y × ((length (now vol) ≡ y .len) × ((every (inHeap (y .count)) (along (fatEntry y (now vol)) run first count) ≡ true) × ((at < y .size) × ((at + n ≤ count * y .size) × Apart y)))) ⌝ }
+    requires { ⌜ Laid y × ((length (now vol) ≡ y .len) × ((every (inHeap (y .count)) (along (fatEntry y (now vol)) run first count) ≡ true) × ((at < y .size) × ((at + n ≤ count * y .size) × (Apart y × (1 ≤ n)))))) ⌝ }
     ensures { λ _. ⌜ now (vol .exit) ≡ storeAt y (now (vol .entry)) (along (fatEntry y (now (vol .entry))) run first count) at (replicate n 0) ⌝ }
 {
-    if n == 0 {
-        return;
-    }
     if run {
         put_zeros(vol, y, first, at, n);
     } else {
@@ -192,7 +186,7 @@ fn read_from(
 
 // Stores src in a stream, from its byte `at` on.
 pub fn store(vol: &mut [u8], y: Layout, a: Allocation, known: Place, at: usize, src: &[u8])
-    requires { ⌜ Laid y × ((length (now vol) ≡ y .len) × ((every (inHeap (y .count)) (along (fatEntry y (now vol)) (a .«no_fat_chain») (a .first) (a .count)) ≡ true) × ((at + length (now src) ≤ a .count * y .size) × (Apart y × Known y (now vol) a known)))) ⌝ }
+    requires { ⌜ Laid y × ((length (now vol) ≡ y .len) × ((every (inHeap (y .count)) (along (fatEntry y (now vol)) (a .«no_fat_chain») (a .first) (a .count)) ≡ true) × ((at + length (now src) ≤ a .count * y .size) × (Apart y × (Known y (now vol) a known × (1 ≤ length (now src))))))) ⌝ }
     ensures { λ _. ⌜ now (vol .exit) ≡ storeAt y (now (vol .entry)) (along (fatEntry y (now (vol .entry))) (a .«no_fat_chain») (a .first) (a .count)) at (now (src .entry)) ⌝ }
 {
     let steps = (at / y.size) as u32;
@@ -202,7 +196,7 @@ pub fn store(vol: &mut [u8], y: Layout, a: Allocation, known: Place, at: usize, 
 
 // Fills n bytes of a stream with zeros, from its byte `at` on.
 pub fn fill(vol: &mut [u8], y: Layout, a: Allocation, known: Place, at: usize, n: usize)
-    requires { ⌜ Laid y × ((length (now vol) ≡ y .len) × ((every (inHeap (y .count)) (along (fatEntry y (now vol)) (a .«no_fat_chain») (a .first) (a .count)) ≡ true) × ((at + n ≤ a .count * y .size) × (Apart y × Known y (now vol) a known)))) ⌝ }
+    requires { ⌜ Laid y × ((length (now vol) ≡ y .len) × ((every (inHeap (y .count)) (along (fatEntry y (now vol)) (a .«no_fat_chain») (a .first) (a .count)) ≡ true) × ((at + n ≤ a .count * y .size) × (Apart y × (Known y (now vol) a known × (1 ≤ n)))))) ⌝ }
     ensures { λ _. ⌜ now (vol .exit) ≡ storeAt y (now (vol .entry)) (along (fatEntry y (now (vol .entry))) (a .«no_fat_chain») (a .first) (a .count)) at (replicate n 0) ⌝ }
 {
     let steps = (at / y.size) as u32;

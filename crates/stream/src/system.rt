@@ -24,12 +24,9 @@ fn run_system_cause(map: &[u8], first: u32, n: u32) -> u32
 
 // What refuses n clusters of a stream: a system cluster among them.
 pub fn system_cause(vol: &[u8], map: &[u8], y: Layout, run: bool, first: u32, n: u32) -> u32
-    requires { ⌜ Laid y × ((length (now vol) ≡ y .len) × ((y .count ≤ 8 * length (now map)) × (every (inHeap (y .count)) (along (fatEntry y (now vol)) run first n) ≡ true))) ⌝ }
+    requires { ⌜ Laid y × ((length (now vol) ≡ y .len) × ((y .count ≤ 8 * length (now map)) × ((every (inHeap (y .count)) (along (fatEntry y (now vol)) run first n) ≡ true) × (1 ≤ n)))) ⌝ }
     ensures { λ r. ⌜ r ≡ systemCause (now (map .entry)) (along (fatEntry y (now (vol .entry))) run first n) ⌝ }
 {
-    if n == 0 {
-        return 0;
-    }
     if run {
         return run_system_cause(map, first, n);
     }

@@ -6,9 +6,9 @@ ghost use lib.ListN.{length};
 ghost use Rattle.boot.specs.Internal.{Laid};
 ghost use Rattle.metadata.specs.Fat.{fatEntry};
 ghost use Rattle.metadata.specs.Marks.{marked};
-ghost use Rattle.metadata.specs.Internal.{pastFull};
+ghost use Rattle.metadata.specs.Internal.{firstUnmarked};
 ghost use Rattle.stream.specs.Chain.{readChain};
-ghost use Rattle.stream.specs.Internal.{after, barred, walked, walkCause};
+ghost use Rattle.stream.specs.Internal.{after, barred, walked, walkCause, chainClear, streamClear};
 ghost use Rattle.stream.specs.Stream.{runCause, readRun, checkChain, streamOf, numberOf};
 use crate::allocation::Allocation;
 use boot::layout::Layout;
@@ -27,6 +27,12 @@ pub struct Walked {
     pub last: u32,
     pub count: u32,
     pub marked: bool,
+    pub clear: bool,
+}
+
+// A record's clusters tested: what refuses it, and whether a walk of them saw that none is a system cluster.
+pub struct Tested {
+    pub number: u32,
     pub clear: bool,
 }
 
@@ -68,15 +74,6 @@ pub fn fat_chain(vol: &[u8], map: &[u8], y: Layout, root: bool, first: u32) -> W
         let v = metadata::fat::fat_entry(vol, y, k);
         all = both(all, metadata::bitmap::allocated(vol, y, k));
         clear = both(clear, !is_barred(map, y, root, k));
-        if v == 0xFFFF_FFFF {
-            return Walked {
-                number: 0,
-                last: k,
-                count: before + 1,
-                marked: all,
-                clear: clear,
-            };
-        }
         if boot::layout::in_heap(y.count, v) {
             if left == 0 {
                 return not_walked(4);
@@ -85,49 +82,52 @@ pub fn fat_chain(vol: &[u8], map: &[u8], y: Layout, root: bool, first: u32) -> W
             before += 1;
             left -= 1;
         } else {
+            if v == 0xFFFF_FFFF {
+                return Walked {
+                    number: 0,
+                    last: k,
+                    count: before + 1,
+                    marked: all,
+                    clear: clear,
+                };
+            }
             return not_walked(3);
         }
     }
 }
 
-// The first of the clusters from k on, so many being left, that is outside the heap or not in a byte of marks alone.
-fn past_marked(vol: &[u8], y: Layout, k: u32, left: u32) -> u32
+// The first of the n clusters from k that is unmarked or outside the heap; k + n where there is none.
+fn past_marked(vol: &[u8], y: Layout, k: u32, n: u32) -> u32
     requires { ⌜ Laid y × ((length (now vol) ≡ y .len) × ((2 ≤ k) × (k ≤ y .count + 2))) ⌝ }
-    ensures { λ r. ⌜ (r ≡ pastFull y (now (vol .entry)) k (min left (y .count + 2 - k))) × ((k ≤ r) × (r ≤ k + min left (y .count + 2 - k))) ⌝ }
+    ensures { λ r. ⌜ (r ≡ firstUnmarked y (now (vol .entry)) k (min n (y .count + 2 - k))) × ((k ≤ r) × (r ≤ k + min n (y .count + 2 - k))) ⌝ }
 {
     let room = y.count + 2 - k;
-    if left < room {
-        return metadata::bitmap::past_full(vol, y, k, left);
+    if n < room {
+        return metadata::bitmap::first_unmarked(vol, y, k, n);
     }
-    metadata::bitmap::past_full(vol, y, k, room)
+    metadata::bitmap::first_unmarked(vol, y, k, room)
 }
 
-// What refuses the n clusters from first as a run: the earliest outside the heap or unmarked. Bytes of marks alone are one test.
+// What refuses the n clusters from first as a run: the earliest outside the heap or unmarked.
 fn run_cause(vol: &[u8], y: Layout, first: u32, n: u32) -> u32
-    requires { ⌜ Laid y × (length (now vol) ≡ y .len) ⌝ }
+    requires { ⌜ Laid y × ((length (now vol) ≡ y .len) × (1 ≤ n)) ⌝ }
     ensures { λ r. ⌜ r ≡ runCause (y .count) (marked y (now (vol .entry))) first n ⌝ }
 {
-    let mut k = first;
-    let mut left = n;
-    while 0 < left {
-        if boot::layout::in_heap(y.count, k) {
-            if metadata::bitmap::allocated(vol, y, k) {
-                let next = past_marked(vol, y, k + 1, left - 1);
-                left -= next - k;
-                k = next;
-            } else {
-                return 6;
-            }
-        } else {
-            return 2;
+    if boot::layout::in_heap(y.count, first) {
+        let next = past_marked(vol, y, first, n);
+        if next - first == n {
+            return 0;
+        }
+        if boot::layout::in_heap(y.count, next) {
+            return 6;
         }
     }
-    0
+    2
 }
 
 // What refuses a run: its length, then its clusters.
 fn read_run(vol: &[u8], y: Layout, a: Allocation) -> u32
-    requires { ⌜ Laid y × (length (now vol) ≡ y .len) ⌝ }
+    requires { ⌜ Laid y × ((length (now vol) ≡ y .len) × (1 ≤ a .count)) ⌝ }
     ensures { λ r. ⌜ r ≡ numberOf (readRun (y .count) (marked y (now (vol .entry))) (a .first) (a .last) (a .count)) ⌝ }
 {
     if a.last as u64 + 1 != a.first as u64 + a.count as u64 {
@@ -156,29 +156,50 @@ pub fn walk_cause(w: Walked, last: u32, count: u32) -> u32
 }
 
 // What refuses a chain: its walk, then its length and last cluster, then its marks.
-fn read_chain(vol: &[u8], map: &[u8], y: Layout, a: Allocation) -> u32
+fn read_chain(vol: &[u8], map: &[u8], y: Layout, a: Allocation) -> Tested
     requires { ⌜ Laid y × ((length (now vol) ≡ y .len) × (y .count ≤ 8 * length (now map))) ⌝ }
-    ensures { λ r. ⌜ r ≡ numberOf (checkChain (marked y (now (vol .entry))) (a .last) (a .count) (readChain (y .count) (fatEntry y (now (vol .entry))) (a .first))) ⌝ }
+    ensures { λ r. ⌜ (r .number ≡ numberOf (checkChain (marked y (now (vol .entry))) (a .last) (a .count) (readChain (y .count) (fatEntry y (now (vol .entry))) (a .first)))) × (r .clear ≡ chainClear y (now (vol .entry)) (now (map .entry)) (a .first)) ⌝ }
 {
     if boot::layout::in_heap(y.count, a.first) {
         let w = fat_chain(vol, map, y, false, a.first);
-        return walk_cause(w, a.last, a.count);
+        return Tested {
+            number: walk_cause(w, a.last, a.count),
+            clear: w.clear,
+        };
     }
-    2
+    Tested {
+        number: 2,
+        clear: false,
+    }
 }
 
-// What refuses a record's clusters (Rust: `clusters`, and the test of it).
+// A record's clusters tested (Rust: `clusters`, and the test of it).
+pub fn stream_test(vol: &[u8], map: &[u8], y: Layout, a: Allocation) -> Tested
+    requires { ⌜ Laid y × ((length (now vol) ≡ y .len) × (y .count ≤ 8 * length (now map))) ⌝ }
+    ensures { λ r. ⌜ (r .number ≡ numberOf (streamOf y (now (vol .entry)) a)) × (r .clear ≡ streamClear y (now (vol .entry)) (now (map .entry)) a) ⌝ }
+{
+    if a.count == 0 {
+        return Tested {
+            number: 0,
+            clear: false,
+        };
+    }
+    if a.no_fat_chain {
+        return Tested {
+            number: read_run(vol, y, a),
+            clear: false,
+        };
+    }
+    read_chain(vol, map, y, a)
+}
+
+// What refuses a record's clusters.
 pub fn stream_cause(vol: &[u8], map: &[u8], y: Layout, a: Allocation) -> u32
     requires { ⌜ Laid y × ((length (now vol) ≡ y .len) × (y .count ≤ 8 * length (now map))) ⌝ }
     ensures { λ r. ⌜ r ≡ numberOf (streamOf y (now (vol .entry)) a) ⌝ }
 {
-    if a.count == 0 {
-        return 0;
-    }
-    if a.no_fat_chain {
-        return read_run(vol, y, a);
-    }
-    read_chain(vol, map, y, a)
+    let t = stream_test(vol, map, y, a);
+    t.number
 }
 
 // The cluster after k in a stream.

@@ -49,7 +49,7 @@ fn put_data(
     offset: u64,
     src: &[u8],
 )
-    requires { ⌜ Laid y × ((length (now vol) ≡ y .len) × (Apart y × ((numberOf (streamOf y (now vol) b) ≡ 0) × ((offset + length (now src) ≤ b .count * y .size) × Known y (now vol) b known)))) ⌝ }
+    requires { ⌜ Laid y × ((length (now vol) ≡ y .len) × (Apart y × ((numberOf (streamOf y (now vol) b) ≡ 0) × ((offset + length (now src) ≤ b .count * y .size) × (Known y (now vol) b known × (1 ≤ length (now src))))))) ⌝ }
     ensures { λ _. ⌜ now (vol .exit) ≡ withData y (now (vol .entry)) (clustersIn y (now (vol .entry)) b) valid offset (now (src .entry)) ⌝ }
 {
     file::refresh::zero_range(vol, y, b, known, valid, offset);
@@ -68,7 +68,7 @@ fn put_grown(
     src: &[u8],
     hint: u32,
 ) -> Answer
-    requires { ⌜ Laid y × ((length (now vol) ≡ y .len) × ((y .count ≤ 8 * length (now map)) × (Apart y × ((inHeap (y .count) hint ≡ true) × ((numberOf (streamOf y (now vol) b) ≡ 0) × ((lengthCause y (now vol) (now map) b len ≡ 0) × (offset + length (now src) ≤ len))))))) ⌝ }
+    requires { ⌜ Laid y × ((length (now vol) ≡ y .len) × ((y .count ≤ 8 * length (now map)) × (Apart y × ((inHeap (y .count) hint ≡ true) × ((numberOf (streamOf y (now vol) b) ≡ 0) × ((lengthCause y (now vol) (now map) b len ≡ 0) × ((offset + length (now src) ≤ len) × (1 ≤ length (now src))))))))) ⌝ }
     ensures { λ r. ⌜ (let o = extendIn y (now (vol .entry)) (now (map .entry)) b (missing y b len) hint in (r ≡ o .answer) × (now (vol .exit) ≡ withData y (o .volume) (clustersIn y (o .volume) (r .allocation)) valid offset (now (src .entry)))) ⌝ }
 {
     let r = file::refresh::grow_to(vol, map, y, b, len, hint);

@@ -273,10 +273,10 @@ module _ (y : Layout) (d : List ℕ) (a : Allocation) (keep : ℕ) (l : Laid y) 
       ∙ drop-append-seam (keptOf y d a keep) (freedOf y d a keep)
 
   -- 9 among them, as the code asks for it
-  pub freed-cause : (m : List ℕ) (k : ℕ) → k ≡ reached (fatEntry y d) (a .«no_fat_chain») (a .first) keep
+  pub freed-system : (m : List ℕ) (k : ℕ) → k ≡ reached (fatEntry y d) (a .«no_fat_chain») (a .first) keep
       → systemCause m (along (fatEntry y d) (a .«no_fat_chain») k (a .count - keep)) ≡ systemCause m (drop keep (clustersIn y d a))
   unfolding clustersIn
-  freed-cause m k n = rw n (ap (systemCause m) (sym freed-is))
+  freed-system m k n = rw n (ap (systemCause m) (sym freed-is))
 
   whole-heap : every (inHeap (y .count)) (keptOf y d a keep ++ freedOf y d a keep) ≡ true
   whole-heap = ap (every (inHeap (y .count))) (sym parts) ∙ stream-read y d a e .heap

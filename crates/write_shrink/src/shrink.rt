@@ -7,7 +7,7 @@ ghost use Rattle.tables.specs.Lists.{every, lastOr, Distinct};
 ghost use Rattle.boot.specs.Internal.{Laid, Apart};
 ghost use Rattle.boot.specs.Layout.{inHeap};
 ghost use Rattle.metadata.specs.Fat.{fatEntry};
-ghost use Rattle.stream.specs.Stream.{numberOf, streamOf, clustersIn};
+ghost use Rattle.stream.specs.Stream.{numberOf, streamOf, clustersIn, systemCause};
 ghost use Rattle.stream.specs.Internal.{along};
 ghost use Rattle.write_shrink.specs.Internal.{keptPart, partRecord};
 ghost use Rattle.write_shrink.specs.Shrink.{freeAll, endKept, shrinkIn, shrinkClusters};
@@ -106,19 +106,39 @@ pub fn kept_record(first: u32, keep: u32, part: Kept) -> Allocation
     }
 }
 
+// What refuses to free n clusters of a stream: a system cluster among them, which a walk may have seen that there is not.
+fn freed_cause(vol: &[u8], map: &[u8], y: Layout, run: bool, first: u32, n: u32, clear: bool) -> u32
+    requires { ⌜ Laid y × ((length (now vol) ≡ y .len) × ((y .count ≤ 8 * length (now map)) × ((every (inHeap (y .count)) (along (fatEntry y (now vol)) run first n) ≡ true) × ((1 ≤ n) × (clear ≡ true → systemCause (now map) (along (fatEntry y (now vol)) run first n) ≡ 0))))) ⌝ }
+    ensures { λ r. ⌜ r ≡ systemCause (now (map .entry)) (along (fatEntry y (now (vol .entry))) run first n) ⌝ }
+{
+    if clear {
+        return 0;
+    }
+    stream::system::system_cause(vol, map, y, run, first, n)
+}
+
 // Shrinks a record that is not refused: 9, or the cut.
-fn shrink_read(vol: &mut [u8], map: &[u8], y: Layout, a: Allocation, keep: u32, hint: u32) -> Answer
-    requires { ⌜ Laid y × ((length (now vol) ≡ y .len) × ((y .count ≤ 8 * length (now map)) × (Apart y × ((keep < a .count) × ((inHeap (y .count) hint ≡ true) × (numberOf (streamOf y (now vol) a) ≡ 0)))))) ⌝ }
+fn shrink_read(
+    vol: &mut [u8],
+    map: &[u8],
+    y: Layout,
+    a: Allocation,
+    keep: u32,
+    clear: bool,
+    hint: u32,
+) -> Answer
+    requires { ⌜ Laid y × ((length (now vol) ≡ y .len) × ((y .count ≤ 8 * length (now map)) × (Apart y × ((keep < a .count) × ((inHeap (y .count) hint ≡ true) × ((numberOf (streamOf y (now vol) a) ≡ 0) × (clear ≡ true → systemCause (now map) (clustersIn y (now vol) a) ≡ 0))))))) ⌝ }
     ensures { λ r. ⌜ (let o = shrinkIn y (now (vol .entry)) (now (map .entry)) a keep hint in (r ≡ o .answer) × (now (vol .exit) ≡ o .volume)) ⌝ }
 {
     let part = kept_part(vol, y, a.no_fat_chain, a.first, keep);
-    let number = stream::system::system_cause(
+    let number = freed_cause(
         vol,
         map,
         y,
         a.no_fat_chain,
         part.next,
         a.count - keep,
+        clear,
     );
     if number != 0 {
         return Answer {
@@ -155,15 +175,15 @@ pub fn shrink_in(
                 hint: hint,
             };
         }
-        let number = stream::walk::stream_cause(vol, map, y, a);
-        if number != 0 {
+        let t = stream::walk::stream_test(vol, map, y, a);
+        if t.number != 0 {
             return Answer {
-                number: number,
+                number: t.number,
                 allocation: a,
                 hint: hint,
             };
         }
-        return shrink_read(vol, map, y, a, keep, hint);
+        return shrink_read(vol, map, y, a, keep, t.clear, hint);
     }
     Answer {
         number: 2,

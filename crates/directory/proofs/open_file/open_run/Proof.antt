@@ -31,7 +31,7 @@ system-cause-requires c κs =
     let a = c .before .before .before .before .args in
     let p = c .before .before .before .before .pre in
     let s = c .before .stream-cause in
-    (p .0, (p .1 .0, (p .1 .1 .0, along-heap (a .y) (a .vol .now) (record { first = a .first; last = a .first + a .n - 1; count = a .n; «no_fat_chain» = true }) (sym (s .ensures) ∙ (omega arith)))))
+    (p .0, (p .1 .0, (p .1 .1 .0, (along-heap (a .y) (a .vol .now) (record { first = a .first; last = a .first + a .n - 1; count = a .n; «no_fat_chain» = true }) (sym (s .ensures) ∙ (omega arith)), omega arith))))
 
 not-opened-requires-2 : tie.Need-not-opened-requires-2
 not-opened-requires-2 c κs = search needs

@@ -16,7 +16,7 @@ sub-fill c = search needs
 fill-requires : tie.Need-fill-requires
 fill-requires c κs =
     let p = c .before .before .before .pre in
-    (p .0, (p .1 .0, (along-heap _ _ _ (p .1 .1 .1 .0), (omega arith, (p .1 .1 .0, p .1 .1 .1 .1 .1)))))
+    (p .0, (p .1 .0, (along-heap _ _ _ (p .1 .1 .1 .0), (omega arith, (p .1 .1 .0, (p .1 .1 .1 .1 .1, omega arith))))))
 
 same-length : tie.Need-same-length
 same-length c = search needs

@@ -17,7 +17,7 @@ seek-from-requires : tie.Need-seek-from-requires
 seek-from-requires c κs =
     let p = c .before .before .before .pre in
     let s = sought _ _ _ _ _ (c .before .before .before .args .at) (c .before .before .before .args .n) (p .0) (p .1 .0) (p .1 .1 .0) (p .1 .1 .1 .0) in
-    (p .0, (p .1 .0, (s .before, p .1 .1 .1 .1 .1)))
+    (p .0, (p .1 .0, (s .before, p .1 .1 .1 .1 .1 .0)))
 
 sub-fill-from : tie.Need-sub-fill-from
 sub-fill-from c =
@@ -32,7 +32,7 @@ fill-from-requires : tie.Need-fill-from-requires
 fill-from-requires c κs =
     let p = c .before .before .before .before .before .before .before .pre in
     let s = sought _ _ _ _ _ (c .before .before .before .before .before .before .before .args .at) (c .before .before .before .before .before .before .before .args .n) (p .0) (p .1 .0) (p .1 .1 .0) (p .1 .1 .1 .0) in
-    (p .0, (p .1 .0, (rw (c .before .before .before .seek-from .ensures) (s .heap), (s .place, (s .room, p .1 .1 .1 .1 .0)))))
+    (p .0, (p .1 .0, (rw (c .before .before .before .seek-from .ensures) (s .heap), (s .place, (s .room, (p .1 .1 .1 .1 .0, p .1 .1 .1 .1 .1 .1))))))
 
 same-length : tie.Need-same-length
 same-length c = search needs

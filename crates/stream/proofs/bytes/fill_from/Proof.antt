@@ -10,59 +10,54 @@ use Rattle.metadata.specs.Fat.{fatEntry}
 use Rattle.metadata.proofs.Frame.{Fits}
 use Rattle.stream.specs.Internal.{along}
 use Rattle.stream.specs.Bytes.{storeAt}
-use Rattle.stream.proofs.BytesSteps.{store-empty}
 use Rattle.stream.proofs.RowLaws.{run-first, run-inside, store-run}
 use Rattle.stream.proofs.bytes.fill_from.Statement.{statement}
 use Rattle.stream.proofs.bytes.fill_from.Tie as tie
 
-returns : tie.Need-returns
-returns c = sym (store-empty _ _ _ _ _ (omega (arith, length-replicate {A = ℕ} (c .before .before .args .n) 0)))
-
 put-zeros-requires : tie.Need-put-zeros-requires
 put-zeros-requires c κs =
-    let p = c .before .before .before .before .pre in
-    let a = c .before .before .before .before .args in
-    let w : Fits (a .y) (a .vol .now) = record { laid = p .0; apart = p .1 .1 .1 .1 .1; long = p .1 .0 } in
-    let r = c .before .if2 .taken in
+    let p = c .before .before .before .pre in
+    let a = c .before .before .before .args in
+    let w : Fits (a .y) (a .vol .now) = record { laid = p .0; apart = p .1 .1 .1 .1 .1 .0; long = p .1 .0 } in
+    let r = c .before .if1 .taken in
     let f = run-first (a .y) (a .vol .now) w (a .run) r (a .first) (a .count) (p .1 .1 .0) (a .at) (a .n) (p .1 .1 .1 .0) (omega arith) (p .1 .1 .1 .1 .0) in
     (p .0, (p .1 .0, (f .0, (f .1, run-inside (a .y) (a .vol .now) w (a .run) r (a .first) (a .count) (p .1 .1 .0) (a .at) (a .n) (p .1 .1 .1 .0) (omega arith) (p .1 .1 .1 .1 .0)))))
 
 fill-chain-requires : tie.Need-fill-chain-requires
 fill-chain-requires c κs =
-    let p = c .before .before .before .before .pre in
-    let a = c .before .before .before .before .args in
-    let r = c .before .if2 .left in
-    (p .0, (p .1 .0, (ap (λ (b : Bool). every (inHeap (a .y .count)) (along (fatEntry (a .y) (a .vol .now)) b (a .first) (a .count))) (sym r) ∙ p .1 .1 .0, p .1 .1 .1)))
+    let p = c .before .before .before .pre in
+    let a = c .before .before .before .args in
+    let r = c .before .if1 .left in
+    (p .0, (p .1 .0, (ap (λ (b : Bool). every (inHeap (a .y .count)) (along (fatEntry (a .y) (a .vol .now)) b (a .first) (a .count))) (sym r) ∙ p .1 .1 .0, (p .1 .1 .1 .0, (p .1 .1 .1 .1 .0, p .1 .1 .1 .1 .1 .0)))))
 
 same-length : tie.Need-same-length
 same-length c = search needs
 
-returns-2 : tie.Need-returns-2
-returns-2 c =
-    let p = c .before .before .before .before .before .before .before .pre in
-    let a = c .before .before .before .before .before .before .before .args in
-    let w : Fits (a .y) (a .vol .now) = record { laid = p .0; apart = p .1 .1 .1 .1 .1; long = p .1 .0 } in
-    let r = c .before .before .before .before .if2 .taken in
+returns : tie.Need-returns
+returns c =
+    let p = c .before .before .before .before .before .before .pre in
+    let a = c .before .before .before .before .before .before .args in
+    let w : Fits (a .y) (a .vol .now) = record { laid = p .0; apart = p .1 .1 .1 .1 .1 .0; long = p .1 .0 } in
+    let r = c .before .before .before .before .if1 .taken in
     c .before .before .put-zeros .ensures
     ∙ sym (store-run (a .y) (a .vol .now) w (a .run) r (a .first) (a .count) (p .1 .1 .0) (a .at) (a .n) (p .1 .1 .1 .0) (omega arith) (p .1 .1 .1 .1 .0) (replicate (a .n) 0) (length-replicate {A = ℕ} (a .n) 0))
 
 same-length-2 : tie.Need-same-length-2
 same-length-2 c = search needs
 
-returns-3 : tie.Need-returns-3
-returns-3 c =
-    let a = c .before .before .before .before .before .before .before .args in
-    let r = c .before .before .before .before .if2 .left in
+returns-2 : tie.Need-returns-2
+returns-2 c =
+    let a = c .before .before .before .before .before .before .args in
+    let r = c .before .before .before .before .if1 .left in
     c .before .before .fill-chain .ensures ∙ ap (λ (b : Bool). storeAt (a .y) (a .vol .now) (along (fatEntry (a .y) (a .vol .now)) b (a .first) (a .count)) (a .at) (replicate (a .n) 0)) (sym r)
 
 pub fill-from-spec : {M : Type 1} → statement M
 fill-from-spec =
     tie.close
     (tie.spec
-    returns
     put-zeros-requires
     fill-chain-requires
     same-length
-    returns-2
+    returns
     same-length-2
-    returns-3)
+    returns-2)

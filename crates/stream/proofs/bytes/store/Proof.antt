@@ -22,7 +22,7 @@ seek-from-requires : tie.Need-seek-from-requires
 seek-from-requires c κs =
     let p = c .before .before .before .before .pre in
     let s = sought _ _ _ _ _ (c .before .before .before .before .args .at) (length (c .before .before .before .before .args .src .now)) (p .0) (p .1 .0) (p .1 .1 .0) (p .1 .1 .1 .0) in
-    (p .0, (p .1 .0, (s .before, p .1 .1 .1 .1 .1)))
+    (p .0, (p .1 .0, (s .before, p .1 .1 .1 .1 .1 .0)))
 
 sub-store-from : tie.Need-sub-store-from
 sub-store-from c =
@@ -37,7 +37,7 @@ store-from-requires : tie.Need-store-from-requires
 store-from-requires c κs =
     let p = c .before .before .before .before .before .before .before .before .pre in
     let s = sought _ _ _ _ _ (c .before .before .before .before .before .before .before .before .args .at) (length (c .before .before .before .before .before .before .before .before .args .src .now)) (p .0) (p .1 .0) (p .1 .1 .0) (p .1 .1 .1 .0) in
-    (p .0, (p .1 .0, (rw (c .before .before .before .seek-from .ensures) (s .heap), (s .place, (s .room, p .1 .1 .1 .1 .0)))))
+    (p .0, (p .1 .0, (rw (c .before .before .before .seek-from .ensures) (s .heap), (s .place, (s .room, (p .1 .1 .1 .1 .0, p .1 .1 .1 .1 .1 .1))))))
 
 same-length : tie.Need-same-length
 same-length c = search needs

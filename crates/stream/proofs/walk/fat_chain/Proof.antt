@@ -39,22 +39,18 @@ is-barred-requires c κs = search needs
 both-requires-2 : tie.Need-both-requires-2 Inv-loop μ-loop
 both-requires-2 c κs = search needs
 
-add-t14 : tie.Need-add-t14 Inv-loop μ-loop
-add-t14 c = omega arith
-
-returns : tie.Need-returns Inv-loop μ-loop
-returns c = (cc) ∙ (sym (walk-end _ _ _ _ _ _ _ _ _ (cc)) ∙ c .before .before .before .before .before .before .loop .inv .1 .1 .1)
-
 in-heap-requires : tie.Need-in-heap-requires Inv-loop μ-loop
 in-heap-requires c κs = search needs
 
 not-walked-requires : tie.Need-not-walked-requires Inv-loop μ-loop
 not-walked-requires c κs = search needs
 
-returns-2 : tie.Need-returns-2 Inv-loop μ-loop
-returns-2 c =
-    c .not-walked .ensures
-    ∙ (sym (walk-over _ _ _ _ _ _ _ _ _ (omega arith) (λ z. omega arith) (cc)) ∙ c .before .before .before .before .before .before .before .before .before .before .loop .inv .1 .1 .1)
+-- a cluster of the heap is not the end mark
+returns : tie.Need-returns Inv-loop μ-loop
+returns c =
+    let v = c .before .before .before .before .before .before .before .before .fat-entry .result in
+    let h = in-heap (c .before .before .before .before .before .before .before .before .before .before .before .before .before .args .y .count) v (cc) in
+    c .not-walked .ensures ∙ (sym (walk-over _ _ _ _ _ _ _ _ _ (omega arith) (λ z. omega arith) (cc)) ∙ c .before .before .before .before .before .before .before .before .before .loop .inv .1 .1 .1)
 
 add-before : tie.Need-add-before Inv-loop μ-loop
 add-before c = omega arith
@@ -67,18 +63,22 @@ loop-less c = omega arith
 
 loop-again : tie.Need-loop-again Inv-loop μ-loop
 loop-again c =
-    let v = c .before .before .before .before .before .before .before .before .fat-entry .result in
-    let h = in-heap (c .before .before .before .before .before .before .before .before .before .before .before .before .before .args .y .count) v (cc) in
-    let i = c .before .before .before .before .before .before .before .before .before .loop .inv .1 .1 .1 in
+    let v = c .before .before .before .before .before .before .before .fat-entry .result in
+    let h = in-heap (c .before .before .before .before .before .before .before .before .before .before .before .before .args .y .count) v (cc) in
+    let i = c .before .before .before .before .before .before .before .before .loop .inv .1 .1 .1 in
     (h .0, (h .1, (omega arith, (cc) ∙ (sym (walk-more _ _ _ _ _ _ _ _ _ (λ z. omega arith) (λ z. omega arith) (cc)) ∙ i))))
+
+add-t17 : tie.Need-add-t17 Inv-loop μ-loop
+add-t17 c = omega arith
+
+returns-2 : tie.Need-returns-2 Inv-loop μ-loop
+returns-2 c = (cc) ∙ (sym (walk-end _ _ _ _ _ _ _ _ _ (cc)) ∙ c .before .before .before .before .before .before .before .before .loop .inv .1 .1 .1)
 
 not-walked-requires-2 : tie.Need-not-walked-requires-2 Inv-loop μ-loop
 not-walked-requires-2 c κs = search needs
 
 returns-3 : tie.Need-returns-3 Inv-loop μ-loop
-returns-3 c =
-    c .not-walked2 .ensures
-    ∙ (sym (walk-wrong _ _ _ _ _ _ _ _ _ (λ z. omega arith) (cc)) ∙ c .before .before .before .before .before .before .before .before .before .loop .inv .1 .1 .1)
+returns-3 c = c .not-walked2 .ensures ∙ (sym (walk-wrong _ _ _ _ _ _ _ _ _ (λ z. omega arith) (cc)) ∙ c .before .before .before .before .before .before .before .before .before .loop .inv .1 .1 .1)
 
 pub fat-chain-spec : {M : Type 1} → statement M
 fat-chain-spec =
@@ -93,14 +93,14 @@ fat-chain-spec =
     both-requires
     is-barred-requires
     both-requires-2
-    add-t14
-    returns
     in-heap-requires
     not-walked-requires
-    returns-2
+    returns
     add-before
     sub-left-2
     loop-less
     loop-again
+    add-t17
+    returns-2
     not-walked-requires-2
     returns-3)

@@ -1,6 +1,9 @@
-use mathlib.Core.Path.{sym, _∙_}
+use mathlib.Core.Path.{_≡_, sym, _∙_, ap}
 use Rattle.boot.proofs.Apart.{in-heap}
+use Rattle.stream.specs.declared.walk.Walked.{Walked}
+use Rattle.stream.specs.Internal.{chainClear}
 use Rattle.stream.proofs.ChainLaws.{chain-number, chain-out-number}
+use Rattle.stream.proofs.ClearLaws.{chain-out-clear}
 use borrow.Author.Needs.{needs}
 use Rattle.stream.proofs.walk.read_chain.Statement.{statement}
 use Rattle.stream.proofs.walk.read_chain.Tie as tie
@@ -17,10 +20,14 @@ walk-cause-requires : tie.Need-walk-cause-requires
 walk-cause-requires c κs = search needs
 
 returns : tie.Need-returns
-returns c = (cc) ∙ chain-number _ _ _ _ _ _ _ _ (sym (c .before .before .before .in-heap .ensures) ∙ c .before .before .if1 .taken) (c .before .fat-chain .ensures)
+unfolding chainClear
+returns c =
+    let h = sym (c .before .before .before .in-heap .ensures) ∙ c .before .before .if1 .taken in
+    let w = c .before .fat-chain in
+    (c .walk-cause .ensures ∙ chain-number _ _ _ _ _ _ _ _ h (w .ensures), ap (λ (v : Walked). v .clear) (w .ensures))
 
 returns-2 : tie.Need-returns-2
-returns-2 c = sym (chain-out-number _ _ _ _ _ _ (cc))
+returns-2 c = (sym (chain-out-number _ _ _ _ _ _ (cc)), sym (chain-out-clear _ _ _ _ (cc)))
 
 pub read-chain-spec : {M : Type 1} → statement M
 read-chain-spec =

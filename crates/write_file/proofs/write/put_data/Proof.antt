@@ -12,14 +12,14 @@ use Rattle.write_file.proofs.write.put_data.Tie as tie
 zero-range-requires : tie.Need-zero-range-requires
 zero-range-requires c κs =
     let p = c .before .before .before .pre in
-    (p .0, (p .1 .0, (p .1 .1 .0, (p .1 .1 .1 .0, (omega arith, p .1 .1 .1 .1 .1)))))
+    (p .0, (p .1 .0, (p .1 .1 .0, (p .1 .1 .1 .0, (omega arith, p .1 .1 .1 .1 .1 .0)))))
 
 store-requires : tie.Need-store-requires
 store-requires c κs =
     let a = c .before .before .before .before .before .before .before .args in
     let p = c .before .before .before .before .before .before .before .pre in
     let w : Fits (a .y) (a .vol .now) = record { laid = p .0; apart = p .1 .1 .0; long = p .1 .0 } in
-    (p .0, (omega arith, (stored-heap (a .y) (a .vol .now) w (a .b) (p .1 .1 .1 .0) (a .valid) (replicate (a .offset - a .valid) 0) _ (c .before .before .before .zero-range .ensures), (p .1 .1 .1 .1 .0, (p .1 .1 .0, stored-known (a .y) (a .vol .now) w (a .b) (p .1 .1 .1 .0) (a .valid) (replicate (a .offset - a .valid) 0) _ (c .before .before .before .zero-range .ensures) (a .known) (p .1 .1 .1 .1 .1))))))
+    (p .0, (omega arith, (stored-heap (a .y) (a .vol .now) w (a .b) (p .1 .1 .1 .0) (a .valid) (replicate (a .offset - a .valid) 0) _ (c .before .before .before .zero-range .ensures), (p .1 .1 .1 .1 .0, (p .1 .1 .0, (stored-known (a .y) (a .vol .now) w (a .b) (p .1 .1 .1 .0) (a .valid) (replicate (a .offset - a .valid) 0) _ (c .before .before .before .zero-range .ensures) (a .known) (p .1 .1 .1 .1 .1 .0), p .1 .1 .1 .1 .1 .1))))))
 
 same-length : tie.Need-same-length
 same-length c = search needs

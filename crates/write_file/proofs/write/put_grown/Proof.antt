@@ -22,7 +22,7 @@ put-data-requires c κs =
     let p = c .before .before .before .before .before .before .before .before .before .pre in
     let g = c .before .before .before .before .grow-to in
     let k = c .before .known-place in
-    (p .0, (omega arith, (p .1 .1 .1 .0, (g .ensures .1 .1 .0, (omega (arith, g .ensures .1 .1 .1 .0, p .1 .1 .1 .1 .1 .1 .1), rw (k .ensures) (g .ensures .1 .1 .1 .1))))))
+    (p .0, (omega arith, (p .1 .1 .1 .0, (g .ensures .1 .1 .0, (omega (arith, g .ensures .1 .1 .1 .0, p .1 .1 .1 .1 .1 .1 .1 .0), (rw (k .ensures) (g .ensures .1 .1 .1 .1), p .1 .1 .1 .1 .1 .1 .1 .1))))))
 
 same-length : tie.Need-same-length
 same-length c = search needs
