@@ -61,6 +61,12 @@ module _ (bs : List ℕ) where
   unfolding typeAt
   byte-not at n q h e = before-not (at / 32) n (omega arith) (ap (λ (x : ℕ). getD bs x 0) q ∙ e)
 
+  pub byte-last : (at n : ℕ) → 32 * (at / 32) ≡ at → at + 32 ≡ 32 * n → beforeEnd bs (at / 32) ≡ true → not (eqb (getD bs at 0) 0) ≡ beforeEnd bs n
+  unfolding typeAt
+  byte-last at n q h e =
+      let z : n ≡ suc (at / 32) = omega arith in
+      sym (ap (beforeEnd bs) z ∙ before-suc (at / 32) ∙ rw (e, q) refl)
+
 -- ---- of two lists joined
 
 module _ (xs ys : List ℕ) where

@@ -23,9 +23,9 @@ pub struct Cursor {
 }
 
 // An entry by its slot, and where it stands.
-pub struct Tail {
-    pub slot: u32,
-    pub entry: Cursor,
+struct Tail {
+    slot: u32,
+    entry: Cursor,
 }
 
 // Where a new set goes: its slot, and the clusters that the directory grows by for it.
@@ -77,18 +77,25 @@ pub fn entry_count(vol: &[u8], y: Layout, dir: Allocation) -> u32
     dir.count * ((y.size / 32) as u32)
 }
 
-// Whether none of the first n entries of a part has type 0.
+// Whether none of the first n entries of a part has type 0. Two entries a step: one step for each would cost up to twice as much where
+// the compiler lays its few bytes across a border of the processor's instruction cache.
 fn none_ends(part: &[u8], n: u32) -> bool
     requires { ⌜ (32 * n ≤ length (now part)) × (n ≤ 1024) ⌝ }
     ensures { λ r. ⌜ r ≡ beforeEnd (now (part .entry)) n ⌝ }
 {
     let end = 32 * (n as usize);
     let mut at: usize = 0;
-    while at < end {
+    while at + 32 < end {
         if part[at] == 0 {
             return false;
         }
-        at += 32;
+        if part[at + 32] == 0 {
+            return false;
+        }
+        at += 64;
+    }
+    if at < end {
+        return part[at] != 0;
     }
     true
 }
