@@ -1,17 +1,17 @@
 -- Where the limits hold, the geometry's facts hold. Assumes nothing.
-use mathlib.Core.Path.{_≡_, refl, sym, _∙_, ap}
+use mathlib.Core.Path.{_≡_, refl}
 use mathlib.Core.Logic.{_⊎_, inl, inr}
-use mathlib.Core.Bool.{Bool, true, false, _&&_, _||_, false≢true}
+use mathlib.Core.Bool.{Bool, true, false, _&&_, false≢true}
 use mathlib.Core.List.{List}
-use Prim.Native.Nat.{ℕ, zero, suc, _+_, _-_, _*_, _≤_, _<_}
+use Prim.Native.Nat.{ℕ, _+_, _-_, _≤_}
 use native.Mathlib.Omega.{arith}
-use lib.Dec.{leb, eqb}
+use lib.Dec.{leb}
 use lib.ListN.{length}
 use borrow.Author.Tests.{leb-true, eqb-true, ne-eqb}
 use Rattle.boot.specs.declared.geometry.Geometry.{Geometry}
 use Rattle.boot.specs.Geometry.{numberOfFats, clusterCount, bitmap0, bitmap1, bitmapBytes, bitmapClusters}
 use Rattle.boot.specs.Limits.{all, shapeTests, roomTests, mapTests, allInMap, runInMap, apart, secondBitmap, limits}
-use Rattle.boot.specs.Internal.{Shape, RoomFacts, Bitmaps, Accepted}
+use Rattle.boot.specs.Internal.{Bitmaps, Accepted}
 use Rattle.tables.proofs.Cases.{and-left, and-right}
 use Rattle.boot.proofs.Tests.{each-of}
 use Rattle.boot.proofs.Limits.{shape-of, room-of}

@@ -1,21 +1,21 @@
 -- The regions of a layout are apart: FATs, bitmaps, and clusters that are no bitmap's. Assumes nothing.
 use mathlib.Core.Path.{_≡_, refl, sym, _∙_, ap, subst}
 use mathlib.Core.Logic.{_≢_, _⊎_, inl, inr, ⊎-elim}
-use mathlib.Core.Bool.{Bool, true, false, _&&_, _||_, false≢true}
-use Prim.Native.Nat.{ℕ, zero, suc, _+_, _-_, _*_, _/_, _≤_, _<_}
+use mathlib.Core.Bool.{Bool, true, false, _||_, false≢true}
+use Prim.Native.Nat.{ℕ, zero, suc, _+_, _-_, _*_, _≤_, _<_}
 use native.Mathlib.Decide.{decLt}
 use native.Mathlib.Nat.{add-mul, mul-le-mul-right}
 use native.Mathlib.Omega.{arith}
 use lib.Dec.{eqb, leb, ltb}
-use borrow.Author.Tests.{eqb-true, eqb-false, leb-true, ltb-true, le-leb, lt-ltb, lt-leb, le-ltb}
+use borrow.Author.Tests.{eqb-true, leb-true, ltb-true, le-leb, lt-ltb}
 use Rattle.tables.proofs.Cases.{not-so, bool-ext, and-left, and-right, and-both}
 use Rattle.boot.specs.declared.geometry.Geometry.{Geometry}
 use Rattle.boot.specs.declared.layout.Layout.{Layout}
-use Rattle.boot.specs.Geometry.{numberOfFats, activeFat, clusterCount, bitmap0, bitmap1, clusterSize, bitmapBytes, bitmapClusters}
-use Rattle.boot.specs.Internal.{Shape, Bitmaps, Accepted, Laid, Apart}
+use Rattle.boot.specs.Geometry.{numberOfFats, activeFat, clusterCount, bitmap0, bitmap1, bitmapBytes, bitmapClusters}
+use Rattle.boot.specs.Internal.{Accepted, Laid, Apart}
 use Rattle.boot.specs.Layout.{fatStart, clusterStart, bitmapFirst, layoutOf, clusterAt, inHeap, inRun, isBitmapCluster}
 use Rattle.boot.proofs.Clusters.{mul-step}
-use Rattle.boot.proofs.Places.{first-zero, first-suc, first-low, first-high, fat-heap, fat-fat, bytes-le}
+use Rattle.boot.proofs.Places.{first-zero, first-suc, first-low, fat-heap, fat-fat, bytes-le}
 
 -- ---- a geometry that keeps the limits has such a layout
 
@@ -95,9 +95,6 @@ in-heap count k e = let f = run-facts 2 count k e in (f .0, omega arith)
 pub heap-in : (count k : ℕ) → 2 ≤ k → k < count + 2 → inHeap count k ≡ true
 unfolding inHeap
 heap-in count k l h = run-true 2 count k l (omega arith)
-
-pub heap-out : (count k : ℕ) → ((2 ≤ k) × (k < count + 2) → ⊥) → inHeap count k ≡ false
-heap-out count k h = not-so (inHeap count k) (λ e. h (in-heap count k e))
 
 -- a cluster of either bitmap
 pub bitmap-first : (y : Layout) (k : ℕ) → inRun (y .first0) (y .span) k ≡ true → isBitmapCluster y k ≡ true

@@ -1,9 +1,8 @@
 -- The places of clusters: the one product with the cluster size is here, and `clusterAt` stays shut elsewhere. Assumes nothing.
-use Prim.Native.Nat.{ℕ, zero, suc, _+_, _-_, _*_, _≤_, _<_}
+use Prim.Native.Nat.{ℕ, suc, _+_, _-_, _*_, _≤_, _<_}
 use native.Mathlib.Omega.{arith}
 use native.Mathlib.Nat.{suc-mul, mul-le-mul-right}
 use Rattle.boot.specs.declared.layout.Layout.{Layout}
-use Rattle.boot.specs.Layout.{clusterAt}
 use Rattle.boot.specs.Internal.{Laid}
 
 -- rows of s do not overlap

@@ -1,12 +1,12 @@
 -- The tests of the limits and the facts that they say. Assumes nothing.
-use Prim.Native.Nat.{ℕ, zero, suc, _+_, _-_, _*_, _^_, _≤_, _<_}
+use Prim.Native.Nat.{ℕ, zero, suc, _+_, _-_, _≤_, _<_}
 use mathlib.Core.List.{List}
-use mathlib.Core.Path.{_≡_, refl, sym, _∙_, ap}
-use mathlib.Core.Bool.{Bool, true, false, _&&_, _||_}
+use mathlib.Core.Path.{_≡_, refl}
+use mathlib.Core.Bool.{Bool, true, false, _&&_}
 use native.Mathlib.Omega.{arith}
-use borrow.Author.Tests.{lt-ltb, le-leb, lt-leb, ltb-true, leb-true, eqb-true, eq-eqb, ne-eqb}
+use borrow.Author.Tests.{lt-ltb, le-leb, lt-leb, ltb-true, leb-true, eq-eqb, ne-eqb}
 use Rattle.boot.specs.declared.geometry.Geometry.{Geometry}
-use Rattle.boot.specs.Geometry.{sectorShift, clusterShift, fatOffset, fatLength, numberOfFats, activeFat, clusterHeapOffset, clusterCount, bitmap0, bitmap1, sectorSize, clusterSize, bitmapBytes, bitmapClusters}
+use Rattle.boot.specs.Geometry.{numberOfFats, clusterCount, bitmap0, bitmap1, bitmapBytes, bitmapClusters}
 use Rattle.boot.specs.Limits.{all, shapeTests, roomTests, mapTests, inMap, allInMap, runInMap, apart, secondBitmap, limits}
 use Rattle.boot.specs.Internal.{Shape, RoomFacts}
 use Rattle.tables.proofs.Cases.{not-so, and-true}

@@ -1,18 +1,14 @@
 -- The places of a geometry that keeps the limits lie in the volume, and its regions are apart. Assumes nothing.
 use mathlib.Core.Path.{_≡_, refl, sym, _∙_, ap}
-use mathlib.Core.Logic.{_⊎_, inl, inr, ⊎-elim}
-use mathlib.Core.Bool.{Bool, true, false}
-use Prim.Native.Nat.{ℕ, zero, suc, _+_, _-_, _*_, _/_, _%_, _^_, _≤_, _<_}
+use Prim.Native.Nat.{ℕ, zero, suc, _+_, _-_, _*_, _/_, _^_, _≤_, _<_}
 use native.Mathlib.Omega.{arith}
 use native.Mathlib.Nat.{mul-le-mul-right, add-mul, one-mul, div-add-mod', mod-lt}
-use lib.Dec.{eqb}
 use lib.Pow.{pow-pos, pow-mono, pow-add}
-use borrow.Author.Tests.{eqb-true, eq-eqb, ne-eqb}
+use borrow.Author.Tests.{ne-eqb}
 use Rattle.boot.specs.declared.geometry.Geometry.{Geometry}
-use Rattle.boot.specs.declared.layout.Layout.{Layout}
 use Rattle.boot.specs.Geometry.{sectorShift, clusterShift, fatOffset, fatLength, numberOfFats, activeFat, clusterHeapOffset, clusterCount, bitmap0, bitmap1, sectorSize, clusterSize, bitmapBytes, bitmapClusters}
-use Rattle.boot.specs.Internal.{Shape, RoomFacts, Bitmaps, Accepted, Laid}
-use Rattle.boot.specs.Layout.{fatStart, clusterStart, bitmapFirst, layoutOf, clusterAt}
+use Rattle.boot.specs.Internal.{Accepted, Laid}
+use Rattle.boot.specs.Layout.{fatStart, clusterStart, bitmapFirst, layoutOf}
 
 size-pos : (g : Geometry) → 1 ≤ clusterSize g
 unfolding clusterSize

@@ -1,6 +1,6 @@
 // The geometry, by value, and the test of its limits (01: number 1).
 ghost use mathlib.Core.Path.{_≡_};
-ghost use mathlib.Core.Bool.{Bool, true, false};
+ghost use mathlib.Core.Bool.{true, false};
 ghost use Prim.Native.Nat.{_+_, _-_, _*_, _/_, _^_, _≤_, _<_};
 ghost use lib.ListN.{length};
 ghost use Rattle.boot.specs.Geometry.{geometryOf, sectorSize, clusterSize, bitmapBytes, bitmapClusters};

@@ -1,6 +1,6 @@
 // Where the parts of a volume lie, in bytes: computed once from a geometry that keeps the limits. And what admits a call: its first tests.
 ghost use mathlib.Core.Path.{_≡_};
-ghost use Prim.Native.Nat.{_+_, _-_, _*_, _^_, _≤_, _<_};
+ghost use Prim.Native.Nat.{_+_, _-_, _*_, _≤_, _<_};
 ghost use Rattle.boot.specs.Internal.{Shape, Accepted, Laid, noLayout, admitted};
 ghost use Rattle.boot.specs.Layout.{fatStart, clusterStart, bitmapFirst, layoutOf, clusterAt, inHeap, inRun, isBitmapCluster};
 use crate::geometry;
@@ -68,7 +68,7 @@ fn bitmap_first(g: Geometry, i: u32) -> u32
 }
 
 // The layout of a geometry in a volume of len bytes.
-pub fn layout_of(g: Geometry, len: usize) -> Layout
+fn layout_of(g: Geometry, len: usize) -> Layout
     requires { ⌜ Accepted g len ⌝ }
     ensures { λ r. ⌜ r ≡ layoutOf g len ⌝ }
 {

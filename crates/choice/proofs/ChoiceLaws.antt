@@ -12,8 +12,8 @@ use borrow.Author.Tests.{leb-true, ltb-true, ltb-false, lt-ltb, le-ltb, le-leb, 
 use Rattle.tables.specs.Lists.{Mem, Distinct, consec}
 use Rattle.tables.specs.Count.{count, keep}
 use Rattle.tables.proofs.Cases.{clash, cond-case, and-left, and-right}
-use Rattle.tables.proofs.ListLaws.{mem-append, mem-left, mem-right, mem-take, distinct-append, distinct-take}
-use Rattle.tables.proofs.CountLaws.{count-cong, count-append, count-whole, length-keep, in-keep, keep-in, keep-distinct, keep-cong, take-whole}
+use Rattle.tables.proofs.ListLaws.{mem-append, mem-take, distinct-append, distinct-take}
+use Rattle.tables.proofs.CountLaws.{count-append, count-whole, length-keep, in-keep, keep-distinct, keep-cong, take-whole}
 use Rattle.boot.specs.Layout.{inHeap}
 use Rattle.boot.proofs.Apart.{in-heap, heap-in}
 use Rattle.search.specs.declared.found.Found.{Found}
@@ -21,7 +21,7 @@ use Rattle.search.specs.declared.found.Found.the-variants.{At, Nothing}
 use Rattle.choice.specs.declared.choice.Choice.{Choice}
 use Rattle.choice.specs.declared.choice.Choice.the-variants.{Run, Scattered, TooFew}
 use Rattle.search.specs.Search.{allFrom, runFrom}
-use Rattle.search.proofs.Lowest.{Whole, Lowest, all-whole, run-at, run-cong}
+use Rattle.search.proofs.Lowest.{Whole, Lowest, all-whole, run-at}
 use Rattle.choice.specs.Choice.{orElse, choose, around, beginOf, chosen}
 use Rattle.choice.specs.Internal.{runFits}
 
@@ -69,15 +69,6 @@ module _ (u : ℕ → Bool) where
         (λ p. let r = in-keep u start (C + 2 - start) k p in (heap-in C k (omega arith) (omega arith), r .2))
         (λ p. let r = in-keep u 2 (start - 2) k p in (heap-in C k (omega arith) (omega arith), r .2))
         (mem-append (keep u start (C + 2 - start)) m)
-
-    pub around-in : (k : ℕ) → inHeap C k ≡ true → u k ≡ true → Mem k (around u C start)
-    unfolding around
-    around-in k h e =
-        let i = in-heap C k h in
-        elim (decLt k start) [
-          | yes w ↦ mem-right (keep u start (C + 2 - start)) (keep-in u 2 (start - 2) k (i .0) (omega arith) e)
-          | no w ↦ mem-left (keep u 2 (start - 2)) (keep-in u start (C + 2 - start) k (omega arith) (omega arith) e)
-        ]
 
     pub around-distinct : Distinct (around u C start)
     unfolding around
@@ -226,15 +217,6 @@ module _ (u : ℕ → Bool) where
 
 module _ (u u′ : ℕ → Bool) where
   module _ (C n start : ℕ) (low : 2 ≤ start) (same : (k : ℕ) → inHeap C k ≡ true → u′ k ≡ u k) where
-    pub choose-cong : choose u′ C n start ≡ choose u C n start
-    unfolding choose
-    choose-cong =
-        rw (
-          run-cong u u′ (C + 2) n start (λ k a b. same k (heap-in C k (omega arith) b)),
-          run-cong u u′ (C + 2) n 2 (λ k a b. same k (heap-in C k a b)),
-          count-cong u u′ 2 C (λ k a b. same k (heap-in C k a (omega arith))),
-        ) refl
-
     pub around-cong : (b : ℕ) → 2 ≤ b → b ≤ C + 2 → around u′ C b ≡ around u C b
     unfolding around
     around-cong b l h =
@@ -242,9 +224,3 @@ module _ (u u′ : ℕ → Bool) where
           keep-cong u u′ b (C + 2 - b) (λ k a c. same k (heap-in C k (omega arith) (omega arith))),
           keep-cong u u′ 2 (b - 2) (λ k a c. same k (heap-in C k (omega arith) (omega arith))),
         ) refl
-
-    pub chosen-cong : start ≤ C + 2 → chosen u′ C n start ≡ chosen u C n start
-    unfolding chosen
-    chosen-cong high =
-        let i = begin-in u C n start low high in
-        rw choose-cong (ap (take n) (around-cong (beginOf (choose u C n start) start) (i .0) (i .1)))

@@ -1,11 +1,10 @@
 -- The first of the usable clusters around a start. Assumes nothing.
 use mathlib.Core.Path.{_≡_, refl, sym, _∙_, ap}
 use mathlib.Core.Bool.{Bool, true, false, false≢true}
-use mathlib.Core.List.{List, [], _∷_, _++_}
+use mathlib.Core.List.{List, [], _∷_}
 use Prim.Native.Nat.{ℕ, zero, suc, _+_, _-_, _≤_, _<_}
 use native.Mathlib.Decide.{ℕ-discrete, decLt}
 use native.Mathlib.Omega.{arith}
-use lib.ListN.{getD}
 use Rattle.tables.specs.Count.{count, keep}
 use Rattle.tables.proofs.Cases.{not-so}
 use Rattle.tables.proofs.CountLaws.{count-none, count-beyond}

@@ -8,7 +8,7 @@ use native.Mathlib.Nat.{mul-left-comm, div-add-mod', mod-lt, div-eq-of-lt}
 use native.Mathlib.Decide.{decLe}
 use native.Mathlib.Omega.{arith}
 use lib.Dec.{leb}
-use lib.ListN.{length, getD, take, drop, replicate}
+use lib.ListN.{getD, take, drop, replicate}
 use borrow.Author.Tests.{eq-eqb, ne-eqb, leb-true, le-leb}
 use Rattle.primitives.specs.Splice.{splice}
 use Rattle.tables.specs.Lists.{every, lastOr}

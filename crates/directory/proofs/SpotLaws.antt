@@ -22,7 +22,6 @@ use Rattle.stream.proofs.ListingLaws.{along-heap}
 use Rattle.stream.proofs.BytesSteps.{every-drop, drop-along, every-before, every-from, place-is, place-low, place-count, place-room, store-empty, store-over}
 use Rattle.stream.proofs.BytesLaws.{store-front}
 use Rattle.directory.proofs.DirectoryLaws.{clusters-along, clusters-heap, clusters-length}
-use Rattle.directory.specs.declared.spot.Spot.{Spot}
 use Rattle.directory.specs.Internal.{spotOf, spotClusters, Reaches}
 
 -- ---- a spot located

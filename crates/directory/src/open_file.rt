@@ -21,9 +21,9 @@ use stream::allocation::Allocation;
 use stream::bytes::Place;
 
 // A stream's record, or the number of what refuses it.
-pub struct Opened {
-    pub number: u32,
-    pub allocation: Allocation,
+struct Opened {
+    number: u32,
+    allocation: Allocation,
 }
 
 // A file opened (Rust: `OpenFile`): where its set stands and its stream's record, or the number of what refuses it.

@@ -1,7 +1,7 @@
 // Where a set stands in a directory: the clusters from that of its slot on.
 ghost use mathlib.Core.Path.{_≡_};
 ghost use mathlib.Core.Bool.{true};
-ghost use Prim.Native.Nat.{_+_, _-_, _*_, _≤_, _<_};
+ghost use Prim.Native.Nat.{_-_, _*_, _<_};
 ghost use lib.ListN.{length, getD};
 ghost use Rattle.tables.specs.Lists.{every};
 ghost use Rattle.boot.specs.Internal.{Laid};

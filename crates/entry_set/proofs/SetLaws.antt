@@ -13,9 +13,8 @@ use lib.ListN.{length, getD, replicate, length-set, length-replicate}
 use lib.Seq.{getD-set-same, getD-set-other}
 use Rattle.primitives.specs.Bits.{bitOf, setBit, clearBit}
 use Rattle.primitives.specs.Checksum.{checksum}
-use Rattle.primitives.specs.Words.{getLe}
 use Rattle.primitives.proofs.BitLaws.{set-other, clear-same}
-use Rattle.primitives.proofs.ChecksumLaws.{checksum-same, sealed-right}
+use Rattle.primitives.proofs.ChecksumLaws.{sealed-right}
 use Rattle.primitives.proofs.WordLaws.{get-same}
 use Rattle.boot.specs.Layout.{inHeap}
 use Rattle.tables.proofs.Cases.{and-left, and-right}
@@ -29,7 +28,7 @@ use Rattle.entry_set.specs.Sound.{wellFormed}
 use Rattle.entry_set.proofs.NameLaws.{name-length}
 use Rattle.entry_set.proofs.PutLaws.{length-modified, length-accessed, modified-off, accessed-off, length-stream, stream-off, stream-flags, stream-valid, stream-first, stream-length, length-archived, archived-off, archived-at, length-sealed, sealed-off}
 use Rattle.entry_set.proofs.NewLaws.{length-file, file-off, file-type, file-count, file-attributes, length-extension, extension-off, extension-type, extension-name, extension-flags, extension-valid, extension-first, extension-length, length-types, types-off, types-at, length-units, units-head, units-start, units-end, getD-zeros}
-use Rattle.entry_set.proofs.SoundLaws.{NameEntry, Lengths, WellFormed, formed-of, of-formed}
+use Rattle.entry_set.proofs.SoundLaws.{NameEntry, Lengths, formed-of, of-formed}
 
 -- ---- what a sound set has
 
@@ -52,55 +51,6 @@ module _ (C size : ℕ) (s : List ℕ) (w : wellFormed C size s ≡ true) where
   -- the lengths: `valid`, `empty`, `first`, `room` and `run` of the record
   pub formed-lengths : Lengths C size s
   formed-lengths = formed-of C size s w .lengths
-
--- ---- two sets that agree in the bytes of the one
-
-module _ (C size : ℕ) (s m : List ℕ) (same : (j : ℕ) → j < 32 * (1 + secondaryCount s) → getD s j 0 ≡ getD m j 0) where
-  carry : WellFormed C size s → WellFormed C size m
-  unfolding entryType secondaryCount setChecksum allocationPossible noFatChain nameLength validLength firstCluster dataLength
-  carry w =
-      let n : ℕ = getD s 1 0 in
-      let low = w .head .low in
-      let count : getD s 1 0 ≡ getD m 1 0 = same 1 (omega arith) in
-      let units : getD s 35 0 ≡ getD m 35 0 = same 35 (omega arith) in
-      let valid : getLe 8 s 40 ≡ getLe 8 m 40 = get-same 8 s m 40 40 (λ k b. same (40 + k) (omega arith)) in
-      let first : getLe 4 s 52 ≡ getLe 4 m 52 = get-same 4 s m 52 52 (λ k b. same (52 + k) (omega arith)) in
-      let len : getLe 8 s 56 ≡ getLe 8 m 56 = get-same 8 s m 56 56 (λ k b. same (56 + k) (omega arith)) in
-      let sum : getLe 2 s 2 ≡ getLe 2 m 2 = get-same 2 s m 2 2 (λ k b. same (2 + k) (omega arith)) in
-      let flags : getD s 33 0 ≡ getD m 33 0 = same 33 (omega arith) in
-      record {
-        head = record {
-          file = sym (same 0 (omega arith)) ∙ w .head .file;
-          low = rw (← count) (w .head .low);
-          high = rw (← count) (w .head .high);
-          fits = rw (← count, ← units) (w .head .fits);
-          named = rw (← units) (w .head .named);
-        };
-        stream = record {
-          sum = rw (← sum, ← count) (w .stream .sum ∙ checksum-same s m (32 * (1 + getD s 1 0)) (λ k b x y. same k b));
-          stream = sym (same 32 (omega arith)) ∙ w .stream .stream;
-          possible = rw (← flags) (w .stream .possible);
-        };
-        names = λ i b.
-            let l : i < nameEntries (getD s 35 0) = rw units b in
-            let f = w .head .fits in
-            let e = w .names i l in
-            record {
-              name = sym (same (32 * (2 + i)) (omega arith)) ∙ e .name;
-              flags = ap (λ (x : ℕ). x % 4) (sym (same (32 * (2 + i) + 1) (omega arith))) ∙ e .flags;
-            };
-        lengths = record {
-          valid = rw (← valid, ← len) (w .lengths .valid);
-          empty = rw (← len, ← first, ← flags) (w .lengths .empty);
-          first = rw (← len, ← first) (w .lengths .first);
-          room = rw (← len) (w .lengths .room);
-          run = rw (← len, ← first, ← flags) (w .lengths .run);
-        };
-      }
-
-  same-count : secondaryCount m ≡ secondaryCount s
-  unfolding secondaryCount
-  same-count = sym (same 1 (omega arith))
 
 -- ---- a set that was changed
 

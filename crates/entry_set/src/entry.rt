@@ -1,10 +1,10 @@
 // The fields of a set in an array of 608 bytes, and whether the set is that of a sound file entry.
 ghost use mathlib.Core.Path.{_≡_};
-ghost use mathlib.Core.Bool.{_&&_, _||_, not, cond};
+ghost use mathlib.Core.Bool.{_&&_, _||_, not};
 ghost use Prim.Native.Nat.{_+_, _≤_, _<_};
 ghost use lib.Dec.{eqb, leb};
 ghost use Rattle.boot.specs.Layout.{inHeap};
-ghost use Rattle.entry_set.specs.Fields.{secondaryCount, setChecksum, isDirectory, allocationPossible, noFatChain, nameLength, validLength, firstCluster, dataLength, clustersFor, nameEntries};
+ghost use Rattle.entry_set.specs.Fields.{secondaryCount, setChecksum, isDirectory, allocationPossible, noFatChain, nameLength, validLength, firstCluster, dataLength, clustersFor};
 ghost use Rattle.entry_set.specs.Sound.{headOk, streamEntryOk, namesOk, lengthsOk, wellFormed};
 use crate::set::name_entries;
 

@@ -38,7 +38,7 @@ use Rattle.write_extend.specs.Extend.{extendIn}
 use Rattle.write_extend.proofs.EnoughLaws.{Extended, extend-done}
 use Rattle.write_alloc.proofs.AllocateLaws.{space-met, space-kept}
 use Rattle.directory.proofs.DirectoryLaws.{clusters-along}
-use Rattle.file.specs.Refresh.{entriesOf, missing, lengthCause}
+use Rattle.file.specs.Refresh.{missing, lengthCause}
 use Rattle.file.specs.Internal.{knownPlace}
 
 module _ (y : Layout) (b : Allocation) (len : ℕ) where
@@ -65,10 +65,6 @@ module _ (y : Layout) (b : Allocation) (len : ℕ) where
           | yes h ↦ absurd (let q = length-met (omega arith) in omega arith)
           | no h ↦ omega arith
         ]
-
-pub entries-some : (s : List ℕ) → 1 ≤ entriesOf s
-unfolding entriesOf
-entries-some s = omega arith
 
 -- no zeros stored
 pub zeros-none : (y : Layout) (d ks : List ℕ) (at n : ℕ) → n ≤ 0 → storeAt y d ks at (replicate n 0) ≡ d

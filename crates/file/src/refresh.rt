@@ -54,7 +54,7 @@ pub fn length_cause(vol: &[u8], map: &[u8], y: Layout, b: Allocation, len: u64, 
 }
 
 // The clusters that a stream must add for a length.
-pub fn missing(y: Layout, b: Allocation, len: u64) -> u32
+fn missing(y: Layout, b: Allocation, len: u64) -> u32
     requires { ⌜ Laid y × (missing y b len ≤ 32768) ⌝ }
     ensures { λ r. ⌜ r ≡ missing y b len ⌝ }
 {

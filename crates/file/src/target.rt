@@ -1,6 +1,6 @@
 // The file at a slot of the root as a call finds it (Rust: `resolve`, `open_for_write`).
 ghost use mathlib.Core.Path.{_≡_};
-ghost use Prim.Native.Nat.{_+_, _*_, _≤_};
+ghost use Prim.Native.Nat.{_*_, _≤_};
 ghost use lib.ListN.{length, replicate};
 ghost use Rattle.boot.specs.Internal.{Laid, Apart};
 ghost use Rattle.directory.specs.Directory.{rootRecord};

@@ -1,30 +1,27 @@
 -- Counts of clusters: the marked ones, as the free count counts them, and the usable ones. Assumes nothing.
-use mathlib.Core.Path.{_≡_, refl, sym, _∙_, ap, ap₂}
+use mathlib.Core.Path.{_≡_, refl, sym, _∙_, ap₂}
 use mathlib.Core.Logic.{_≢_}
 use mathlib.Core.Bool.{Bool, true, false, _&&_, not}
 use mathlib.Core.List.{List}
-use Prim.Native.Nat.{ℕ, zero, suc, _+_, _-_, _*_, _/_, _%_, _^_, _≤_, _<_}
+use Prim.Native.Nat.{ℕ, zero, suc, _+_, _-_, _/_, _%_, _^_, _≤_, _<_}
 use native.Mathlib.Decide.{ℕ-discrete}
 use native.Mathlib.Omega.{arith}
 use lib.Dec.{eqb}
-use lib.ListN.{length, getD, drop}
+use lib.ListN.{getD, drop}
 use lib.Seq.{getD-drop}
 use Rattle.primitives.specs.Bits.{bitOf, bitAt, countBits}
-use Rattle.tables.specs.Table.{upd}
-use Rattle.tables.specs.Lists.{Mem, Distinct}
-use Rattle.tables.specs.Count.{one, count, keep}
-use Rattle.tables.proofs.TableLaws.{upd-same, upd-other}
-use Rattle.tables.proofs.CountLaws.{count-le, count-cong, count-upd, count-last, count-split, length-keep, in-keep, keep-in, keep-distinct}
+use Rattle.tables.specs.Count.{one, count}
+use Rattle.tables.proofs.CountLaws.{count-le, count-cong, count-last, count-split}
 use Rattle.boot.specs.declared.layout.Layout.{Layout}
 use Rattle.boot.specs.Limits.{inMap}
 use Rattle.boot.specs.Layout.{inHeap}
 use borrow.Author.Tests.{not-true, eqb-false}
 use Rattle.tables.proofs.Cases.{and-left, and-right}
-use Rattle.boot.proofs.Apart.{in-heap, heap-in}
+use Rattle.boot.proofs.Apart.{in-heap}
 use Rattle.metadata.specs.Fat.{BAD, fatEntry, setFat}
 use Rattle.metadata.specs.Marks.{markByte, marked, setMark, allocatedCount, freeCount}
 use Rattle.metadata.specs.Usable.{isFree, isUsable}
-use Rattle.metadata.proofs.Frame.{Fits, fat-fat-same, fat-fat-other, mark-fat, mark-mark-same, mark-mark-other, fat-mark}
+use Rattle.metadata.proofs.Frame.{Fits, fat-fat-other, mark-fat, mark-mark-other, fat-mark}
 use Rattle.metadata.proofs.Stores.{usable-not-free, free-marked}
 
 -- how many clusters are marked, and how many may be taken
@@ -33,10 +30,6 @@ markedCount y d = count (marked y d) 2 (y .count)
 
 unfoldable pub usableCount : Layout → List ℕ → List ℕ → ℕ
 usableCount y d m = count (isUsable y d m) 2 (y .count)
-
--- those that may be taken, lowest first
-unfoldable pub usableList : Layout → List ℕ → List ℕ → List ℕ
-usableList y d m = keep (isUsable y d m) 2 (y .count)
 
 -- ---- the ones of the bitmap are the marked clusters
 
@@ -69,28 +62,6 @@ free-is-unmarked y d = omega (arith, allocated-is y d, count-le (marked y d) 2 (
 -- ---- a store's effect on the counts
 
 module _ (y : Layout) (d : List ℕ) (w : Fits y d) where
-  -- a mark counts for itself
-  pub count-mark : (k : ℕ) (on : Bool) → inHeap (y .count) k ≡ true
-      → markedCount y (setMark y d k on) + one (marked y d k) ≡ markedCount y d + one on
-  unfolding markedCount
-  count-mark k on h =
-      let i = in-heap (y .count) k h in
-      ap (λ (x : ℕ). x + one (marked y d k)) (count-cong (upd (marked y d) k on) (marked y (setMark y d k on)) 2 (y .count) same)
-      ∙ count-upd (marked y d) 2 (y .count) k on (i .0) (omega arith)
-    where
-      same : (j : ℕ) → 2 ≤ j → j < 2 + y .count → marked y (setMark y d k on) j ≡ upd (marked y d) k on j
-      same j l b =
-          elim (ℕ-discrete j k) [
-            | yes e ↦ rw e (mark-mark-same y d w k on h ∙ sym (upd-same (marked y d) k on))
-            | no n ↦ mark-mark-other y d w k on j h (heap-in (y .count) j l (omega arith)) n ∙ sym (upd-other (marked y d) k on j n)
-          ]
-
-  pub mark-adds : (k : ℕ) → inHeap (y .count) k ≡ true → marked y d k ≡ false → markedCount y (setMark y d k true) ≡ markedCount y d + 1
-  mark-adds k h e = omega (arith, ap one e, count-mark k true h)
-
-  pub unmark-takes : (k : ℕ) → inHeap (y .count) k ≡ true → marked y d k ≡ true → markedCount y (setMark y d k false) + 1 ≡ markedCount y d
-  unmark-takes k h e = omega (arith, ap one e, count-mark k false h)
-
   pub fat-counts : (k v : ℕ) → k < y .count + 2 → markedCount y (setFat y d k v) ≡ markedCount y d
   unfolding markedCount
   fat-counts k v h = count-cong (marked y d) (marked y (setFat y d k v)) 2 (y .count) (λ j l b. mark-fat y d w k v j h)
@@ -101,10 +72,6 @@ module _ (y : Layout) (d : List ℕ) (w : Fits y d) where
       → isUsable y (setMark y d k on) m j ≡ isUsable y d m j
   unfolding isUsable isFree
   usable-mark-other m k on j h i n = rw (mark-mark-other y d w k on j h i n, fat-mark y d w k on j (in-heap (y .count) j i .1)) refl
-
-  pub usable-marked : (m : List ℕ) (k : ℕ) → inHeap (y .count) k ≡ true → isUsable y (setMark y d k true) m k ≡ false
-  usable-marked m k h =
-      usable-not-free y (setMark y d k true) m k (free-marked y (setMark y d k true) m k (mark-mark-same y d w k true h))
 
   pub usable-fat-other : (m : List ℕ) (k v j : ℕ) → k < y .count + 2 → j < y .count + 2 → j ≢ k
       → isUsable y (setFat y d k v) m j ≡ isUsable y d m j
@@ -139,22 +106,6 @@ usable-facts y d m k e =
     )
 
 module _ (y : Layout) (d m : List ℕ) where
-  pub usable-length : length (usableList y d m) ≡ usableCount y d m
-  unfolding usableList usableCount
-  usable-length = length-keep (isUsable y d m) 2 (y .count)
-
-  pub usable-in : (k : ℕ) → Mem k (usableList y d m) → (inHeap (y .count) k ≡ true) × (isUsable y d m k ≡ true)
-  unfolding usableList
-  usable-in k i = let r = in-keep (isUsable y d m) 2 (y .count) k i in (heap-in (y .count) k (r .0) (omega arith), r .2)
-
-  pub in-usable : (k : ℕ) → inHeap (y .count) k ≡ true → isUsable y d m k ≡ true → Mem k (usableList y d m)
-  unfolding usableList
-  in-usable k h u = let i = in-heap (y .count) k h in keep-in (isUsable y d m) 2 (y .count) k (i .0) (omega arith) u
-
-  pub usable-distinct : Distinct (usableList y d m)
-  unfolding usableList
-  usable-distinct = keep-distinct (isUsable y d m) 2 (y .count)
-
   -- never more than the free count says
   pub usable-free : usableCount y d m ≤ freeCount y d
   unfolding usableCount markedCount

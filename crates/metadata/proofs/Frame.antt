@@ -1,10 +1,10 @@
 -- Each store changes its own view of the volume at its own key, and no other view. The views: FAT entries, marks, bytes of
 -- clusters that are no bitmap's, and the length. Assumes nothing.
-use mathlib.Core.Path.{_≡_, refl, sym, _∙_, ap, subst}
-use mathlib.Core.Logic.{_≢_, _⊎_, inl, inr, ⊎-elim}
-use mathlib.Core.Bool.{Bool, true, false, false≢true}
+use mathlib.Core.Path.{_≡_, refl, sym, _∙_, ap}
+use mathlib.Core.Logic.{_≢_, _⊎_, ⊎-elim}
+use mathlib.Core.Bool.{Bool, true, false}
 use mathlib.Core.List.{List}
-use Prim.Native.Nat.{ℕ, zero, suc, _+_, _-_, _*_, _/_, _%_, _^_, _≤_, _<_}
+use Prim.Native.Nat.{ℕ, _+_, _-_, _*_, _/_, _%_, _^_, _≤_, _<_}
 use native.Mathlib.Decide.{ℕ-discrete}
 use native.Mathlib.Nat.{mod-eq-of-lt}
 use native.Mathlib.Omega.{arith}
@@ -16,7 +16,7 @@ use Rattle.primitives.specs.Words.{getLe, putLe}
 use Rattle.primitives.specs.Splice.{splice}
 use Rattle.primitives.proofs.BitLaws.{put-same, put-other}
 use Rattle.primitives.proofs.WordLaws.{length-put, put-off, get-same, get-put, get-put-below}
-use Rattle.primitives.proofs.SpliceLaws.{length-splice, splice-in, splice-off}
+use Rattle.primitives.proofs.SpliceLaws.{length-splice, splice-off}
 use Rattle.boot.specs.declared.layout.Layout.{Layout}
 use Rattle.boot.specs.Geometry.{bitmapBytes}
 use Rattle.boot.specs.Internal.{Laid, Apart}
@@ -203,19 +203,6 @@ module _ (y : Layout) (d : List ℕ) (w : Fits y d) where
   pub length-bytes : (k j : ℕ) (bs : List ℕ) → inHeap (y .count) k ≡ true → j + length bs ≤ y .size → length (putBytes y d k j bs) ≡ length d
   unfolding putBytes
   length-bytes k j bs h f = length-splice d (clusterAt y k + j) bs (fits-in k j bs h f)
-
-  pub bytes-same : (k j : ℕ) (bs : List ℕ) (r : ℕ) → inHeap (y .count) k ≡ true → j + length bs ≤ y .size → r < length bs
-      → clusterByte y (putBytes y d k j bs) k (j + r) ≡ getD bs r 0
-  unfolding clusterByte putBytes
-  bytes-same k j bs r h f b =
-      let e : clusterAt y k + (j + r) ≡ clusterAt y k + j + r = omega arith in
-      rw e (splice-in d (clusterAt y k + j) bs (fits-in k j bs h f) r b)
-
-  pub bytes-beside : (k j : ℕ) (bs : List ℕ) (r : ℕ) → inHeap (y .count) k ≡ true → j + length bs ≤ y .size
-      → ((s : ℕ) → s < length bs → r ≢ j + s) → clusterByte y (putBytes y d k j bs) k r ≡ clusterByte y d k r
-  unfolding clusterByte putBytes
-  bytes-beside k j bs r h f n =
-      splice-off d (clusterAt y k + j) bs (fits-in k j bs h f) (clusterAt y k + r) (λ s b e. n s b (omega arith))
 
   pub bytes-other : (k j : ℕ) (bs : List ℕ) (i r : ℕ) → inHeap (y .count) k ≡ true → inHeap (y .count) i ≡ true → i ≢ k
       → j + length bs ≤ y .size → r < y .size → clusterByte y (putBytes y d k j bs) i r ≡ clusterByte y d i r

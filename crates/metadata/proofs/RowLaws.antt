@@ -1,5 +1,5 @@
 -- Eight marks of one byte are one stored byte, in every bitmap. Assumes nothing.
-use mathlib.Core.Path.{_≡_, refl, sym, _∙_, ap, ap₂}
+use mathlib.Core.Path.{_≡_, refl, sym, _∙_, ap}
 use mathlib.Core.Bool.{true}
 use mathlib.Core.List.{List}
 use Prim.Native.Nat.{ℕ, zero, suc, _+_, _-_, _*_, _/_, _%_, _≤_, _<_}
@@ -14,7 +14,7 @@ use Rattle.boot.specs.Geometry.{bitmapBytes}
 use Rattle.boot.proofs.Apart.{bitmap-bitmap}
 use Rattle.metadata.specs.Marks.{markByte, putByte, setMark, markRun}
 use Rattle.metadata.proofs.Stores.{byte-two, byte-one}
-use Rattle.metadata.proofs.Frame.{Fits, by-two, byte-active, fits-kept, length-byte}
+use Rattle.metadata.proofs.Frame.{Fits, by-two, byte-active}
 
 -- the bits r to r + m - 1 of b set
 unfoldable setBits : (b r m : ℕ) → ℕ

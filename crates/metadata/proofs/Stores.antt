@@ -1,15 +1,15 @@
 -- The stores by the number of FATs, and what reads one after the other say. Assumes nothing.
-use mathlib.Core.Path.{_≡_, refl, sym, _∙_, ap}
+use mathlib.Core.Path.{_≡_, refl, sym, _∙_}
 use mathlib.Core.Logic.{_≢_}
-use mathlib.Core.Bool.{Bool, true, false, _&&_, not, cond}
+use mathlib.Core.Bool.{Bool, true, false, cond}
 use mathlib.Core.List.{List}
 use Prim.Native.Nat.{ℕ, zero, suc, _+_, _-_, _*_, _≤_, _<_}
 use native.Mathlib.Numerals.{sub-one}
 use native.Mathlib.Omega.{arith}
 use lib.Dec.{eqb}
-use lib.ListN.{length, set, take, drop}
+use lib.ListN.{set, take, drop}
 use borrow.Author.Tests.{eq-eqb, ne-eqb}
-use Rattle.primitives.specs.Words.{putLe, getLe}
+use Rattle.primitives.specs.Words.{putLe}
 use Rattle.primitives.specs.Bits.{countBits}
 use Rattle.primitives.proofs.WordLaws.{get-part}
 use Rattle.primitives.proofs.CountLaws.{count-take}
@@ -20,7 +20,6 @@ use Rattle.boot.specs.Causes.{admitCause}
 use Rattle.boot.proofs.Admission.{Admits}
 use Rattle.search.specs.declared.found.Found.{Found}
 use Rattle.search.specs.declared.found.Found.the-variants.{At, Nothing}
-use Rattle.metadata.specs.declared.free.FreeCount.{FreeCount}
 use Rattle.metadata.specs.Fat.{BAD, fatEntry, setFat}
 use Rattle.metadata.specs.Internal.{entryOf, firstBad}
 use Rattle.metadata.specs.Marks.{marked, putByte, allocatedCount, freeCount}

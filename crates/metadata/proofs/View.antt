@@ -1,26 +1,22 @@
--- A volume as three tables, cut to the keys that exist; each store of bytes is the update of one table, as an equation.
+-- A volume as three tables, cut to the keys that exist; the store of a FAT entry or of a mark is the update of one table, as an equation.
 -- Assumes nothing.
-use mathlib.Core.Path.{_≡_, refl, sym, _∙_, ap, fun-ext}
-use mathlib.Core.Logic.{_≢_}
+use mathlib.Core.Path.{_≡_, _∙_, ap}
 use mathlib.Core.Bool.{Bool, true, false, _&&_, not}
-use mathlib.Core.List.{List, [], _∷_}
-use Prim.Native.Nat.{ℕ, zero, suc, _+_, _-_, _≤_, _<_, _^_}
-use native.Mathlib.Decide.{decLe, decLt}
-use native.Mathlib.Omega.{arith}
+use mathlib.Core.List.{List}
+use Prim.Native.Nat.{ℕ, _-_, _<_, _^_}
 use lib.Dec.{ltb}
-use lib.ListN.{length, getD}
 use borrow.Author.Tests.{ltb-true, lt-ltb, not-true}
 use Rattle.tables.specs.Table.{upd}
-use Rattle.tables.specs.Internal.{updFrom, only}
-use Rattle.tables.proofs.TableLaws.{only-in, only-cong, only-upd, from-other, from-same}
+use Rattle.tables.specs.Internal.{only}
+use Rattle.tables.proofs.TableLaws.{only-in, only-cong, only-upd}
 use Rattle.boot.specs.declared.layout.Layout.{Layout}
 use Rattle.boot.specs.Layout.{inHeap, isBitmapCluster}
 use Rattle.tables.proofs.Cases.{and-left, and-right}
 use Rattle.boot.proofs.Apart.{in-heap}
 use Rattle.metadata.specs.Fat.{fatEntry, setFat}
 use Rattle.metadata.specs.Marks.{marked, setMark}
-use Rattle.metadata.specs.Cluster.{clusterByte, putBytes}
-use Rattle.metadata.proofs.Frame.{Fits, fat-fat-same, fat-fat-other, mark-fat, cluster-fat, mark-mark-same, mark-mark-other, fat-mark, cluster-mark, bytes-same, bytes-beside, bytes-other, fat-bytes, mark-bytes}
+use Rattle.metadata.specs.Cluster.{clusterByte}
+use Rattle.metadata.proofs.Frame.{Fits, fat-fat-same, fat-fat-other, mark-fat, cluster-fat, mark-mark-same, mark-mark-other, fat-mark, cluster-mark}
 
 -- FAT entries, marks, and bytes of clusters
 pub record Tables : Type 0 where
@@ -57,9 +53,6 @@ withFat a k v = record { fat = upd (a .fat) k v; mark = a .mark; byte = a .byte 
 
 abbrev pub withMark : Tables → ℕ → Bool → Tables
 withMark a k on = record { fat = a .fat; mark = upd (a .mark) k on; byte = a .byte }
-
-abbrev pub withBytes : Tables → ℕ → ℕ → List ℕ → Tables
-withBytes a k j bs = record { fat = a .fat; mark = a .mark; byte = upd (a .byte) k (updFrom (a .byte k) j bs) }
 
 -- ---- what the tables have at a key that exists
 
@@ -103,37 +96,3 @@ module _ (y : Layout) (d : List ℕ) (w : Fits y d) where
         (λ c p. only-cong (λ j. ltb j (y .size)) 0 (clusterByte y d c) (clusterByte y (setMark y d k on) c)
         (λ j b. cluster-mark y d w k on c j h (plain-heap y c p) (plain-off y c p) (ltb-true j (y .size) b))) z;
   }
-
-  -- the bytes of the cluster that is stored to
-  row-bytes : (k j : ℕ) (bs : List ℕ) → inHeap (y .count) k ≡ true → j + length bs ≤ y .size
-      → row y (putBytes y d k j bs) k ≡ updFrom (row y d k) j bs
-  row-bytes k j bs h f = fun-ext (λ i. at i (decLe j i) (decLt i (j + length bs)))
-    where
-      beside : (i : ℕ) → ((r : ℕ) → r < length bs → i ≢ j + r) → row y (putBytes y d k j bs) k i ≡ updFrom (row y d k) j bs i
-      beside i o = unfold only in (rw (from-other (row y d k) j bs i o, bytes-beside y d w k j bs i h f o))
-
-      at : (i : ℕ) → Dec (j ≤ i) → Dec (i < j + length bs) → row y (putBytes y d k j bs) k i ≡ updFrom (row y d k) j bs i
-      at i (no a) b = beside i (λ r l. omega arith)
-      at i (yes a) (no b) = beside i (λ r l. omega arith)
-      at i (yes a) (yes b) =
-          let r : ℕ = i - j in
-          let e : i ≡ j + r = omega arith in
-          rw (e, from-same (row y d k) j bs r (omega arith), only-in (λ i. ltb i (y .size)) 0 (clusterByte y (putBytes y d k j bs) k) (j + r) (lt-ltb (j + r) (y .size) (omega arith)))
-          (bytes-same y d w k j bs r h f (omega arith))
-
-  pub view-putBytes : (k j : ℕ) (bs : List ℕ) → plain y k ≡ true → j + length bs ≤ y .size
-      → view y (putBytes y d k j bs) ≡ withBytes (view y d) k j bs
-  unfolding view
-  view-putBytes k j bs p f = λ z. record {
-    fat = only-cong (inHeap (y .count)) 0 (fatEntry y d) (fatEntry y (putBytes y d k j bs)) (λ c q. fat-bytes y d w k j bs c (plain-heap y k p) f (in-heap (y .count) c q .1)) z;
-    mark = only-cong (inHeap (y .count)) false (marked y d) (marked y (putBytes y d k j bs))
-        (λ c q. mark-bytes y d w k j bs c (plain-heap y k p) (plain-off y k p) f q) z;
-    byte = bytes z;
-  }
-    where
-      bytes : only (plain y) (λ i. 0) (row y (putBytes y d k j bs)) ≡ upd (only (plain y) (λ i. 0) (row y d)) k (updFrom (only (plain y) (λ i. 0) (row y d) k) j bs)
-      bytes =
-          rw (only-in (plain y) (λ i. 0) (row y d) k p)
-          (only-upd (plain y) (λ i. 0) (row y d) (row y (putBytes y d k j bs)) k (updFrom (row y d k) j bs) p (row-bytes k j bs (plain-heap y k p) f)
-          (λ c q n. only-cong (λ i. ltb i (y .size)) 0 (clusterByte y d c) (clusterByte y (putBytes y d k j bs) c)
-          (λ i b. bytes-other y d w k j bs c i (plain-heap y k p) (plain-heap y c q) n f (ltb-true i (y .size) b))))

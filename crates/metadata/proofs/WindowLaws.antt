@@ -1,5 +1,5 @@
 -- A row of clusters tested at once: its marks, the system map and the FAT's entries. Assumes nothing.
-use mathlib.Core.Path.{_≡_, refl, sym, _∙_, ap, ap₂}
+use mathlib.Core.Path.{_≡_, refl, sym, _∙_, ap}
 use mathlib.Core.Logic.{_≢_}
 use mathlib.Core.Bool.{Bool, true, false, not, _&&_, and-false, and-assoc}
 use mathlib.Core.List.{List}
@@ -10,14 +10,13 @@ use borrow.Author.Tests.{eq-eqb, ne-eqb, eqb-true}
 use lib.Dec.{eqb}
 use lib.ListN.{getD, take, drop}
 use lib.Seq.{getD-take, getD-drop}
-use Rattle.primitives.specs.Bits.{bitOf, bitAt}
-use Rattle.primitives.specs.Internal.{clearFrom}
+use Rattle.primitives.specs.Bits.{bitAt}
+use Rattle.primitives.specs.Internal.{bitIs}
 use Rattle.primitives.proofs.ByteLaws.{zero-byte}
 use Rattle.tables.proofs.Cases.{clash, and-left, and-right}
-use Rattle.search.specs.declared.found.Found.{Found}
 use Rattle.search.specs.declared.found.Found.the-variants.{At, Nothing}
 use Rattle.search.specs.Search.{allFrom}
-use Rattle.search.proofs.Runs.{all-none, all-not}
+use Rattle.search.proofs.Runs.{all-not, all-shift}
 use Rattle.search.proofs.Lowest.{whole-all}
 use Rattle.boot.specs.declared.layout.Layout.{Layout}
 use Rattle.boot.specs.Limits.{inMap}
@@ -28,26 +27,26 @@ use Rattle.metadata.specs.Internal.{firstBad, noneRefused, byteUnmarked}
 use Rattle.metadata.proofs.Stores.{bad-none, bad-step, bad-hit}
 
 -- a bit of the bitmap's part is the cluster's mark
-pub bit-mark : (y : Layout) (d : List ℕ) (c k i : ℕ) → i ≡ k - 2 → i < 8 * c → eqb (bitAt (take c (drop (y .bitmap) d)) i) 1 ≡ marked y d k
-unfolding bitAt marked markByte
-bit-mark y d c k i e h =
-    rw (e, getD-take c (drop (y .bitmap) d) ((k - 2) / 8) 0 (omega arith), getD-drop (y .bitmap) d ((k - 2) / 8) 0) refl
+pub bit-mark : (y : Layout) (d : List ℕ) (c i : ℕ) → i < 8 * c → bitIs (take c (drop (y .bitmap) d)) 1 i ≡ marked y d (i + 2)
+unfolding bitIs bitAt marked markByte
+bit-mark y d c i h =
+    let e : i + 2 - 2 ≡ i = omega arith in
+    rw (e, getD-take c (drop (y .bitmap) d) (i / 8) 0 (omega arith), getD-drop (y .bitmap) d (i / 8) 0) refl
 
 -- the test of the bitmap's part
 pub marks-part : (y : Layout) (d : List ℕ) (c k n : ℕ) → 2 ≤ k → k - 2 + n ≤ 8 * c
-    → clearFrom (take c (drop (y .bitmap) d)) (k - 2) n ≡ allFrom (λ j. not (marked y d j)) k n
-unfolding clearFrom allFrom
-marks-part y d c k zero l h = refl
-marks-part y d c k (suc n) l h =
-    ap₂ _&&_ (marks-part y d c k n l (omega arith)) (ap not (bit-mark y d c (k + n) (k - 2 + n) (omega arith) (omega arith)))
+    → allFrom (λ j. not (bitIs (take c (drop (y .bitmap) d)) 1 j)) (k - 2) n ≡ allFrom (λ j. not (marked y d j)) k n
+marks-part y d c k n l h =
+    let e : k - 2 + 2 ≡ k = omega arith in
+    all-shift _ (λ j. not (marked y d j)) 2 (k - 2) n (λ j a b. ap not (bit-mark y d c j (omega arith))) ∙ ap (λ (x : ℕ). allFrom (λ j. not (marked y d j)) x n) e
 
 -- the test of the map
-pub map-all : (m : List ℕ) (k n : ℕ) → 2 ≤ k → clearFrom m (k - 2) n ≡ allFrom (λ j. not (inMap m j)) k n
-unfolding clearFrom allFrom inMap
-map-all m k zero l = refl
-map-all m k (suc n) l =
-    let q : k - 2 + n ≡ k + n - 2 = omega arith in
-    ap₂ _&&_ (map-all m k n l) (ap (λ (x : ℕ). not (eqb (bitAt m x) 1)) q)
+pub map-all : (m : List ℕ) (k n : ℕ) → 2 ≤ k → allFrom (λ j. not (bitIs m 1 j)) (k - 2) n ≡ allFrom (λ j. not (inMap m j)) k n
+unfolding bitIs inMap
+map-all m k n l =
+    let e : k - 2 + 2 ≡ k = omega arith in
+    all-shift _ (λ j. not (inMap m j)) 2 (k - 2) n (λ j a b. let q : j ≡ j + 2 - 2 = omega arith in ap (λ (x : ℕ). not (bitIs m 1 x)) q)
+    ∙ ap (λ (x : ℕ). allFrom (λ j. not (inMap m j)) x n) e
 
 -- two tests at once
 all-and : (p q : ℕ → Bool) (k n : ℕ) → allFrom (λ j. p j && q j) k n ≡ allFrom p k n && allFrom q k n

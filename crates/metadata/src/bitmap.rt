@@ -77,7 +77,7 @@ pub fn first_unmarked(vol: &[u8], y: Layout, k: u32, n: u32) -> u32
 {
     let a = y.bitmap;
     let e = a + ((y.count + 7) / 8) as usize;
-    primitives::bits::first_clear(&vol[a..e], k - 2, n) + 2
+    primitives::bits::first_bit(&vol[a..e], 0, k - 2, n) + 2
 }
 
 // Whether none of the n clusters from first is marked. Bytes of none marked are passed at once.
@@ -87,7 +87,7 @@ pub fn none_marked(vol: &[u8], y: Layout, first: u32, n: u32) -> bool
 {
     let a = y.bitmap;
     let e = a + ((y.count + 7) / 8) as usize;
-    primitives::bits::clear_from(&vol[a..e], first - 2, n)
+    primitives::bits::none_set(&vol[a..e], first - 2, n)
 }
 
 // Whether cluster k is the last one of its byte, and the byte marks none.

@@ -97,7 +97,7 @@ fn none_refused(vol: &[u8], map: &[u8], y: Layout, first: u32, n: u32) -> bool
     requires { ⌜ Laid y × ((length (now vol) ≡ y .len) × ((y .count ≤ 8 * length (now map)) × ((2 ≤ first) × (first + n ≤ y .count + 2)))) ⌝ }
     ensures { λ r. ⌜ r ≡ noneRefused y (now (vol .entry)) (now (map .entry)) first n ⌝ }
 {
-    if primitives::bits::clear_from(map, first - 2, n) {
+    if primitives::bits::none_set(map, first - 2, n) {
         let bad = bad_in(vol, y, first, n);
         match bad {
             Found::At(_) => {

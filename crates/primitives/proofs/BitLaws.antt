@@ -2,10 +2,10 @@
 -- Assumes nothing.
 use mathlib.Core.Path.{_≡_, refl, ap, _∙_, sym}
 use mathlib.Core.Bool.{Bool, true, false, not}
-use Prim.Native.Nat.{ℕ, zero, suc, _+_, _-_, _*_, _/_, _%_, _^_, _<_, _≤_}
+use Prim.Native.Nat.{ℕ, zero, suc, _-_, _*_, _/_, _%_, _^_, _<_, _≤_}
 use native.Mathlib.Nat.{pow-succ', div-div-eq-div-mul, mul-left-comm, mul-le-mul-right, le-trans, div-mul-le-self}
 use native.Mathlib.Omega.{arith}
-use lib.Dec.{eqb, ltb, eqb→eq, ltb→lt}
+use lib.Dec.{eqb, eqb→eq}
 use lib.Bits.{bitAnd, bitOr}
 use Rattle.primitives.specs.Bits.{bitOf, setBit, clearBit, putBit}
 use Rattle.primitives.proofs.Every.{at₂, sameb, sameb→eq}
@@ -83,14 +83,6 @@ clear-same = same clearBit 0 clear-low clear-high
 pub clear-other : (b j i : ℕ) → (i ≡ j → ⊥) → bitOf (clearBit b j) i ≡ bitOf b i
 clear-other = other clearBit 0 clear-low clear-high
 
-pub set-lt : (b j : ℕ) → b < 256 → j < 8 → setBit b j < 256
-unfolding setBit bitOf
-set-lt b j hb hj = ltb→lt _ _ (at₂ 256 8 (λ b j. ltb (setBit b j) 256) tt b j hb hj)
-
-pub clear-lt : (b j : ℕ) → b < 256 → j < 8 → clearBit b j < 256
-unfolding clearBit bitOf
-clear-lt b j hb hj = ltb→lt _ _ (at₂ 256 8 (λ b j. ltb (clearBit b j) 256) tt b j hb hj)
-
 -- ---- the bit put as a truth value says
 
 pub put-on : (b j : ℕ) (on : Bool) → on ≡ true → putBit b j on ≡ setBit b j
@@ -110,8 +102,3 @@ pub put-other : (b j : ℕ) (on : Bool) (i : ℕ) → (i ≡ j → ⊥) → bitO
 unfolding putBit
 put-other b j true i n = set-other b j i n
 put-other b j false i n = clear-other b j i n
-
-pub put-lt : (b j : ℕ) (on : Bool) → b < 256 → j < 8 → putBit b j on < 256
-unfolding putBit
-put-lt b j true hb hj = set-lt b j hb hj
-put-lt b j false hb hj = clear-lt b j hb hj

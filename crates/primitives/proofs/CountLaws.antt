@@ -4,13 +4,13 @@ use mathlib.Core.List.{List}
 use Prim.Native.Nat.{ℕ, zero, suc, _+_, _-_, _*_, _/_, _%_, _^_, _<_, _≤_}
 use native.Mathlib.Nat.{add-zero, add-suc, add-assoc}
 use native.Mathlib.Omega.{arith}
-use lib.Dec.{T, eqb, leb, eqb→eq, leb→le}
+use lib.Dec.{eqb, leb, eqb→eq, leb→le}
 use lib.ListN.{getD, take}
 use lib.Seq.{getD-take}
 use lib.Bits.{bitAnd}
 use lib.Count.{ones, onesIn}
 use Rattle.primitives.specs.Bits.{bitOf, bitAt, countBits}
-use Rattle.primitives.proofs.Every.{every, at, at₂}
+use Rattle.primitives.proofs.Every.{at, at₂}
 
 -- how many of the lowest r bits of a byte are set
 unfoldable pub onesBelow : ℕ → ℕ → ℕ

@@ -6,4 +6,3 @@ pub mod CountLaws
 pub mod ChecksumLaws
 pub mod WordLaws
 pub mod SpliceLaws
-pub mod PartLaws

@@ -1,13 +1,13 @@
 -- The laws of a part that is replaced. Assumes nothing.
 use mathlib.Core.Path.{_≡_, refl, ap, ap₂, _∙_, sym}
 use mathlib.Core.List.{List, [], _∷_, _++_, append-assoc, append-nil}
-use Prim.Native.Nat.{ℕ, zero, suc, _+_, _-_, _<_, _≤_}
-use native.Mathlib.Nat.{add-zero, add-suc, zero-add, suc-add}
+use Prim.Native.Nat.{ℕ, suc, _+_, _-_, _<_, _≤_}
+use native.Mathlib.Nat.{add-zero, add-suc}
 use native.Mathlib.Numerals.{add-one}
 use native.Mathlib.Decide.{decLt}
 use native.Mathlib.Omega.{arith}
-use lib.ListN.{length, getD, take, drop, set, replicate, length-append, length-take, length-drop, length-set, length-replicate, List·getD-append, take-append-drop, replicate-append-replicate}
-use lib.Seq.{length-take-le, getD-take, getD-drop, getD-append-add, drop-cons, set-at, append-snoc, take-suc, drop-drop, set-append-left, take-at, drop-at}
+use lib.ListN.{length, getD, take, drop, set, length-append, length-drop, List·getD-append, take-append-drop}
+use lib.Seq.{length-take-le, getD-take, getD-drop, getD-append-add, drop-cons, set-at, append-snoc, take-suc, drop-drop, take-at, drop-at}
 use Rattle.primitives.specs.Splice.{splice}
 
 -- a part that fits: nothing past its end, the part, what is before it
@@ -104,28 +104,6 @@ module _ (src : List ℕ) (from k : ℕ) (h : from + k < length src) where
 pub back : (d : List ℕ) (a k : ℕ) (s : List ℕ) → length s ≡ k → take a d ++ (s ++ drop k (drop a d)) ≡ splice d a s
 unfolding splice
 back d a k s e = rw (← e, drop-drop (length s) a d) (sym (append-assoc (take a d) s (drop (a + length s) d)))
-
--- a part that is put back as it was
-pub splice-self : (d : List ℕ) (a k : ℕ) → a + k ≤ length d → splice d a (take k (drop a d)) ≡ d
-unfolding splice
-splice-self d a k h =
-    let e : length (take k (drop a d)) ≡ k = length-take-le k (drop a d) (omega (arith, length-drop a d)) in
-    rw (e, append-assoc, ← drop-drop k a d, take-append-drop, take-append-drop)
-
-set-right : (p s : List ℕ) (j x : ℕ) → set (p ++ s) (length p + j) x ≡ p ++ set s j x
-set-right [] s j x = rw zero-add
-set-right (y ∷ p) s j x = rw suc-add (ap (λ (r : List ℕ). y ∷ r) (set-right p s j x))
-
--- a store into the part is one into the whole
-pub splice-set : (d : List ℕ) (a : ℕ) (s : List ℕ) (j x : ℕ) → a + length s ≤ length d → j < length s
-    → splice d a (set s j x) ≡ set (splice d a s) (a + j) x
-unfolding splice
-splice-set d a s j x h b =
-    let t : length (take a d) ≡ a = length-take-le a d (omega arith) in
-    rw length-set
-    (sym
-    (set-append-left (take a d ++ s) (drop (a + length s) d) (a + j) x (omega (arith, head d a s h))
-    ∙ ap (λ (r : List ℕ). r ++ drop (a + length s) d) (ap (λ (n : ℕ). set (take a d ++ s) (n + j) x) (sym t) ∙ set-right (take a d) s j x)))
 
 -- the front of a list
 take-front : (s t : List ℕ) → take (length s) (s ++ t) ≡ s

@@ -2,7 +2,7 @@
 use mathlib.Core.Path.{_≡_, refl, ap, ap₂, _∙_, sym}
 use mathlib.Core.List.{List}
 use Prim.Native.Nat.{ℕ, zero, suc, _+_, _*_, _/_, _%_, _^_, _<_, _≤_}
-use native.Mathlib.Nat.{add-zero, add-suc, add-assoc, add-mul, mul-assoc, mul-comm, pow-succ', div-add-mod', zero-lt-suc, add-comm, div-div-eq-div-mul, add-mul-div-right, add-mul-mod-self-right, lt-of-lt-of-le, mul-le-mul-right}
+use native.Mathlib.Nat.{add-zero, add-suc, add-assoc, add-mul, mul-assoc, mul-comm, pow-succ', div-add-mod', zero-lt-suc, add-comm, div-div-eq-div-mul, add-mul-div-right, add-mul-mod-self-right}
 use native.Mathlib.Omega.{arith}
 use lib.Arith.{mod-mul}
 use lib.Pow.{pow-add}
@@ -47,9 +47,6 @@ get-part n l a k at h =
 -- a word that ends before another that is put, or starts after it, is kept
 pub get-put-below : (n m : ℕ) (l : List ℕ) (a at v : ℕ) → a + n ≤ at → getLe n (putLe m l at v) a ≡ getLe n l a
 get-put-below n m l a at v h = get-same n (putLe m l at v) l a a (λ k b. put-below m l at v (a + k) (omega arith))
-
-pub get-put-above : (n m : ℕ) (l : List ℕ) (a at v : ℕ) → at + m ≤ a → getLe n (putLe m l at v) a ≡ getLe n l a
-get-put-above n m l a at v h = get-same n (putLe m l at v) l a a (λ k b. put-above m l at v (a + k) (omega arith))
 
 -- a word that was put is its number
 pub get-put : (n : ℕ) (l : List ℕ) (at v : ℕ) → at + n ≤ length l → getLe n (putLe n l at v) at ≡ v % 256 ^ n

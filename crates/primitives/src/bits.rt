@@ -1,11 +1,12 @@
 // Bits of a byte, by a mask of one bit, and bits of a bitmap that are skipped by the byte. Bit 0 is the lowest.
 ghost use mathlib.Core.Path.{_≡_};
-ghost use mathlib.Core.Bool.{_&&_};
-ghost use Prim.Native.Nat.{_+_, _*_, _≤_, _<_};
+ghost use mathlib.Core.Bool.{not, _&&_};
+ghost use Prim.Native.Nat.{_+_, _*_, _/_, _≤_, _<_};
 ghost use lib.Dec.{eqb};
 ghost use lib.ListN.{length};
+ghost use Rattle.search.specs.Search.{allFrom, fewest};
 ghost use Rattle.primitives.specs.Bits.{bitOf, setBit, clearBit, putBit};
-ghost use Rattle.primitives.specs.Internal.{sameBytes, pastBytes, clearFrom, firstClear};
+ghost use Rattle.primitives.specs.Internal.{byteIs, bitIs};
 
 // Whether bit j of b is set.
 pub fn bit_test(b: u8, j: u8) -> bool
@@ -55,12 +56,12 @@ pub fn both(a: bool, b: bool) -> bool
 // Whether the 64 bytes from i are all b. With no way out of the loop, the compiler compares 16 bytes at a time.
 fn same_block(bitmap: &[u8], i: usize, b: u8) -> bool
     requires { ⌜ i + 64 ≤ length (now bitmap) ⌝ }
-    ensures { λ r. ⌜ r ≡ sameBytes (now (bitmap .entry)) b i 64 ⌝ }
+    ensures { λ r. ⌜ r ≡ allFrom (byteIs (now (bitmap .entry)) b) i 64 ⌝ }
 {
     let mut same = true;
     let mut j: usize = 0;
     while j < 64 {
-        same = both(bitmap[i + j] == b, same);
+        same = both(same, bitmap[i + j] == b);
         j += 1;
     }
     same
@@ -69,7 +70,7 @@ fn same_block(bitmap: &[u8], i: usize, b: u8) -> bool
 // The first of the n bit numbers from k whose byte is not b; k + n where there is none. One test for each byte.
 fn past_each_byte(bitmap: &[u8], b: u8, k: u32, n: u32) -> u32
     requires { ⌜ (k + n ≤ 65536) × (k + n ≤ 8 * length (now bitmap)) ⌝ }
-    ensures { λ r. ⌜ r ≡ pastBytes (now (bitmap .entry)) b k n ⌝ }
+    ensures { λ r. ⌜ r ≡ fewest (λ j. not (byteIs (now (bitmap .entry)) b (j / 8))) n k ⌝ }
 {
     let end = k + n;
     let mut at = k;
@@ -84,9 +85,9 @@ fn past_each_byte(bitmap: &[u8], b: u8, k: u32, n: u32) -> u32
 }
 
 // The same, with one test for each block of 64 bytes as long as they are all b.
-pub fn past_bytes(bitmap: &[u8], b: u8, k: u32, n: u32) -> u32
+fn past_bytes(bitmap: &[u8], b: u8, k: u32, n: u32) -> u32
     requires { ⌜ (k + n ≤ 65536) × (k + n ≤ 8 * length (now bitmap)) ⌝ }
-    ensures { λ r. ⌜ (r ≡ pastBytes (now (bitmap .entry)) b k n) × ((k ≤ r) × (r ≤ k + n)) ⌝ }
+    ensures { λ r. ⌜ (r ≡ fewest (λ j. not (byteIs (now (bitmap .entry)) b (j / 8))) n k) × ((k ≤ r) × (r ≤ k + n)) ⌝ }
 {
     let end = k + n;
     let mut at = k;
@@ -101,47 +102,34 @@ pub fn past_bytes(bitmap: &[u8], b: u8, k: u32, n: u32) -> u32
     past_each_byte(bitmap, b, at, end - at)
 }
 
-// Whether none of the n bits from k is set. Bytes of 0 are passed at once.
-pub fn clear_from(bitmap: &[u8], k: u32, n: u32) -> bool
-    requires { ⌜ (k + n ≤ 65536) × (k + n ≤ 8 * length (now bitmap)) ⌝ }
-    ensures { λ r. ⌜ r ≡ clearFrom (now (bitmap .entry)) k n ⌝ }
+// The first of the n bits from k that is v; k + n where there is none. Bytes with no such bit are passed at once.
+pub fn first_bit(bitmap: &[u8], v: u8, k: u32, n: u32) -> u32
+    requires { ⌜ (v < 2) × ((k + n ≤ 65536) × (k + n ≤ 8 * length (now bitmap))) ⌝ }
+    ensures { λ r. ⌜ (r ≡ fewest (bitIs (now (bitmap .entry)) v) n k) × ((k ≤ r) × (r ≤ k + n)) ⌝ }
 {
     let end = k + n;
     let mut at = k;
     while at < end {
         let b = bitmap[(at / 8) as usize];
         let next = at + 1;
-        if bit_test(b, (at % 8) as u8) {
-            return false;
-        }
-        if next % 8 == 0 {
-            at = past_bytes(bitmap, 0, next, end - next);
-        } else {
-            at = next;
-        }
-    }
-    true
-}
-
-// The first of the n bits from k that is not set; k + n where there is none. Bytes of 0xFF are passed at once.
-pub fn first_clear(bitmap: &[u8], k: u32, n: u32) -> u32
-    requires { ⌜ (k + n ≤ 65536) × (k + n ≤ 8 * length (now bitmap)) ⌝ }
-    ensures { λ r. ⌜ (r ≡ firstClear (now (bitmap .entry)) k n) × ((k ≤ r) × (r ≤ k + n)) ⌝ }
-{
-    let end = k + n;
-    let mut at = k;
-    while at < end {
-        let b = bitmap[(at / 8) as usize];
-        let next = at + 1;
-        if bit_test(b, (at % 8) as u8) {
-            if next % 8 == 0 {
-                at = past_bytes(bitmap, 0xFF, next, end - next);
-            } else {
-                at = next;
-            }
-        } else {
+        if (b >> ((at % 8) as u8)) % 2 == v {
             return at;
+        }
+        if next % 8 != 0 {
+            at = next;
+        } else if v == 0 {
+            at = past_bytes(bitmap, 0xFF, next, end - next);
+        } else {
+            at = past_bytes(bitmap, 0, next, end - next);
         }
     }
     end
+}
+
+// Whether none of the n bits from k is set.
+pub fn none_set(bitmap: &[u8], k: u32, n: u32) -> bool
+    requires { ⌜ (k + n ≤ 65536) × (k + n ≤ 8 * length (now bitmap)) ⌝ }
+    ensures { λ r. ⌜ r ≡ allFrom (λ j. not (bitIs (now (bitmap .entry)) 1 j)) k n ⌝ }
+{
+    first_bit(bitmap, 1, k, n) == k + n
 }

@@ -1,14 +1,16 @@
 -- The lowest row that passes a test, the least number that one takes, and that only the numbers looked at matter. Assumes nothing.
 use mathlib.Core.Path.{_≡_, refl, sym, _∙_, ap, subst}
 use mathlib.Core.Logic.{_≢_}
-use mathlib.Core.Bool.{Bool, true, false, false≢true}
+use mathlib.Core.Bool.{Bool, true, false, not, false≢true}
 use Prim.Native.Nat.{ℕ, zero, suc, _+_, _-_, _≤_, _<_}
 use native.Mathlib.Decide.{decLt, ℕ-discrete}
 use native.Mathlib.Omega.{arith}
+use lib.Dec.{eqb}
+use borrow.Author.Tests.{eq-eqb, ne-eqb}
 use Rattle.tables.proofs.Cases.{clash, cond-case, and-left, and-right, and-both}
 use Rattle.search.specs.declared.found.Found.the-variants.{At, Nothing}
 use Rattle.search.specs.Search.{allFrom, firstRun, runFrom, fewest}
-use Rattle.search.proofs.Runs.{run-none}
+use Rattle.search.proofs.Runs.{all-not, run-none}
 
 -- the n numbers from s all pass
 abbrev pub Whole : (ℕ → Bool) → ℕ → ℕ → Type 0
@@ -145,3 +147,48 @@ module _ (p : ℕ → Bool) where
   fewest-at zero g h = absurd (omega arith)
   fewest-at (suc n) g h =
       cond-case (λ x. x < g + suc n → p x ≡ true) (p g) g (fewest p n (g + 1)) (λ e q. e) (λ e q. fewest-at n (g + 1) (omega arith)) h
+
+  -- those that do not pass are left out
+  pub fewest-skip : (g m end : ℕ) → g ≤ m → m ≤ end → ((h : ℕ) → g ≤ h → h < m → p h ≡ false) → fewest p (end - m) m ≡ fewest p (end - g) g
+  fewest-skip g m end a b f =
+      let r = fewest-bounds (end - m) m in
+      sym
+      (fewest-is (end - g) g (fewest p (end - m) m) (omega arith) (omega arith) (λ h. fewest-at (end - m) m (omega arith))
+      (λ h c d. elim (decLt h m) [
+        | yes w ↦ f h c w
+        | no w ↦ fewest-before (end - m) m h (omega arith) d
+      ]))
+
+  -- the search up to end: of n numbers, and of none
+  pub fewest-whole : (g n end : ℕ) → end ≡ g + n → fewest p (end - g) g ≡ fewest p n g
+  fewest-whole g n end e = let q : end - g ≡ n = omega arith in rw q refl
+
+  pub fewest-end : (g end : ℕ) → g ≡ end → fewest p (end - g) g ≡ end
+  fewest-end g end e = omega (arith, fewest-bounds (end - g) g)
+
+  -- none passes
+  pub fewest-none : (n g r : ℕ) → r ≡ fewest p n g → eqb r (g + n) ≡ allFrom (λ j. not (p j)) g n
+  fewest-none n g r q =
+      let t = fewest-bounds n g in
+      elim (ℕ-discrete r (g + n)) [
+        | yes e ↦ eq-eqb _ _ e ∙ sym (whole-all (λ j. not (p j)) g n (λ k a b. ap not (fewest-before n g k a (omega arith))))
+        | no e ↦ ne-eqb _ _ e
+            ∙ sym (all-not (λ j. not (p j)) g n (fewest p n g) (omega arith) (omega arith) (ap not (fewest-at n g (omega arith))))
+      ]
+
+  -- with its bounds, as a function promises it
+  pub fewest-within : (n g r : ℕ) → r ≡ fewest p n g → (r ≡ fewest p n g) × ((g ≤ r) × (r ≤ g + n))
+  fewest-within n g r e = let t = fewest-bounds n g in (e, (omega arith, omega arith))
+
+-- ---- numbers s further on
+
+module _ (p q : ℕ → Bool) (s : ℕ) where
+  pub fewest-shift : (n g : ℕ) → ((j : ℕ) → g ≤ j → j < g + n → p j ≡ q (j + s)) → fewest p n g + s ≡ fewest q n (g + s)
+  fewest-shift n g f =
+      let b = fewest-bounds p n g in
+      sym
+      (fewest-is q n (g + s) (fewest p n g + s) (omega arith) (omega arith)
+      (λ h. sym (f (fewest p n g) (omega arith) (omega arith)) ∙ fewest-at p n g (omega arith))
+      (λ h c d.
+      let e : h - s + s ≡ h = omega arith in
+      ap q (sym e) ∙ sym (f (h - s) (omega arith) (omega arith)) ∙ fewest-before p n g (h - s) (omega arith) (omega arith)))

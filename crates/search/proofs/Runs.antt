@@ -1,12 +1,12 @@
 -- Rows of numbers that pass a test, as code that searches meets them. Assumes nothing.
 use mathlib.Core.Path.{_≡_, refl, sym, _∙_, ap, ap₂}
 use mathlib.Core.Logic.{_≢_}
-use mathlib.Core.Bool.{Bool, true, false, and-false}
+use mathlib.Core.Bool.{Bool, true, false, _&&_, and-true, and-false, and-assoc}
 use Prim.Native.Nat.{ℕ, zero, suc, _+_, _-_, _≤_, _<_, min}
 use native.Mathlib.Decide.{decLt}
-use native.Mathlib.Numerals.{sub-one}
+use native.Mathlib.Numerals.{add-one, sub-one}
 use native.Mathlib.Omega.{arith}
-use Rattle.tables.specs.Count.{one}
+use Rattle.tables.specs.Lists.{every, consec}
 use Rattle.tables.proofs.Cases.{and-left, and-right, and-both}
 use Rattle.search.specs.declared.found.Found.the-variants.{At, Nothing}
 use Rattle.search.specs.Search.{allFrom, firstRun, runFrom}
@@ -36,13 +36,34 @@ module _ (u : ℕ → Bool) where
   all-none s zero h = refl
   all-none s (suc n) h = absurd (omega arith)
 
-  -- one more, by the last number
+  -- one more
+  pub all-more : (s n : ℕ) → allFrom u s (n + 1) ≡ allFrom u s n && u (s + n)
+  unfolding allFrom
+  all-more s n = rw add-one refl
+
+  -- the same, by the last number
   pub all-next : (s k n : ℕ) → s ≤ k → n ≡ k + 1 - s → allFrom u s (k - s) ≡ true → u k ≡ true → allFrom u s n ≡ true
   unfolding allFrom
   all-next s k n h q e f =
       let r : n ≡ suc (k - s) = omega arith in
       let t : s + (k - s) ≡ k = omega arith in
       rw r (and-both (allFrom u s (k - s)) (u (s + (k - s))) e (ap u t ∙ f))
+
+  -- by the first number
+  all-first : (s n : ℕ) → allFrom u s (suc n) ≡ u s && allFrom u (s + 1) n
+  unfolding allFrom
+  all-first s zero =
+      let q : s + zero ≡ s = omega arith in
+      rw q (sym (and-true (u s)))
+  all-first s (suc n) =
+      let q : s + suc n ≡ s + 1 + n = omega arith in
+      ap (λ b. b && u (s + suc n)) (all-first s n) ∙ rw q (and-assoc (u s) (allFrom u (s + 1) n) (u (s + 1 + n)))
+
+  -- by the list of the numbers
+  pub all-every : (s n : ℕ) → every u (consec s n) ≡ allFrom u s n
+  unfolding every consec
+  all-every s zero = sym (all-none s zero refl)
+  all-every s (suc n) = ap (λ b. u s && b) (all-every (s + 1) n) ∙ sym (all-first s n)
 
   -- a number of the run that fails
   pub all-not : (s n k : ℕ) → s ≤ k → k < s + n → u k ≡ false → allFrom u s n ≡ false
@@ -208,6 +229,16 @@ module _ (u : ℕ → Bool) where
     pub window-hit : (base t : ℕ) → t ≡ pastFailing u base n → base + n ≤ end → t ≡ base → runFrom u end n base ≡ At base
     window-hit base t q i z =
         run-hit base i (ap₂ (allFrom u) (sym (sym q ∙ z)) (omega arith) ∙ tail-rest base n)
+
+-- ---- numbers s further on
+
+module _ (u v : ℕ → Bool) (s : ℕ) where
+  pub all-shift : (k n : ℕ) → ((j : ℕ) → k ≤ j → j < k + n → u j ≡ v (j + s)) → allFrom u k n ≡ allFrom v (k + s) n
+  unfolding allFrom
+  all-shift k zero f = refl
+  all-shift k (suc n) f =
+      let q : k + n + s ≡ k + s + n = omega arith in
+      ap₂ _&&_ (all-shift k n (λ j a b. f j a (omega arith))) (f (k + n) (omega arith) (omega arith) ∙ ap v q)
 
 -- ---- a window tested by a test v that each number which passes u passes too
 

@@ -1,33 +1,29 @@
 -- What a store does to the bytes of streams, and what leaves them as they were. Assumes nothing.
 use mathlib.Core.Path.{_≡_, refl, sym, _∙_, ap, ap₂, subst}
 use mathlib.Core.Logic.{_≢_}
-use mathlib.Core.Bool.{Bool, true, false}
+use mathlib.Core.Bool.{Bool, true}
 use mathlib.Core.List.{List, [], _∷_, _++_, append-assoc}
 use Prim.Native.Nat.{ℕ, zero, suc, _+_, _-_, _*_, _≤_, _<_}
 use native.Mathlib.Decide.{decLe}
 use native.Mathlib.Nat.{suc-mul}
 use native.Mathlib.Omega.{arith}
-use lib.Dec.{ltb}
-use lib.ListN.{length, getD, take, drop, replicate, length-replicate, replicate-append-replicate, length-append, length-take, length-drop, take-append-drop, drop-of-length-le, List·getD-append}
-use lib.Seq.{take-append-seam, drop-append-seam, length-take-le, take-all, take-append-add, take-append-le, drop-append-le, drop-append-add, take-at, drop-at, getD-take, getD-drop, getD-append-add, ext-getD}
-use borrow.Author.Tests.{ltb-true}
+use lib.ListN.{length, getD, take, drop, length-append, length-take, length-drop, take-append-drop, drop-of-length-le, List·getD-append}
+use lib.Seq.{take-append-seam, length-take-le, take-all, take-append-add, take-append-le, drop-append-le, drop-append-add, take-at, drop-at, getD-take, getD-drop, getD-append-add, ext-getD}
 use Rattle.primitives.specs.Splice.{splice}
 use Rattle.primitives.proofs.SpliceLaws.{splice-nil, length-splice, splice-join}
-use Rattle.tables.specs.Internal.{only}
 use Rattle.tables.specs.Lists.{Mem, here, there, Distinct, more, every}
 use Rattle.tables.proofs.ListLaws.{every-head, every-tail, every-mem, mem-every}
-use Rattle.tables.proofs.TableLaws.{only-in, only-cong}
 use Rattle.boot.specs.declared.layout.Layout.{Layout}
 use Rattle.boot.specs.Layout.{clusterAt, inHeap}
-use Rattle.boot.proofs.Apart.{in-heap, cluster-end}
-use Rattle.metadata.specs.Fat.{fatEntry, setFat}
-use Rattle.metadata.specs.Marks.{marked, setMark}
+use Rattle.boot.proofs.Apart.{in-heap}
+use Rattle.metadata.specs.Fat.{fatEntry}
+use Rattle.metadata.specs.Marks.{marked}
 use Rattle.metadata.specs.Cluster.{clusterByte, putBytes}
-use Rattle.metadata.proofs.Frame.{Fits, fits-kept, length-fat, length-mark, length-bytes, cluster-fat, cluster-mark, bytes-other, fat-bytes, mark-bytes}
-use Rattle.metadata.proofs.View.{plain, plain-heap, plain-off, view, view-byte-at}
+use Rattle.metadata.proofs.Frame.{Fits, fits-kept, length-bytes, bytes-other, fat-bytes, mark-bytes}
+use Rattle.metadata.proofs.View.{plain, plain-heap, plain-off}
 use Rattle.stream.specs.Internal.{along}
 use Rattle.stream.specs.Bytes.{clusterBytes, bytesOf, storeAt}
-use Rattle.stream.proofs.BytesSteps.{every-take, along-same, store-past, store-here, store-nothing, store-over, length-cluster, bytes-over}
+use Rattle.stream.proofs.BytesSteps.{every-take, along-same, store-past, store-here, store-nothing, length-cluster}
 
 -- ---- parts of lists
 
@@ -149,11 +145,6 @@ module _ (y : Layout) (d : List ℕ) (w : Fits y d) where
 
   -- at the border of clusters
   module _ (m : ℕ) (ks : List ℕ) (h : m ≤ length ks) (e : every (inHeap (y .count)) ks ≡ true) where
-    pub drop-of : drop (m * y .size) (bytesOf y d ks) ≡ bytesOf y d (drop m ks)
-    drop-of =
-        let z : m * y .size ≡ m * y .size + 0 = omega arith in
-        ap (λ (x : ℕ). drop x (bytesOf y d ks)) z ∙ bytes-over y d (w .laid) (w .long) m ks 0 h e
-
     pub take-of : take (m * y .size) (bytesOf y d ks) ≡ bytesOf y d (take m ks)
     take-of =
         let n : length (take m ks) ≡ m = length-take-le m ks h in
@@ -162,34 +153,11 @@ module _ (y : Layout) (d : List ℕ) (w : Fits y d) where
         ∙ ap (take (m * y .size)) (bytes-append y d (take m ks) (drop m ks))
         ∙ take-at (bytesOf y d (take m ks)) (bytesOf y d (drop m ks)) (m * y .size) (length-of (take m ks) i ∙ ap (λ (x : ℕ). x * y .size) n)
 
-  -- a FAT entry stored
-  pub bytes-fat : (k v : ℕ) (ks : List ℕ) → k < y .count + 2 → bytesOf y (setFat y d k v) ks ≡ bytesOf y d ks
-  bytes-fat k v ks h =
-      bytes-cong y d (setFat y d k v) ks
-      (λ j _. cluster-cong y d (setFat y d k v) j (length-fat y d k v) (λ r _. cluster-fat y d w k v j r h))
-
-  -- a mark stored
-  pub bytes-mark : (k : ℕ) (on : Bool) (ks : List ℕ) → inHeap (y .count) k ≡ true → every (plain y) ks ≡ true
-      → bytesOf y (setMark y d k on) ks ≡ bytesOf y d ks
-  bytes-mark k on ks h e =
-      bytes-cong y d (setMark y d k on) ks
-      (λ j m. let p = every-mem (plain y) ks e j m in
-      cluster-cong y d (setMark y d k on) j (length-mark y d k on) (λ r b. cluster-mark y d w k on j r h (plain-heap y j p) (plain-off y j p) b))
-
   -- bytes stored in another cluster
   pub cluster-apart : (k j : ℕ) (bs : List ℕ) (i : ℕ) → inHeap (y .count) k ≡ true → j + length bs ≤ y .size → inHeap (y .count) i ≡ true → i ≢ k
       → clusterBytes y (putBytes y d k j bs) i ≡ clusterBytes y d i
   cluster-apart k j bs i h f g n =
       cluster-cong y d (putBytes y d k j bs) i (length-bytes y d w k j bs h f) (λ r b. bytes-other y d w k j bs i r h g n f b)
-
--- volumes with the same table of bytes
-pub bytes-view : (y : Layout) (d e ks : List ℕ) → length e ≡ length d → view y e .byte ≡ view y d .byte → every (plain y) ks ≡ true
-    → bytesOf y e ks ≡ bytesOf y d ks
-bytes-view y d e ks n v p =
-    bytes-cong y d e ks
-    (λ k m. let q = every-mem (plain y) ks p k m in
-    cluster-cong y d e k n
-    (λ r b. sym (view-byte-at y e k r q b) ∙ ap (λ (f : ℕ → ℕ → ℕ). f k r) v ∙ view-byte-at y d k r q b))
 
 pub plain-in-heap : (y : Layout) (ks : List ℕ) → every (plain y) ks ≡ true → every (inHeap (y .count)) ks ≡ true
 plain-in-heap y ks e = mem-every (inHeap (y .count)) ks (λ k m. plain-heap y k (every-mem (plain y) ks e k m))
@@ -218,9 +186,6 @@ module _ (y : Layout) (d : List ℕ) (w : Fits y d) (ks : List ℕ) (e : every (
   pub length-store : length (storeAt y d ks at bs) ≡ length d
   length-store = store-keeps y (λ l. length l ≡ length d) ks e (λ l k j s v m h f p. length-bytes y l v k j s h f ∙ p) d at bs w refl
 
-  pub fits-store : Fits y (storeAt y d ks at bs)
-  fits-store = fits-kept y d (storeAt y d ks at bs) length-store w
-
   pub fat-store : (i : ℕ) → i < y .count + 2 → fatEntry y (storeAt y d ks at bs) i ≡ fatEntry y d i
   fat-store i b = store-keeps y (λ l. fatEntry y l i ≡ fatEntry y d i) ks e (λ l k j s v m h f p. fat-bytes y l v k j s i h f b ∙ p) d at bs w refl
 
@@ -229,10 +194,6 @@ module _ (y : Layout) (d : List ℕ) (w : Fits y d) (ks : List ℕ) (e : every (
       → along (fatEntry y (storeAt y d ks at bs)) run k n ≡ along (fatEntry y d) run k n
   along-store run k n h =
       sym (along-same (y .count) (fatEntry y d) (fatEntry y (storeAt y d ks at bs)) (λ j i. sym (fat-store j (in-heap (y .count) j i .1))) run k n h)
-
-  pub heap-store : (run : Bool) (k n : ℕ) → every (inHeap (y .count)) (along (fatEntry y d) run k n) ≡ true
-      → every (inHeap (y .count)) (along (fatEntry y (storeAt y d ks at bs)) run k n) ≡ true
-  heap-store run k n h = ap (every (inHeap (y .count))) (along-store run k n h) ∙ h
 
   pub mark-store : every (plain y) ks ≡ true → (i : ℕ) → inHeap (y .count) i ≡ true → marked y (storeAt y d ks at bs) i ≡ marked y d i
   mark-store o i g =
@@ -249,40 +210,6 @@ module _ (y : Layout) (d : List ℕ) (w : Fits y d) (ks : List ℕ) (e : every (
       → bytesOf y (storeAt y d ks at bs) js ≡ bytesOf y d js
   bytes-store-apart js g o =
       bytes-cong y d (storeAt y d ks at bs) js (λ k m. cluster-store k (every-mem (inHeap (y .count)) js g k m) (o k m))
-
--- ---- the tables of the volume after a store
-
-module _ (y : Layout) (d : List ℕ) (w : Fits y d) (ks : List ℕ) (e : every (plain y) ks ≡ true) (at : ℕ) (bs : List ℕ) where
-  pub view-store-fat : view y (storeAt y d ks at bs) .fat ≡ view y d .fat
-  unfolding view
-  view-store-fat =
-      only-cong (inHeap (y .count)) 0 (fatEntry y d) (fatEntry y (storeAt y d ks at bs))
-      (λ i g. fat-store y d w ks (plain-in-heap y ks e) at bs i (in-heap (y .count) i g .1))
-
-  pub view-store-mark : view y (storeAt y d ks at bs) .mark ≡ view y d .mark
-  unfolding view
-  view-store-mark =
-      only-cong (inHeap (y .count)) false (marked y d) (marked y (storeAt y d ks at bs)) (λ i g. mark-store y d w ks (plain-in-heap y ks e) at bs e i g)
-
-  pub view-store-byte : (k : ℕ) → (Mem k ks → ⊥) → view y (storeAt y d ks at bs) .byte k ≡ view y d .byte k
-  unfolding view
-  view-store-byte k o = by (plain y k) refl
-    where
-      d′ : List ℕ
-      d′ = storeAt y d ks at bs
-
-      same : plain y k ≡ true → (r : ℕ) → r < y .size → clusterByte y d′ k r ≡ clusterByte y d k r
-      same p r b =
-          sym (cluster-at y d′ k r b)
-          ∙ ap (λ (l : List ℕ). getD l r 0) (cluster-store y d w ks (plain-in-heap y ks e) at bs k (plain-heap y k p) o) ∙ cluster-at y d k r b
-
-      by : (b : Bool) → plain y k ≡ b
-          → only (plain y) (λ j. 0) (λ c. only (λ j. ltb j (y .size)) 0 (clusterByte y d′ c)) k
-          ≡ only (plain y) (λ j. 0) (λ c. only (λ j. ltb j (y .size)) 0 (clusterByte y d c)) k
-      by true p =
-          rw (only-in (plain y) (λ j. 0) (λ c. only (λ j. ltb j (y .size)) 0 (clusterByte y d′ c)) k p, only-in (plain y) (λ j. 0) (λ c. only (λ j. ltb j (y .size)) 0 (clusterByte y d c)) k p)
-          (only-cong (λ j. ltb j (y .size)) 0 (clusterByte y d k) (clusterByte y d′ k) (λ r b. same p r (ltb-true r (y .size) b)))
-      by false p = unfold only in (rw p refl)
 
 -- ---- the bytes of the stream itself
 
@@ -345,14 +272,6 @@ read-back y d w ks u e at bs b =
 
 -- ---- stores one after the other
 
--- two stores in one cluster
-put-two : (y : Layout) (d : List ℕ) → Fits y d → (k j : ℕ) (a b : List ℕ) → inHeap (y .count) k ≡ true → j + length a ≤ y .size
-    → putBytes y (putBytes y d k j a) k (j + length a) b ≡ putBytes y d k j (a ++ b)
-unfolding putBytes
-put-two y d w k j a b h f =
-    let n = w .long in
-    splice-join d (clusterAt y k + j) a b (clusterAt y k + (j + length a)) (omega (arith, cluster-end y (w .laid) (w .apart) k h)) (omega arith)
-
 -- a store that the first cluster has room for
 pub store-first : (y : Layout) (d : List ℕ) (k : ℕ) (ks : List ℕ) (at : ℕ) (bs : List ℕ) → at < y .size → at + length bs ≤ y .size
     → storeAt y d (k ∷ ks) at bs ≡ putBytes y d k at bs
@@ -361,54 +280,6 @@ store-first y d k ks at bs low h =
     store-here y d k ks at bs low
     ∙ ap₂ (λ (u v : List ℕ). storeAt y (putBytes y d k at u) ks 0 v) (take-all n bs (omega arith)) (drop-of-length-le bs {i = n} (omega arith))
     ∙ store-nothing y (putBytes y d k at bs) ks 0
-
--- the store of two parts, the second right after the first, is the store of the whole
-pub store-two : (y : Layout) (d : List ℕ) → Fits y d → (ks : List ℕ) → every (inHeap (y .count)) ks ≡ true → (at : ℕ) (a b : List ℕ)
-    → storeAt y (storeAt y d ks at a) ks (at + length a) b ≡ storeAt y d ks at (a ++ b)
-store-two y d w [] e at a b = unfold storeAt in refl
-store-two y d w (k ∷ ks) e at a b =
-    let h = every-head (inHeap (y .count)) k ks e in
-    let t = every-tail (inHeap (y .count)) k ks e in
-    let n = y .size - at in
-    elim (decLe (y .size) at) [
-      | yes f ↦
-          let z : at + length a - y .size ≡ at - y .size + length a = omega arith in
-          ap (λ (l : List ℕ). storeAt y l (k ∷ ks) (at + length a) b) (store-past y d k ks at a f)
-          ∙ store-past y (storeAt y d ks (at - y .size) a) k ks (at + length a) b (omega arith)
-          ∙ ap (λ (x : ℕ). storeAt y (storeAt y d ks (at - y .size) a) ks x b) z ∙ store-two y d w ks t (at - y .size) a b
-          ∙ sym (store-past y d k ks at (a ++ b) f)
-      | no f ↦ elim (decLe n (length a)) [
-        | yes g ↦
-            let d₁ = putBytes y d k at (take n a) in
-            let l : at + length (take n a) ≤ y .size = omega (arith, take-short n a) in
-            let w₁ = fits-kept y d d₁ (length-bytes y d w k at (take n a) h l) w in
-            let z : at + length a - y .size ≡ 0 + length (drop n a) = omega (arith, length-drop n a) in
-            let p : take n (a ++ b) ≡ take n a = take-append-le n a b g in
-            let q : drop n (a ++ b) ≡ drop n a ++ b = drop-append-le n a b g in
-            ap (λ (l : List ℕ). storeAt y l (k ∷ ks) (at + length a) b) (store-here y d k ks at a (omega arith))
-            ∙ store-past y (storeAt y d₁ ks 0 (drop n a)) k ks (at + length a) b (omega arith)
-            ∙ ap (λ (x : ℕ). storeAt y (storeAt y d₁ ks 0 (drop n a)) ks x b) z ∙ store-two y d₁ w₁ ks t 0 (drop n a) b
-            ∙ sym (store-here y d k ks at (a ++ b) (omega arith) ∙ ap₂ (λ (u v : List ℕ). storeAt y (putBytes y d k at u) ks 0 v) p q)
-        | no g ↦
-            let i : y .size - (at + length a) ≡ n - length a = omega arith in
-            let s : n ≡ length a + (n - length a) = omega arith in
-            let p : take n (a ++ b) ≡ a ++ take (n - length a) b = ap (λ (x : ℕ). take x (a ++ b)) s ∙ take-append-add a b (n - length a) in
-            let q : drop n (a ++ b) ≡ drop (n - length a) b = ap (λ (x : ℕ). drop x (a ++ b)) s ∙ drop-append-add a b (n - length a) in
-            ap (λ (l : List ℕ). storeAt y l (k ∷ ks) (at + length a) b) (store-first y d k ks at a (omega arith) (omega arith))
-            ∙ store-here y (putBytes y d k at a) k ks (at + length a) b (omega arith)
-            ∙ ap (λ (x : ℕ). storeAt y (putBytes y (putBytes y d k at a) k (at + length a) (take x b)) ks 0 (drop x b)) i
-            ∙ ap (λ (l : List ℕ). storeAt y l ks 0 (drop (n - length a) b)) (put-two y d w k at a (take (n - length a) b) h (omega arith))
-            ∙ sym (store-here y d k ks at (a ++ b) (omega arith) ∙ ap₂ (λ (u v : List ℕ). storeAt y (putBytes y d k at u) ks 0 v) p q)
-      ]
-    ]
-
--- zeros likewise
-pub store-zeros : (y : Layout) (d : List ℕ) → Fits y d → (ks : List ℕ) → every (inHeap (y .count)) ks ≡ true → (at m n : ℕ)
-    → storeAt y (storeAt y d ks at (replicate m 0)) ks (at + m) (replicate n 0) ≡ storeAt y d ks at (replicate (m + n) 0)
-store-zeros y d w ks e at m n =
-    let z : at + m ≡ at + length (replicate {A = ℕ} m 0) = omega (arith, length-replicate {A = ℕ} m 0) in
-    ap (λ (x : ℕ). storeAt y (storeAt y d ks at (replicate m 0)) ks x (replicate n 0)) z ∙ store-two y d w ks e at (replicate m 0) (replicate n 0)
-    ∙ ap (storeAt y d ks at) (replicate-append-replicate m n 0)
 
 -- ---- stores in the front, and in the rest, of a list of clusters
 
@@ -425,8 +296,3 @@ store-front y d (j ∷ js) ks at bs h =
           store-here y d j (js ++ ks) at bs (omega arith)
           ∙ store-front y (putBytes y d j at (take n bs)) js ks 0 (drop n bs) (omega (arith, length-drop n bs)) ∙ sym (store-here y d j js at bs (omega arith))
     ]
-
-pub store-rest : (y : Layout) (d js ks : List ℕ) (at : ℕ) (bs : List ℕ) → storeAt y d (js ++ ks) (length js * y .size + at) bs ≡ storeAt y d ks at bs
-store-rest y d js ks at bs =
-    let n = length-append js ks in
-    store-over y (length js) d (js ++ ks) at bs (omega arith) ∙ ap (λ (l : List ℕ). storeAt y d l at bs) (drop-append-seam js ks)

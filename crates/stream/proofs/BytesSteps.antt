@@ -1,15 +1,15 @@
 -- Streams gone through cluster by cluster: a step of a seek, of a store and of a reading. Assumes nothing.
 use mathlib.Core.Path.{_≡_, refl, sym, _∙_, ap, ap₂}
 use mathlib.Core.Bool.{Bool, true, cond}
-use mathlib.Core.List.{List, [], _∷_, _++_, append-assoc, append-nil}
+use mathlib.Core.List.{List, [], _∷_, _++_, append-nil}
 use Prim.Native.Nat.{ℕ, zero, suc, _+_, _-_, _*_, _/_, _%_, _≤_, _<_, min}
 use native.Mathlib.Decide.{decLe}
 use native.Mathlib.Nat.{sub-zero, zero-sub, suc-mul, add-mul, mul-le-mul-right, div-add-mod', mod-lt}
 use native.Mathlib.Numerals.{sub-one}
 use native.Mathlib.Omega.{arith}
 use lib.Dec.{leb}
-use lib.ListN.{length, take, drop, replicate, length-append, length-drop, drop-of-length-le}
-use lib.Seq.{length-take-le, take-all, take-nil, drop-nil, take-append-le, drop-append-le, take-append-add, drop-append-add, take-at, drop-at, take-take, drop-drop}
+use lib.ListN.{length, take, drop, replicate, length-drop, drop-of-length-le}
+use lib.Seq.{length-take-le, take-all, take-nil, drop-nil, take-append-le, drop-append-le, take-append-add, drop-append-add, take-take, drop-drop}
 use borrow.Author.Tests.{le-leb, lt-leb}
 use Rattle.primitives.specs.Splice.{splice}
 use Rattle.primitives.proofs.SpliceLaws.{splice-nil, splice-join}

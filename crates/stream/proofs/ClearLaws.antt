@@ -1,6 +1,6 @@
 -- What a walk saw of a chain's system clusters, and what it says of the record's. Assumes nothing.
 use mathlib.Core.Path.{_≡_, refl, sym, _∙_, ap}
-use mathlib.Core.Bool.{Bool, true, false, not, _&&_, false≢true, and-false}
+use mathlib.Core.Bool.{Bool, true, false, not, false≢true, and-false}
 use mathlib.Core.List.{List}
 use Prim.Native.Nat.{ℕ}
 use native.Mathlib.Decide.{ℕ-discrete}
@@ -12,7 +12,7 @@ use Rattle.metadata.specs.Fat.{fatEntry}
 use Rattle.metadata.specs.Marks.{marked}
 use Rattle.stream.specs.declared.allocation.Allocation.{Allocation}
 use Rattle.stream.specs.Chain.{Clusters, readChain}
-use Rattle.stream.specs.Stream.{streamOf, readStream, checkChain, numberOf, clustersIn, clustersOf, systemCause}
+use Rattle.stream.specs.Stream.{streamOf, checkChain, numberOf, clustersIn, clustersOf, systemCause}
 use Rattle.stream.specs.Internal.{barred, walked, chainClear, streamClear}
 use Rattle.stream.proofs.ChainLaws.{chain-out, stream-chain, chain-clear}
 use Rattle.stream.proofs.SystemLaws.{system-clear}

@@ -43,14 +43,6 @@ module _ (fat fat′ : ℕ → ℕ) (run : Bool) where
   unfolding after
   after-cong k e = ap (λ (x : ℕ). cond run (k + 1) x) e
 
-  -- the last one's entry does not matter
-  pub along-front : (k n : ℕ) → ((j : ℕ) → Mem j (along fat run k n) → fat′ j ≡ fat j) → along fat′ run k (suc n) ≡ along fat run k (suc n)
-  unfolding along
-  along-front k zero h = refl
-  along-front k (suc n) h =
-      ap (λ (ks : List ℕ). k ∷ ks)
-      (ap (λ (x : ℕ). along fat′ run x (suc n)) (after-cong k (h k (here refl))) ∙ along-front (after fat run k) n (λ j m. h j (there m)))
-
   pub along-cong : (k n : ℕ) → ((j : ℕ) → Mem j (along fat run k n) → fat′ j ≡ fat j) → along fat′ run k n ≡ along fat run k n
   unfolding along
   along-cong k zero h = refl
@@ -91,16 +83,6 @@ module _ (C : ℕ) (f : ℕ → ℕ) where
   pub chain-heap : (k : ℕ) (ks : List ℕ) → Chain C f k ks → every (inHeap C) ks ≡ true
   chain-heap k [] p = unfold every in refl
   chain-heap k (c ∷ cs) p = every-cons (inHeap C) c cs (p .1) (chain-heap (f c) cs (p .2))
-
-  pub chain-goes : (k : ℕ) (ks : List ℕ) → Chain C f k ks → ks ≡ along f false k (length ks)
-  unfolding along after
-  chain-goes k [] p = refl
-  chain-goes k (c ∷ cs) p = rw (p .0) (ap (λ (x : List ℕ). c ∷ x) (chain-goes (f c) cs (p .2)))
-
-  pub chain-ends : (k c : ℕ) (cs : List ℕ) → Chain C f k (c ∷ cs) → f (lastOr c cs) ≡ END
-  unfolding lastOr
-  chain-ends k c [] p = p .2
-  chain-ends k c (b ∷ bs) p = chain-ends (f c) b bs (p .2)
 
   -- the rest of a chain, after one of its clusters
   chain-from : (k : ℕ) (ks : List ℕ) (c : ℕ) → Chain C f k ks → Mem c ks → (ls : List ℕ) × (length ls < length ks) × Chain C f (f c) ls
@@ -188,15 +170,6 @@ module _ (C : ℕ) (small : C + 2 ≤ END) (f f′ : ℕ → ℕ) where
       (chain-onto C f f′ k c cs [] (b ∷ bs)
       (subst (λ (x : List ℕ). Chain C f k (c ∷ x)) (sym (append-nil cs)) p) (chain-distinct C f small k (c ∷ cs) p) h
       (rw q (chain-links C f′ b bs l i z)))
-
-  -- entries outside it do not matter
-  pub chain-frame : (k : ℕ) (ks : List ℕ) → ((j : ℕ) → Mem j ks → f′ j ≡ f j) → Chain C f k ks → Chain C f′ k ks
-  chain-frame k [] h p = p
-  chain-frame k (c ∷ cs) h p = (p .0, p .1, rw (h c (here refl)) (chain-frame (f c) cs (λ j m. h j (there m)) (p .2)))
-
-  pub listed-frame : (k : ℕ) (ks : List ℕ) → ((j : ℕ) → Mem j ks → f′ j ≡ f j) → readChain C f k ≡ listed ks → readChain C f′ k ≡ listed ks
-  listed-frame k [] h e = let r = read-chain-facts C f k [] e in let s = r .1 .some in absurd (omega arith)
-  listed-frame k (c ∷ cs) h e = chain-listed C f′ small k c cs (chain-frame k (c ∷ cs) h (listed-chain C f k (c ∷ cs) e))
 
 -- ---- records
 

@@ -1,10 +1,9 @@
 -- What listing answers and leaves, by the first cause that is met. Assumes nothing.
 use mathlib.Core.Path.{_≡_, refl, sym, _∙_, ap}
-use mathlib.Core.Bool.{Bool, true, false, cond}
-use mathlib.Core.List.{List, [], _∷_}
+use mathlib.Core.Bool.{true}
+use mathlib.Core.List.{List}
 use Prim.Native.Nat.{ℕ, _≤_, _<_}
 use native.Mathlib.Omega.{arith}
-use lib.Dec.{eqb, ltb}
 use lib.ListN.{length}
 use borrow.Author.Tests.{eq-eqb, ne-eqb, lt-ltb, le-ltb}
 use Rattle.primitives.specs.Splice.{splice}
@@ -19,7 +18,7 @@ use Rattle.metadata.specs.Fat.{fatEntry}
 use Rattle.metadata.specs.Marks.{marked}
 use Rattle.stream.specs.declared.allocation.Allocation.{Allocation}
 use Rattle.stream.specs.Chain.{listed}
-use Rattle.stream.specs.Stream.{numberOf, streamOf, readStream, clustersOf}
+use Rattle.stream.specs.Stream.{numberOf, streamOf, clustersOf}
 use Rattle.stream.specs.Internal.{along}
 use Rattle.stream.specs.Listing.{roomCause, listedNumber, listedList, listingNumber, listingList}
 use Rattle.stream.proofs.ChainLaws.{stream-listed}

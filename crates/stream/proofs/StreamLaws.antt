@@ -20,7 +20,7 @@ use Rattle.stream.specs.declared.allocation.Allocation.{Allocation}
 use Rattle.stream.specs.declared.walk.Next.{Next}
 use Rattle.stream.specs.declared.walk.Next.the-variants.{End, More, Wrong}
 use Rattle.stream.specs.Chain.{Clusters, listed, refused, nextOf, byNext, withFirst, chainFrom, readChain}
-use Rattle.stream.specs.Stream.{numberOf, runCause, readRun, checkChain, readStream}
+use Rattle.stream.specs.Stream.{runCause, readRun, checkChain, readStream}
 use Rattle.stream.specs.Internal.{after, along}
 use Rattle.stream.proofs.ChainLaws.{more-in, stream-empty, stream-run, stream-chain}
 

@@ -1,33 +1,25 @@
 -- System clusters of a stream, and of a run. Assumes nothing.
 use mathlib.Core.Path.{_≡_, refl, sym, _∙_, ap}
-use mathlib.Core.Bool.{Bool, true, false, not, cond, _&&_}
+use mathlib.Core.Bool.{Bool, true, false, not, cond}
 use mathlib.Core.List.{List}
-use Prim.Native.Nat.{ℕ, zero, suc, _+_, _-_, _≤_, _<_}
+use Prim.Native.Nat.{ℕ, zero, suc, _-_, _≤_, _<_}
 use native.Mathlib.Numerals.{sub-one}
 use native.Mathlib.Omega.{arith}
-use lib.Dec.{eqb}
 use lib.ListN.{drop}
-use Rattle.primitives.specs.Bits.{bitAt}
-use Rattle.primitives.specs.Internal.{clearFrom}
-use Rattle.primitives.proofs.ByteLaws.{clear-first}
+use Rattle.primitives.specs.Internal.{bitIs}
 use Rattle.tables.specs.Lists.{every, consec}
+use Rattle.search.specs.Search.{allFrom}
+use Rattle.search.proofs.Runs.{all-every}
 use Rattle.boot.specs.Limits.{inMap}
+use Rattle.metadata.proofs.WindowLaws.{map-all}
 use Rattle.stream.specs.Stream.{systemCause}
 use Rattle.stream.specs.Internal.{after, along}
 use Rattle.stream.proofs.BytesSteps.{every-drop}
 
 -- a run has a system cluster where one of its bits of the map is set
-run-every : (m : List ℕ) (k n : ℕ) → 2 ≤ k → every (λ j. not (inMap m j)) (consec k n) ≡ clearFrom m (k - 2) n
-unfolding every consec clearFrom inMap
-run-every m k zero h = refl
-run-every m k (suc n) h =
-    let q : k + 1 - 2 ≡ k - 2 + 1 = omega arith in
-    ap (λ b. not (eqb (bitAt m (k - 2)) 1) && b) (run-every m (k + 1) n (omega arith) ∙ ap (λ (x : ℕ). clearFrom m x n) q)
-    ∙ sym (clear-first m (k - 2) n)
-
-pub run-system : (m : List ℕ) (k n : ℕ) (b : Bool) → 2 ≤ k → clearFrom m (k - 2) n ≡ b → systemCause m (consec k n) ≡ cond b 0 9
+pub run-system : (m : List ℕ) (k n : ℕ) (b : Bool) → 2 ≤ k → allFrom (λ j. not (bitIs m 1 j)) (k - 2) n ≡ b → systemCause m (consec k n) ≡ cond b 0 9
 unfolding systemCause
-run-system m k n b h e = ap (λ b. cond b 0 9) (run-every m k n h ∙ e)
+run-system m k n b h e = ap (λ b. cond b 0 9) (all-every (λ j. not (inMap m j)) k n ∙ sym (map-all m k n h) ∙ e)
 
 -- ---- along a stream
 

@@ -10,7 +10,6 @@ use Rattle.boot.specs.declared.layout.Layout.{Layout}
 use Rattle.boot.specs.Layout.{layoutOf}
 use Rattle.boot.specs.Causes.{firstCause, admitCause}
 use Rattle.stream.specs.declared.allocation.Allocation.{Allocation}
-use Rattle.stream.specs.Chain.{refused}
 use Rattle.stream.specs.Stream.{numberOf, clustersOf, streamOf}
 
 -- 14: the list is shorter than the stream's count

@@ -9,7 +9,7 @@ ghost use Rattle.boot.specs.Internal.{Laid, Apart};
 ghost use Rattle.boot.specs.Layout.{clusterAt, inHeap};
 ghost use Rattle.metadata.specs.Fat.{fatEntry};
 ghost use Rattle.metadata.specs.Cluster.{putBytes};
-ghost use Rattle.stream.specs.Internal.{after, along, reached, Known};
+ghost use Rattle.stream.specs.Internal.{along, reached, Known};
 ghost use Rattle.stream.specs.Bytes.{clusterBytes, bytesOf, storeAt};
 use crate::allocation::Allocation;
 use boot::layout::Layout;

@@ -16,7 +16,7 @@ fn run_system_cause(map: &[u8], first: u32, n: u32) -> u32
     requires { ⌜ (2 ≤ first) × ((first + n ≤ 65536) × (first + n ≤ 8 * length (now map) + 2)) ⌝ }
     ensures { λ r. ⌜ r ≡ systemCause (now (map .entry)) (consec first n) ⌝ }
 {
-    if primitives::bits::clear_from(map, first - 2, n) {
+    if primitives::bits::none_set(map, first - 2, n) {
         return 0;
     }
     9

@@ -1,12 +1,12 @@
 -- The laws of membership, of tests, and of consecutive numbers. Assumes nothing.
-use mathlib.Core.Path.{_≡_, refl, sym, _∙_, ap}
+use mathlib.Core.Path.{_≡_, refl, ap}
 use mathlib.Core.Logic.{_⊎_, inl, inr, ⊎-elim}
-use mathlib.Core.Bool.{Bool, true, false, _&&_, false≢true}
+use mathlib.Core.Bool.{Bool, true, false, false≢true}
 use mathlib.Core.List.{List, [], _∷_, _++_}
 use Prim.Native.Nat.{ℕ, zero, suc, _+_, _-_, _≤_, _<_}
 use native.Mathlib.Decide.{ℕ-discrete}
 use native.Mathlib.Omega.{arith}
-use lib.ListN.{length, take, drop}
+use lib.ListN.{length, take}
 use Rattle.tables.specs.Lists.{Mem, here, there, Distinct, none, more, every, lastOr, consec}
 
 pub mem-append : {k : ℕ} (xs : List ℕ) {ys : List ℕ} → Mem k (xs ++ ys) → Mem k xs ⊎ Mem k ys

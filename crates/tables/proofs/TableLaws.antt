@@ -3,14 +3,12 @@ use mathlib.Core.Path.{_≡_, refl, sym, _∙_, ap, subst, fun-ext}
 use mathlib.Core.Logic.{_≢_}
 use mathlib.Core.Bool.{Bool, true, false, cond}
 use mathlib.Core.List.{List, [], _∷_}
-use Prim.Native.Nat.{ℕ, zero, suc, _+_, _≤_, _<_}
+use Prim.Native.Nat.{ℕ}
 use native.Mathlib.Decide.{ℕ-discrete}
-use native.Mathlib.Omega.{arith}
-use lib.ListN.{length, getD}
 use lib.Dec.{eqb}
 use borrow.Author.Tests.{eq-eqb, ne-eqb}
 use Rattle.tables.specs.Table.{upd}
-use Rattle.tables.specs.Internal.{updAll, updFrom, only}
+use Rattle.tables.specs.Internal.{updAll, only}
 use Rattle.tables.specs.Lists.{Mem, here, there}
 
 -- ---- one entry
@@ -82,20 +80,3 @@ module _ {ℓ} {A : Type ℓ} where
       at j (no q) false r = rw (upd-other (only p z f) k v j q, r)
 
 -- ---- the entries from a key on
-
-pub from-other : (f : ℕ → ℕ) (k : ℕ) (vs : List ℕ) (j : ℕ) → ((r : ℕ) → r < length vs → j ≢ k + r) → updFrom f k vs j ≡ f j
-unfolding updFrom
-from-other f k [] j h = refl
-from-other f k (v ∷ vs) j h =
-    from-other (upd f k v) (suc k) vs j (λ r l e. h (suc r) (omega arith) (omega arith))
-    ∙ upd-other f k v j (λ e. h 0 (omega arith) (omega arith))
-
-pub from-same : (f : ℕ → ℕ) (k : ℕ) (vs : List ℕ) (r : ℕ) → r < length vs → updFrom f k vs (k + r) ≡ getD vs r 0
-unfolding updFrom
-from-same f k [] r l = absurd (omega arith)
-from-same f k (v ∷ vs) zero l =
-    let e : k + 0 ≡ k = omega arith in
-    rw e (from-other (upd f k v) (suc k) vs k (λ r l. omega arith) ∙ upd-same f k v)
-from-same f k (v ∷ vs) (suc r) l =
-    let e : k + suc r ≡ suc k + r = omega arith in
-    rw e (from-same (upd f k v) (suc k) vs r (omega arith))

@@ -1,7 +1,7 @@
 -- Tables with several entries changed, and a table cut to the keys that a test passes: what only proofs speak of.
 use mathlib.Core.Bool.{Bool, cond}
 use mathlib.Core.List.{List, [], _∷_}
-use Prim.Native.Nat.{ℕ, suc}
+use Prim.Native.Nat.{ℕ}
 use Rattle.tables.specs.Table.{upd}
 
 module _ {ℓ} {A : Type ℓ} where
@@ -9,11 +9,6 @@ module _ {ℓ} {A : Type ℓ} where
   unfoldable pub updAll : (ℕ → A) → List ℕ → A → ℕ → A
   updAll f [] v = f
   updAll f (k ∷ ks) v = upd (updAll f ks v) k v
-
-  -- the table with the values of a list from key k on
-  unfoldable pub updFrom : (ℕ → A) → ℕ → List A → ℕ → A
-  updFrom f k [] = f
-  updFrom f k (v ∷ vs) = updFrom (upd f k v) (suc k) vs
 
   -- the table with z at each key that the test does not pass
   unfoldable pub only : (ℕ → Bool) → A → (ℕ → A) → ℕ → A

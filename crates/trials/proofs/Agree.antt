@@ -1,6 +1,6 @@
 -- Every trial of the table agrees with the definitions: computed row by row, over all 24,576 bytes of the volume after each call.
 use mathlib.Core.Path.{_≡_, refl}
-use mathlib.Core.Bool.{Bool, true, false}
+use mathlib.Core.Bool.{Bool, true}
 use mathlib.Core.List.{List, [], _∷_, map}
 use Rattle.primitives.specs.Bits.{bitOf, setBit, clearBit, putBit, bitAt, countBits}
 use Rattle.primitives.specs.Splice.{splice}

@@ -7,8 +7,8 @@ use Prim.Native.Nat.{ℕ, _+_, _-_, _≤_, _<_}
 use native.Mathlib.Decide.{ℕ-discrete, decLt}
 use native.Mathlib.Omega.{arith}
 use lib.Dec.{eqb}
-use lib.ListN.{length, take}
-use Rattle.tables.specs.Lists.{Mem, here, there, Distinct, more, every, lastOr, consec}
+use lib.ListN.{length}
+use Rattle.tables.specs.Lists.{Mem, here, Distinct, more, every, lastOr, consec}
 use Rattle.tables.specs.Count.{count}
 use Rattle.tables.proofs.Cases.{clash}
 use Rattle.tables.proofs.ListLaws.{mem-right, every-mem, mem-every, in-consec, consec-in, consec-distinct, length-consec, last-in}
@@ -21,7 +21,7 @@ use Rattle.metadata.specs.Usable.{isUsable}
 use Rattle.metadata.specs.Cluster.{clusterByte}
 use Rattle.metadata.proofs.Frame.{small, Fits, fits-kept, length-fat, fat-fat-same, fat-fat-other, mark-fat, cluster-fat}
 use Rattle.metadata.proofs.View.{plain}
-use Rattle.metadata.proofs.Counting.{markedCount, free-is-unmarked, fat-counts, usable-facts}
+use Rattle.metadata.proofs.Counting.{markedCount, fat-counts, usable-facts}
 use Rattle.stream.specs.declared.allocation.Allocation.{Allocation}
 use Rattle.stream.specs.Chain.{listed}
 use Rattle.stream.specs.Stream.{streamOf, empty}
@@ -72,9 +72,6 @@ module _ (y : Layout) (d m : List ℕ) (ks : List ℕ) (f : Fresh y d m ks) wher
 module _ (y : Layout) (d m d′ : List ℕ) (a : Allocation) (old new : List ℕ) (w : Fits y d) (g : Grown y d m d′ a old new) where
   pub grown-fits : Fits y d′
   grown-fits = fits-kept y d d′ (g .long) w
-
-  pub grown-free : freeCount y d′ + length new ≡ freeCount y d
-  grown-free = omega (arith, g .counts, free-is-unmarked y d, free-is-unmarked y d′)
 
   -- a stream that shares no cluster with the old one is kept: none of its clusters was usable
   pub grown-other : (b : Allocation) (ks : List ℕ) → streamOf y d b ≡ listed ks → ((k : ℕ) → Mem k ks → Mem k old → ⊥) → streamOf y d′ b ≡ listed ks

@@ -1,5 +1,5 @@
 -- Links between clusters in a table of FAT entries: each cluster of a list entered at the one before it. Assumes nothing.
-use mathlib.Core.Path.{_≡_, refl, sym, _∙_, subst}
+use mathlib.Core.Path.{_≡_, refl, sym, _∙_}
 use mathlib.Core.Logic.{_≢_}
 use mathlib.Core.Bool.{Bool, true, false, cond}
 use mathlib.Core.List.{List, [], _∷_, _++_}
@@ -11,7 +11,7 @@ use borrow.Author.Tests.{ne-eqb}
 use Rattle.tables.specs.Table.{upd}
 use Rattle.tables.specs.Lists.{Mem, here, there, Distinct, more, lastOr, consec}
 use Rattle.tables.proofs.TableLaws.{upd-same, upd-other}
-use Rattle.tables.proofs.ListLaws.{in-consec, last-in}
+use Rattle.tables.proofs.ListLaws.{in-consec}
 
 -- ---- the last of a list
 
@@ -64,13 +64,6 @@ pub link-none : (f : ℕ → ℕ) (ks : List ℕ) (j : ℕ) → (Mem j ks → �
 unfolding linkAll
 link-none f [] j o = refl
 link-none f (k ∷ ks) j o = link-other f k ks j (λ e. o (here e)) (λ m. o (there m))
-
--- the last one's entry stays
-pub link-last : (f : ℕ → ℕ) (prev : ℕ) (ks : List ℕ) → (Mem prev ks → ⊥) → Distinct ks → linkAll f prev ks (lastOr prev ks) ≡ f (lastOr prev ks)
-unfolding linkAll lastOr
-link-last f prev [] o d = refl
-link-last f prev (k ∷ ks) o (more q d) =
-    link-last (linkOne f prev k) k ks q d ∙ one-other f prev k (lastOr k ks) (λ e. o (subst (λ x. Mem x (k ∷ ks)) e (last-in k ks)))
 
 -- the one before leads to the first, and each to the next
 pub link-linked : (f : ℕ → ℕ) (prev : ℕ) (ks : List ℕ) → prev ≢ 0 → (Mem 0 ks → ⊥) → (Mem prev ks → ⊥) → Distinct ks

@@ -19,16 +19,16 @@ use Rattle.boot.specs.declared.layout.Layout.{Layout}
 use Rattle.boot.specs.Layout.{inHeap}
 use Rattle.boot.proofs.Apart.{in-heap, heap-in}
 use Rattle.metadata.specs.Fat.{fatEntry, setFat}
-use Rattle.metadata.specs.Marks.{marked, setMark, freeCount, markRun}
+use Rattle.metadata.specs.Marks.{marked, setMark, markRun}
 use Rattle.metadata.specs.Usable.{isUsable}
 use Rattle.metadata.specs.Cluster.{clusterByte}
 use Rattle.metadata.proofs.Frame.{Fits, fits-kept, length-fat, length-mark}
 use Rattle.metadata.proofs.View.{Tables, plain, view, withFat, withMark, view-fat-at, view-mark-at, view-byte-at, view-setFat, view-setMark}
-use Rattle.metadata.proofs.Counting.{markedCount, free-is-unmarked}
+use Rattle.metadata.proofs.Counting.{markedCount}
 use Rattle.choice.specs.Choice.{around}
 use Rattle.write_alloc.specs.Take.{linkRun, takeOne, takeAll}
 use Rattle.write_alloc.specs.Internal.{prevTaken, takenFrom}
-use Rattle.write_alloc.proofs.Links.{last-append, linkOne, linkAll, Linked, one-is, link-other, link-last, link-linked, link-list, link-cong, linked-cong, link-consec, link-consec-other}
+use Rattle.write_alloc.proofs.Links.{last-append, linkOne, linkAll, Linked, one-is, link-other, link-linked, link-list, link-cong, linked-cong, link-consec, link-consec-other}
 use Rattle.write_alloc.proofs.Taking.{one-first, one-more, one-usable, one-taken, taken-cong}
 
 -- ---- lengths
@@ -57,9 +57,6 @@ module _ (y : Layout) where
   length-takeAll d prev (k ∷ ks) = length-takeAll (takeOne y d prev k) k ks ∙ length-takeOne d prev k
 
   module _ (d : List ℕ) (w : Fits y d) where
-    pub fits-markRun : (k n : ℕ) → Fits y (markRun y d k n)
-    fits-markRun k n = fits-kept y d (markRun y d k n) (length-markRun d k n) w
-
     pub fits-linkRun : (k n : ℕ) → Fits y (linkRun y d k n)
     fits-linkRun k n = fits-kept y d (linkRun y d k n) (length-linkRun d k n) w
 
@@ -166,10 +163,6 @@ module _ (y : Layout) (d : List ℕ) (w : Fits y d) where
             (λ k m. let r = in-heap (y .count) k (i k m) in (r .0, omega arith, f k m)),
       )
 
-  same-marks : (d′ : List ℕ) → ((j : ℕ) → inHeap (y .count) j ≡ true → marked y d′ j ≡ marked y d j) → markedCount y d′ ≡ markedCount y d
-  unfolding markedCount
-  same-marks d′ s = count-cong (marked y d) (marked y d′) 2 (y .count) (λ j a b. s j (heap-in (y .count) j a (omega arith)))
-
   -- the marks after those of a list are set
   marks-at : (ks : List ℕ) (j : ℕ) → inHeap (y .count) j ≡ true → updAll (view y d .mark) ks true j ≡ updAll (marked y d) ks true j
   unfolding updAll
@@ -208,9 +201,6 @@ module _ (y : Layout) (d : List ℕ) (w : Fits y d) where
         (consec-distinct k n) (λ j m. let i = in-consec k n j m in f j (i .0) (i .1))
         ∙ ap (λ (x : ℕ). markedCount y d + x) (length-consec k n)
 
-    pub run-free : ((j : ℕ) → k ≤ j → j < k + n → marked y d j ≡ false) → freeCount y (markRun y d k n) + n ≡ freeCount y d
-    run-free f = omega (arith, run-count-marks f, free-is-unmarked y d, free-is-unmarked y (markRun y d k n))
-
     -- a run linked
     link-view : view y (linkRun y d k n) ≡ withLinks (view y d) k (consec (k + 1) n)
     link-view = view-linkRun y d w k n low high
@@ -225,14 +215,8 @@ module _ (y : Layout) (d : List ℕ) (w : Fits y d) where
         fat-is y (linkRun y d k n) (withLinks (view y d) k (consec (k + 1) n)) link-view j h
         ∙ link-consec-other (view y d .fat) k n j o ∙ view-fat-at y d j h
 
-    pub run-link-mark : (j : ℕ) → inHeap (y .count) j ≡ true → marked y (linkRun y d k n) j ≡ marked y d j
-    run-link-mark j h = mark-is y (linkRun y d k n) (withLinks (view y d) k (consec (k + 1) n)) link-view j h ∙ view-mark-at y d j h
-
     pub run-link-byte : (j r : ℕ) → plain y j ≡ true → r < y .size → clusterByte y (linkRun y d k n) j r ≡ clusterByte y d j r
     run-link-byte j r h b = byte-is y (linkRun y d k n) (withLinks (view y d) k (consec (k + 1) n)) link-view j r h b ∙ view-byte-at y d j r h b
-
-    pub run-link-count : markedCount y (linkRun y d k n) ≡ markedCount y d
-    run-link-count = same-marks (linkRun y d k n) run-link-mark
 
   -- a list taken
   module _ (prev : ℕ) (ks : List ℕ) (before : Before y prev) (inside : Inside y ks) where
@@ -263,9 +247,6 @@ module _ (y : Layout) (d : List ℕ) (w : Fits y d) where
       pub taken-count : ((k : ℕ) → Mem k ks → marked y d k ≡ false) → markedCount y (takeAll y d prev ks) ≡ markedCount y d + length ks
       taken-count f = count-marks (takeAll y d prev ks) ks taken-marks inside distinct f
 
-      pub taken-free : ((k : ℕ) → Mem k ks → marked y d k ≡ false) → freeCount y (takeAll y d prev ks) + length ks ≡ freeCount y d
-      taken-free f = omega (arith, taken-count f, free-is-unmarked y d, free-is-unmarked y (takeAll y d prev ks))
-
       -- no cluster is 0
       no-zero : Mem 0 ks → ⊥
       no-zero m = let i = in-heap (y .count) 0 (inside 0 m) in omega arith
@@ -283,11 +264,6 @@ module _ (y : Layout) (d : List ℕ) (w : Fits y d) where
           at : (k : ℕ) → Mem k (prev ∷ ks) → fatEntry y (takeAll y d prev ks) k ≡ linkAll (fatEntry y d) prev ks k
           at k (here e) = taken-fat k (rw e (before n))
           at k (there m) = taken-fat k (inside k m)
-
-      -- the last one's entry stays
-      pub taken-last : (Mem prev ks → ⊥) → inHeap (y .count) (lastOr prev ks) ≡ true
-          → fatEntry y (takeAll y d prev ks) (lastOr prev ks) ≡ fatEntry y d (lastOr prev ks)
-      taken-last o h = taken-fat (lastOr prev ks) h ∙ link-last (fatEntry y d) prev ks o distinct
 
 -- ---- taking goes on
 

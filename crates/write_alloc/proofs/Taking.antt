@@ -1,7 +1,7 @@
 -- Marks, links and takings, as the code meets them. Assumes nothing.
 use mathlib.Core.Path.{_≡_, refl, sym, _∙_, ap}
 use mathlib.Core.Logic.{_≢_}
-use mathlib.Core.Bool.{true, false, _&&_, or-true}
+use mathlib.Core.Bool.{true, false, or-true}
 use mathlib.Core.List.{List, [], _∷_}
 use Prim.Native.Nat.{ℕ, zero, suc, _+_, _-_, _%_, _≤_, _<_}
 use native.Mathlib.Decide.{decLe, ℕ-discrete}

@@ -1,12 +1,12 @@
 -- What extend answers and leaves. Assumes nothing.
 use mathlib.Core.Path.{_≡_, refl, sym, _∙_, ap, subst}
 use mathlib.Core.Logic.{_≢_}
-use mathlib.Core.Bool.{Bool, true, false, _&&_, cond, false≢true}
-use mathlib.Core.List.{List, [], _∷_}
+use mathlib.Core.Bool.{Bool, true, false, _&&_}
+use mathlib.Core.List.{List}
 use Prim.Native.Nat.{ℕ, zero, suc, _+_, _-_, _≤_, _<_}
 use native.Mathlib.Decide.{decLt}
 use native.Mathlib.Omega.{arith}
-use lib.Dec.{eqb, ltb, leb}
+use lib.Dec.{eqb, leb}
 use lib.ListN.{length, take}
 use borrow.Author.Tests.{eq-eqb, ne-eqb, eqb-true, eqb-false, le-leb, lt-leb, leb-true}
 use Rattle.tables.specs.Count.{count}
@@ -16,8 +16,8 @@ use Rattle.boot.specs.declared.geometry.Geometry.{Geometry}
 use Rattle.boot.specs.declared.layout.Layout.{Layout}
 use Rattle.boot.specs.Internal.{Laid, Apart}
 use Rattle.boot.specs.Layout.{inHeap}
-use Rattle.boot.specs.Causes.{firstCause, admitCause, heapCause, wrap, spaceCause}
-use Rattle.boot.proofs.CauseLaws.{cause-skip, cause-met, cause-last, heap-met, heap-kept}
+use Rattle.boot.specs.Causes.{firstCause, admitCause, wrap}
+use Rattle.boot.proofs.CauseLaws.{heap-met, heap-kept}
 use Rattle.boot.proofs.Admission.{Admits}
 use Rattle.boot.proofs.Apart.{in-heap, heap-in}
 use Rattle.tables.proofs.Cases.{and-left, and-right}

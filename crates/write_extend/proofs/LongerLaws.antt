@@ -4,7 +4,7 @@ use mathlib.Core.Logic.{⊎-elim}
 use mathlib.Core.Bool.{Bool, true, false, _&&_, false≢true}
 use mathlib.Core.List.{List, [], _∷_, _++_}
 use Prim.Native.Nat.{ℕ, zero, suc, _+_, _-_, _≤_, _<_}
-use native.Mathlib.Decide.{ℕ-discrete, decLt}
+use native.Mathlib.Decide.{ℕ-discrete}
 use native.Mathlib.Numerals.{sub-one}
 use native.Mathlib.Omega.{arith}
 use lib.Dec.{eqb, leb}
@@ -27,7 +27,7 @@ use Rattle.metadata.proofs.View.{plain}
 use Rattle.metadata.proofs.Counting.{markedCount}
 use Rattle.stream.specs.declared.allocation.Allocation.{Allocation}
 use Rattle.stream.specs.Chain.{listed, readChain}
-use Rattle.stream.specs.Stream.{numberOf, readStream, streamOf, clustersOf, empty}
+use Rattle.stream.specs.Stream.{numberOf, readStream, streamOf, clustersOf}
 use Rattle.stream.proofs.StreamLaws.{Read}
 use Rattle.stream.proofs.ListingLaws.{stream-read}
 use Rattle.stream.proofs.Distinct.{Chain, chain-links, chain-listed, chain-append, run-listed, record-listed, read-length, read-run, read-chain}

@@ -25,7 +25,7 @@ use Rattle.write_dir.specs.Place.{GrownDirectory, growBy}
 use Rattle.write_dir.proofs.AddedLaws.{grow-many, zeroed-clusters}
 use Rattle.write_dir.proofs.KeepLaws.{grow-on}
 use Rattle.write_file.specs.NewFile.{placed}
-use Rattle.file.specs.Refresh.{stored, missing}
+use Rattle.file.specs.Refresh.{missing}
 use Rattle.write_file.specs.Write.{withData, written}
 use Rattle.file.proofs.RefreshLaws.{stream-is}
 use Rattle.file.proofs.CallLaws.{directory-reads, directory-plain}

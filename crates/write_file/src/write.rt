@@ -21,12 +21,12 @@ use stream::bytes::Place;
 use write_alloc::answer::Answer;
 
 // What storing data makes of a file but its set: the stream, both lengths and the hint; or the number of what refuses it.
-pub struct DataAnswer {
-    pub number: u32,
-    pub allocation: Allocation,
-    pub valid: u64,
-    pub len: u64,
-    pub hint: u32,
+struct DataAnswer {
+    number: u32,
+    allocation: Allocation,
+    valid: u64,
+    len: u64,
+    hint: u32,
 }
 
 // The larger of two numbers.

@@ -1,7 +1,7 @@
 -- Set length (01, "Set length"; Rust: `set_length`).
 use mathlib.Core.Bool.{cond}
 use mathlib.Core.List.{List, [], _∷_}
-use Prim.Native.Nat.{ℕ, _+_, _-_, _*_, min}
+use Prim.Native.Nat.{ℕ, _-_, _*_, min}
 use lib.Dec.{eqb, ltb}
 use lib.ListN.{length, take, replicate}
 use Rattle.boot.specs.declared.geometry.Geometry.{Geometry}

@@ -24,10 +24,10 @@ use write_alloc::answer::Answer;
 use write_shrink::shrink::Kept;
 
 // What a cut keeps: how many clusters, what a walk of them tells, and their record.
-pub struct Cut {
-    pub keep: u32,
-    pub part: Kept,
-    pub kept: Allocation,
+struct Cut {
+    keep: u32,
+    part: Kept,
+    kept: Allocation,
 }
 
 // The smaller of two numbers.

@@ -156,14 +156,7 @@ fn shrink_read(
 }
 
 // The same once the limits are known to hold.
-pub fn shrink_in(
-    vol: &mut [u8],
-    map: &[u8],
-    y: Layout,
-    a: Allocation,
-    keep: u32,
-    hint: u32,
-) -> Answer
+fn shrink_in(vol: &mut [u8], map: &[u8], y: Layout, a: Allocation, keep: u32, hint: u32) -> Answer
     requires { ⌜ Laid y × ((length (now vol) ≡ y .len) × ((y .count ≤ 8 * length (now map)) × Apart y)) ⌝ }
     ensures { λ r. ⌜ (let o = shrinkIn y (now (vol .entry)) (now (map .entry)) a keep hint in (r ≡ o .answer) × (now (vol .exit) ≡ o .volume)) ⌝ }
 {

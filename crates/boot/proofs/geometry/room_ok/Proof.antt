@@ -2,8 +2,6 @@ use borrow.Author.Needs.{needs}
 use mathlib.Core.Path.{sym}
 use native.Mathlib.Omega.{arith}
 use Rattle.boot.proofs.Limits.{not-room, of-room}
-use native.Mathlib.Nat.{mul-le-mul-left}
-use Prim.Native.Nat.{_*_}
 use native.Mathlib.Nat.{mul-le-mul-right}
 use Rattle.boot.proofs.geometry.room_ok.Statement.{statement}
 use Rattle.boot.proofs.geometry.room_ok.Tie as tie

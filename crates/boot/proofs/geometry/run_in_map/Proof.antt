@@ -1,5 +1,5 @@
 use borrow.Author.Needs.{needs}
-use mathlib.Core.Path.{_≡_, sym, _∙_}
+use mathlib.Core.Path.{sym, _∙_}
 use native.Mathlib.Omega.{arith}
 use Rattle.boot.proofs.Limits.{run-low, run-high, run-in}
 use Rattle.boot.proofs.geometry.run_in_map.Statement.{statement}

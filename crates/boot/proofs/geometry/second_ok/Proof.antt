@@ -1,8 +1,8 @@
 use borrow.Author.Needs.{needs}
-use mathlib.Core.Path.{_≡_, sym, _∙_}
+use mathlib.Core.Path.{sym, _∙_}
 use native.Mathlib.Omega.{arith}
 use mathlib.Core.Bool.{true, false}
-use Rattle.boot.proofs.Limits.{shape-of, second-one, second-is, maps-length, maps-is, limits-is, limits-not}
+use Rattle.boot.proofs.Limits.{second-one, second-is}
 use Rattle.boot.proofs.geometry.second_ok.Statement.{statement}
 use Rattle.boot.proofs.geometry.second_ok.Tie as tie
 

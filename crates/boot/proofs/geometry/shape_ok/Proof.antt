@@ -1,7 +1,6 @@
 use borrow.Author.Needs.{needs}
 use mathlib.Core.Path.{sym}
 use native.Mathlib.Omega.{arith}
-use Rattle.boot.specs.Internal.{Shape}
 use Rattle.boot.proofs.Limits.{not-shape, of-shape}
 use Rattle.boot.proofs.geometry.shape_ok.Statement.{statement}
 use Rattle.boot.proofs.geometry.shape_ok.Tie as tie

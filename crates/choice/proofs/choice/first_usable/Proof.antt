@@ -1,4 +1,4 @@
-use mathlib.Core.Path.{_≡_, sym, _∙_}
+use mathlib.Core.Path.{sym}
 use native.Mathlib.Omega.{arith}
 use Rattle.choice.proofs.FirstLaws.{first-after, first-before}
 use borrow.Author.Needs.{needs}

@@ -1,7 +1,6 @@
 use Rattle.directory.proofs.entries.skip.Statement.{statement}
 use Rattle.directory.proofs.entries.skip.Tie as tie
-use Prim.Native.Nat.{_+_, _-_, _*_, _/_}
-use mathlib.Core.Path.{_≡_, sym, _∙_}
+use Prim.Native.Nat.{_+_, _-_}
 use native.Mathlib.Omega.{arith}
 use borrow.Author.Needs.{needs}
 use Rattle.metadata.proofs.Frame.{Fits}

@@ -1,11 +1,9 @@
-use mathlib.Core.Path.{_≡_, sym, _∙_, ap}
+use mathlib.Core.Path.{_≡_, _∙_}
 use native.Mathlib.Omega.{arith}
 use Rattle.metadata.proofs.Frame.{Fits}
 use Rattle.stream.specs.Bytes.{bytesIn}
-use Rattle.entry_set.specs.Sound.{wellFormed}
 use Rattle.directory.specs.Internal.{wholeSet}
-use Rattle.directory.proofs.CursorLaws.{slot-bytes}
-use Rattle.directory.proofs.OpenLaws.{whole-some, read-none, read-some, file-none, file-not, file-formed, file-refused, file-done}
+use Rattle.directory.proofs.OpenLaws.{whole-some, read-none, read-some, file-none}
 use borrow.Author.Needs.{needs}
 use Rattle.directory.proofs.open_file.open_at.Statement.{statement}
 use Rattle.directory.proofs.open_file.open_at.Tie as tie

@@ -1,6 +1,5 @@
-use mathlib.Core.Path.{_∙_, ap}
+use mathlib.Core.Path.{ap}
 use Prim.Native.Nat.{ℕ, _*_, _%_}
-use native.Mathlib.Omega.{arith}
 use Rattle.directory.proofs.SpotLaws.{slot-inside}
 use borrow.Author.Needs.{needs}
 use Rattle.directory.proofs.spot.locate.Statement.{statement}

@@ -1,8 +1,7 @@
-use mathlib.Core.Path.{refl, _∙_, ap, ap₂}
+use mathlib.Core.Path.{refl, _∙_, ap}
 use Prim.Native.Nat.{ℕ}
 use native.Mathlib.Omega.{arith}
 use Rattle.directory.specs.declared.entries.Cursor.{Cursor}
-use Rattle.directory.specs.declared.spot.Spot.{Spot}
 use Rattle.directory.proofs.SpotLaws.{slot-inside, spot-found, second-heap}
 use borrow.Author.Needs.{needs}
 use Rattle.directory.proofs.spot.spot_from.Statement.{statement}

@@ -1,4 +1,3 @@
-use mathlib.Core.Path.{_≡_, sym, _∙_, refl, ap}
 use native.Mathlib.Omega.{arith}
 use Rattle.metadata.proofs.Frame.{Fits}
 use Rattle.file.proofs.RefreshLaws.{length-enough, usable-few, grow-shown}

@@ -1,4 +1,4 @@
-use mathlib.Core.Path.{_≡_, sym, _∙_, refl, ap}
+use mathlib.Core.Path.{sym}
 use native.Mathlib.Omega.{arith}
 use Rattle.file.proofs.RefreshLaws.{length-met, length-kept}
 use borrow.Author.Needs.{needs}

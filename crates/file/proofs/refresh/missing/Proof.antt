@@ -1,4 +1,4 @@
-use mathlib.Core.Path.{_≡_, sym, _∙_, refl, ap}
+use mathlib.Core.Path.{sym, _∙_}
 use native.Mathlib.Omega.{arith}
 use Rattle.file.proofs.RefreshLaws.{missing-is, missing-none}
 use borrow.Author.Needs.{needs}

@@ -1,4 +1,4 @@
-use mathlib.Core.Path.{_≡_, sym, _∙_, refl, ap}
+use mathlib.Core.Path.{sym, _∙_, ap}
 use native.Mathlib.Omega.{arith}
 use Rattle.stream.specs.Bytes.{storeAt}
 use Prim.Native.Nat.{_-_}

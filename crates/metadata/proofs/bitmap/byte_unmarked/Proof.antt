@@ -1,4 +1,4 @@
-use mathlib.Core.Path.{sym, _∙_}
+use mathlib.Core.Path.{sym}
 use native.Mathlib.Omega.{arith}
 use Rattle.metadata.specs.Marks.{markByte}
 use Rattle.metadata.proofs.WindowLaws.{byte-last, byte-inside}

@@ -15,26 +15,26 @@ cast-e c = search needs
 add-e-2 : tie.Need-add-e-2
 add-e-2 c = search needs
 
-sub-clear-from : tie.Need-sub-clear-from
-sub-clear-from c = search needs
+sub-none-set : tie.Need-sub-none-set
+sub-none-set c = search needs
 
-part-clear-from-start : tie.Need-part-clear-from-start
-part-clear-from-start c = search needs
+part-none-set-start : tie.Need-part-none-set-start
+part-none-set-start c = search needs
 
-part-clear-from-end : tie.Need-part-clear-from-end
-part-clear-from-end c = search needs
+part-none-set-end : tie.Need-part-none-set-end
+part-none-set-end c = search needs
 
-sub-clear-from-2 : tie.Need-sub-clear-from-2
-sub-clear-from-2 c = search needs
+sub-none-set-2 : tie.Need-sub-none-set-2
+sub-none-set-2 c = search needs
 
-clear-from-requires : tie.Need-clear-from-requires
-clear-from-requires c κs = search needs
+none-set-requires : tie.Need-none-set-requires
+none-set-requires c κs = search needs
 
 returns : tie.Need-returns
 returns c =
     let a = c .before .before .before .before .args in
     let m = a .y .bitmap + (a .y .count + 7) / 8 - a .y .bitmap in
-    c .clear-from .ensures ∙ marks-part (a .y) (a .vol .now) m (a .first) (a .n) (omega arith) (omega arith)
+    c .none-set .ensures ∙ marks-part (a .y) (a .vol .now) m (a .first) (a .n) (omega arith) (omega arith)
 
 pub none-marked-spec : {M : Type 1} → statement M
 none-marked-spec =
@@ -43,9 +43,9 @@ none-marked-spec =
     add-e
     cast-e
     add-e-2
-    sub-clear-from
-    part-clear-from-start
-    part-clear-from-end
-    sub-clear-from-2
-    clear-from-requires
+    sub-none-set
+    part-none-set-start
+    part-none-set-end
+    sub-none-set-2
+    none-set-requires
     returns)

@@ -1,4 +1,4 @@
-use mathlib.Core.Path.{_≡_, sym, _∙_}
+use mathlib.Core.Path.{sym, _∙_}
 use native.Mathlib.Omega.{arith}
 use Rattle.boot.proofs.Admission.{admit-number, admission}
 use Rattle.metadata.proofs.Stores.{free-is, free-not-admitted}

@@ -1,4 +1,4 @@
-use mathlib.Core.Path.{sym, _∙_}
+use mathlib.Core.Path.{sym}
 use Rattle.metadata.proofs.Stores.{free-marked, free-system, free-yes}
 use borrow.Author.Needs.{needs}
 use Rattle.metadata.proofs.usable.is_free.Statement.{statement}

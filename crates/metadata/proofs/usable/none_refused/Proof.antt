@@ -5,11 +5,11 @@ use borrow.Author.Needs.{needs}
 use Rattle.metadata.proofs.usable.none_refused.Statement.{statement}
 use Rattle.metadata.proofs.usable.none_refused.Tie as tie
 
-sub-clear-from : tie.Need-sub-clear-from
-sub-clear-from c = search needs
+sub-none-set : tie.Need-sub-none-set
+sub-none-set c = search needs
 
-clear-from-requires : tie.Need-clear-from-requires
-clear-from-requires c κs = search needs
+none-set-requires : tie.Need-none-set-requires
+none-set-requires c κs = search needs
 
 bad-in-requires : tie.Need-bad-in-requires
 bad-in-requires c κs = search needs
@@ -33,8 +33,8 @@ pub none-refused-spec : {M : Type 1} → statement M
 none-refused-spec =
     tie.close
     (tie.spec
-    sub-clear-from
-    clear-from-requires
+    sub-none-set
+    none-set-requires
     bad-in-requires
     enum-told
     returns

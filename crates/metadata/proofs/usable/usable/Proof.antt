@@ -1,4 +1,4 @@
-use mathlib.Core.Path.{sym, _∙_}
+use mathlib.Core.Path.{sym}
 use Rattle.metadata.proofs.Stores.{usable-not-free, usable-found, usable-nothing}
 use borrow.Author.Needs.{needs}
 use Rattle.metadata.proofs.usable.usable.Statement.{statement}

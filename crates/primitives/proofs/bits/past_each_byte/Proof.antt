@@ -1,14 +1,16 @@
-use Prim.Native.Nat.{_+_, _-_, _≤_}
 use mathlib.Core.Path.{_≡_, sym, _∙_}
+use mathlib.Core.Bool.{not}
+use Prim.Native.Nat.{_+_, _-_, _/_, _≤_}
 use native.Mathlib.Omega.{arith}
 use borrow.Author.Needs.{needs}
-use Rattle.primitives.specs.Internal.{pastBytes}
+use Rattle.search.specs.Search.{fewest}
+use Rattle.primitives.specs.Internal.{byteIs}
 use Rattle.primitives.proofs.ByteLaws.{pastTo, to-all, to-stop, to-byte, to-end}
 use Rattle.primitives.proofs.bits.past_each_byte.Statement.{statement}
 use Rattle.primitives.proofs.bits.past_each_byte.Tie as tie
 
 abbrev Inv-loop : tie.InvT-loop
-Inv-loop bitmap b k n end at₀ at = (at ≤ end + 7) × (pastTo bitmap b at end ≡ pastBytes bitmap b k n)
+Inv-loop bitmap b k n end at₀ at = (at ≤ end + 7) × (pastTo bitmap b at end ≡ fewest (λ j. not (byteIs bitmap b (j / 8))) n k)
 
 abbrev μ-loop : tie.MeasureT-loop
 μ-loop bitmap b k n end at₀ at = end - at

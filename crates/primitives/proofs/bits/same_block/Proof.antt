@@ -1,20 +1,22 @@
-use Prim.Native.Nat.{_+_, _-_, _≤_}
+use Prim.Native.Nat.{_-_, _≤_}
 use mathlib.Core.Path.{_≡_, refl, sym, _∙_, ap}
 use native.Mathlib.Omega.{arith}
 use borrow.Author.Needs.{needs}
-use Rattle.primitives.specs.Internal.{sameBytes}
-use Rattle.primitives.proofs.ByteLaws.{same-none, same-next}
+use Rattle.search.specs.Search.{allFrom}
+use Rattle.search.proofs.Runs.{all-none}
+use Rattle.primitives.specs.Internal.{byteIs}
+use Rattle.primitives.proofs.ByteLaws.{same-next}
 use Rattle.primitives.proofs.bits.same_block.Statement.{statement}
 use Rattle.primitives.proofs.bits.same_block.Tie as tie
 
 abbrev Inv-loop : tie.InvT-loop
-Inv-loop bitmap i b same₀ j₀ same j = (j ≤ 64) × (same ≡ sameBytes bitmap b i j)
+Inv-loop bitmap i b same₀ j₀ same j = (j ≤ 64) × (same ≡ allFrom (byteIs bitmap b) i j)
 
 abbrev μ-loop : tie.MeasureT-loop
 μ-loop bitmap i b same₀ j₀ same j = 64 - j
 
 loop-holds : tie.Need-loop-holds Inv-loop μ-loop
-loop-holds c = (omega arith, sym (same-none _ _ _))
+loop-holds c = (omega arith, sym (all-none _ _ _ refl))
 
 add-both : tie.Need-add-both Inv-loop μ-loop
 add-both c = search needs
@@ -38,7 +40,7 @@ returns : tie.Need-returns Inv-loop μ-loop
 returns c =
     let l = c .before .loop in
     let e : l .j ≡ 64 = omega arith in
-    l .inv .1 ∙ ap (sameBytes _ _ _) e
+    l .inv .1 ∙ ap (allFrom _ _) e
 
 pub same-block-spec : {M : Type 1} → statement M
 same-block-spec =

@@ -1,4 +1,4 @@
-use mathlib.Core.Path.{_≡_, sym, _∙_, ap}
+use mathlib.Core.Path.{sym, _∙_, ap}
 use Rattle.boot.proofs.Apart.{in-heap}
 use Rattle.stream.specs.declared.walk.Walked.{Walked}
 use Rattle.stream.specs.Internal.{chainClear}

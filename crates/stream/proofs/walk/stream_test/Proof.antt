@@ -1,4 +1,4 @@
-use mathlib.Core.Path.{_≡_, sym, _∙_, ap}
+use mathlib.Core.Path.{sym, _∙_, ap}
 use native.Mathlib.Omega.{arith}
 use Rattle.stream.specs.Stream.{streamOf, numberOf}
 use Rattle.stream.proofs.ChainLaws.{stream-empty, stream-run, stream-chain}

@@ -1,5 +1,3 @@
-use mathlib.Core.Path.{_≡_, sym, _∙_, refl}
-use native.Mathlib.Omega.{arith}
 use Rattle.write_alloc.proofs.AllocateLaws.{prev-none, chain-is}
 use borrow.Author.Needs.{needs}
 use Rattle.write_alloc.proofs.allocate.new_chain.Statement.{statement}

@@ -1,4 +1,3 @@
-use mathlib.Core.Path.{_≡_, sym, _∙_, refl}
 use native.Mathlib.Omega.{arith}
 use Rattle.write_alloc.specs.Allocate.{newRun}
 use borrow.Author.Needs.{needs}

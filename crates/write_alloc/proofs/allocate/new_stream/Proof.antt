@@ -1,8 +1,8 @@
-use mathlib.Core.Path.{_≡_, sym, _∙_, ap, refl}
+use mathlib.Core.Path.{_≡_, refl}
 use Rattle.tables.proofs.Cases.{clash}
 use native.Mathlib.Omega.{arith}
 use Rattle.metadata.specs.Usable.{isUsable}
-use Rattle.choice.specs.declared.choice.Choice.the-variants.{Run, Scattered, TooFew}
+use Rattle.choice.specs.declared.choice.Choice.the-variants.{Run, Scattered}
 use Rattle.choice.specs.Choice.{choose}
 use Rattle.choice.proofs.ChoiceLaws.{choose-inside, enough-count}
 use Rattle.write_alloc.proofs.AllocateLaws.{stream-run, stream-chain, stream-few, shown-as}

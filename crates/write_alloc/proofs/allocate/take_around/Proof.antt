@@ -1,4 +1,3 @@
-use mathlib.Core.Path.{_≡_, sym, _∙_}
 use native.Mathlib.Omega.{arith}
 use Rattle.write_alloc.proofs.AllocateLaws.{prev-facts, then-ready, then-done}
 use borrow.Author.Needs.{needs}

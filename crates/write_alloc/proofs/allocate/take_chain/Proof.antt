@@ -1,6 +1,4 @@
-use mathlib.Core.Path.{_≡_, sym, _∙_}
 use native.Mathlib.Omega.{arith}
-use Rattle.metadata.specs.Usable.{isUsable}
 use Rattle.write_alloc.proofs.AllocateLaws.{last-small}
 use borrow.Author.Needs.{needs}
 use Rattle.write_alloc.proofs.allocate.take_chain.Statement.{statement}

@@ -1,4 +1,4 @@
-use mathlib.Core.Path.{sym, _∙_}
+use mathlib.Core.Path.{sym}
 use native.Mathlib.Omega.{arith}
 use Rattle.write_alloc.proofs.Taking.{byte-no, byte-is}
 use borrow.Author.Needs.{needs}

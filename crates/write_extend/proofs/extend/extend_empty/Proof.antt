@@ -1,4 +1,4 @@
-use mathlib.Core.Path.{_≡_, sym, _∙_, refl, ap}
+use mathlib.Core.Path.{_≡_, sym, _∙_, ap}
 use native.Mathlib.Omega.{arith}
 use Rattle.write_alloc.proofs.AllocateLaws.{shown-as}
 use Rattle.write_extend.proofs.ExtendLaws.{given-done, given-refused}

@@ -1,4 +1,4 @@
-use mathlib.Core.Path.{_≡_, sym, _∙_, refl, ap}
+use mathlib.Core.Path.{refl}
 use native.Mathlib.Omega.{arith}
 use Rattle.boot.proofs.Apart.{in-heap}
 use Rattle.metadata.proofs.Frame.{Fits}

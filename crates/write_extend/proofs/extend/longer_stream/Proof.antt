@@ -1,5 +1,3 @@
-use mathlib.Core.Path.{_≡_, sym, _∙_, refl, ap}
-use native.Mathlib.Omega.{arith}
 use Rattle.write_alloc.proofs.AllocateLaws.{shown-as}
 use Rattle.write_extend.proofs.ExtendLaws.{last-facts, place-facts, longer-in, longer-out}
 use borrow.Author.Needs.{needs}

@@ -1,4 +1,4 @@
-use mathlib.Core.Path.{sym, _∙_}
+use mathlib.Core.Path.{sym}
 use native.Mathlib.Omega.{arith}
 use Rattle.write_extend.proofs.ExtendLaws.{more-heap, more-free, more-record, more-few, more-none}
 use borrow.Author.Tests.{leb-true, leb-false}

@@ -3,7 +3,7 @@ use Rattle.file.proofs.RefreshLaws.{stored-along, stored-heap, stored-known}
 use lib.ListN.{replicate}
 use Prim.Native.Nat.{_-_}
 use Rattle.metadata.proofs.Frame.{Fits}
-use mathlib.Core.Path.{_≡_, sym, _∙_, refl, ap}
+use mathlib.Core.Path.{_∙_}
 use native.Mathlib.Omega.{arith}
 use borrow.Author.Needs.{needs}
 use Rattle.write_file.proofs.write.put_data.Statement.{statement}

@@ -1,6 +1,5 @@
-use mathlib.Core.Path.{_≡_, sym, _∙_, refl, ap}
+use mathlib.Core.Path.{_∙_, ap}
 use native.Mathlib.Omega.{arith}
-use Rattle.file.proofs.RefreshLaws.{entries-some}
 use mathlib.Core.List.{List}
 use Prim.Native.Nat.{ℕ}
 use Rattle.stream.specs.Stream.{clustersIn}

@@ -1,8 +1,5 @@
-use mathlib.Core.Path.{_≡_, sym, _∙_, subst}
-use Prim.Native.Nat.{ℕ, _+_}
+use mathlib.Core.Path.{_≡_, sym, _∙_}
 use native.Mathlib.Omega.{arith}
-use lib.ListN.{length}
-use Rattle.file.specs.Refresh.{lengthCause}
 use Rattle.write_file.proofs.WriteLaws.{stored-none, stored-past, stored-refused, stored-done}
 use borrow.Author.Needs.{needs}
 use Rattle.write_file.proofs.write.write_data.Statement.{statement}

@@ -1,11 +1,10 @@
-use mathlib.Core.Path.{_≡_, sym, _∙_, refl, ap}
+use mathlib.Core.Path.{_∙_, ap}
 use native.Mathlib.Omega.{arith}
 use mathlib.Core.List.{List}
 use Prim.Native.Nat.{ℕ, _-_, _≤_}
 use lib.ListN.{replicate}
 use Rattle.stream.specs.Bytes.{storeAt}
 use Rattle.stream.specs.Stream.{clustersIn}
-use Rattle.write_length.specs.SetLength.{zeroEnd}
 use Rattle.write_length.proofs.SetLengthLaws.{end-le}
 use borrow.Author.Needs.{needs}
 use Rattle.write_length.proofs.set_length.grow_zeroed.Statement.{statement}

@@ -1,4 +1,4 @@
-use mathlib.Core.Path.{_≡_, sym, _∙_, ap}
+use mathlib.Core.Path.{_≡_, _∙_, ap}
 use native.Mathlib.Omega.{arith}
 use Rattle.metadata.proofs.Frame.{Fits}
 use Rattle.directory.specs.declared.open_file.OpenFile.{OpenFile}

@@ -1,4 +1,4 @@
-use mathlib.Core.Path.{_≡_, sym}
+use mathlib.Core.Path.{sym}
 use borrow.Author.Needs.{needs}
 use Rattle.write_shrink.proofs.shrink.freed_cause.Statement.{statement}
 use Rattle.write_shrink.proofs.shrink.freed_cause.Tie as tie
