@@ -77,8 +77,8 @@ pub fn entry_count(vol: &[u8], y: Layout, dir: Allocation) -> u32
     dir.count * ((y.size / 32) as u32)
 }
 
-// Whether none of the first n entries of a part has type 0. Two entries a step: one step for each would cost up to twice as much where
-// the compiler lays its few bytes across a border of the processor's instruction cache.
+// Whether none of the first n entries of a part has type 0. Two entries a turn: a loop of one is so short that each turn costs a cycle
+// more where the compiler lays it across a border of 64 bytes.
 fn none_ends(part: &[u8], n: u32) -> bool
     requires { ⌜ (32 * n ≤ length (now part)) × (n ≤ 1024) ⌝ }
     ensures { λ r. ⌜ r ≡ beforeEnd (now (part .entry)) n ⌝ }
