@@ -5,12 +5,13 @@ use mathlib.Core.Bool.{Bool, true, false, not, cond}
 use mathlib.Core.List.{List, [], _∷_}
 use Prim.Native.Nat.{ℕ}
 use native.Mathlib.Omega.{arith}
+use lib.Dec.{eqb}
 use lib.ListN.{length}
-use borrow.Author.Tests.{ne-eqb}
+use borrow.Author.Tests.{ne-eqb, eqb-true}
 use Rattle.tables.specs.Lists.{every, lastOr}
 use Rattle.boot.specs.declared.layout.Layout.{Layout}
 use Rattle.boot.specs.Layout.{inHeap}
-use Rattle.boot.proofs.CauseLaws.{cause-skip, cause-met, cause-last}
+use Rattle.boot.proofs.CauseLaws.{cause-skip, cause-met, cause-last, cause-none}
 use Rattle.metadata.specs.Fat.{fatEntry}
 use Rattle.metadata.specs.Marks.{marked}
 use Rattle.stream.specs.declared.allocation.Allocation.{Allocation}
@@ -22,6 +23,7 @@ use Rattle.stream.proofs.ChainLaws.{chain-out, chain-number, chain-clear, strea
 use Rattle.stream.proofs.StreamLaws.{read-chain-facts}
 use Rattle.stream.proofs.ListingLaws.{stream-read}
 use Rattle.stream.proofs.Distinct.{read-length}
+use Rattle.directory.specs.declared.directory.Directory.{Directory}
 use Rattle.directory.specs.Directory.{chainRecord, rootRecord, bitmapCause, directoryCause}
 use Rattle.directory.specs.Internal.{openRoot}
 
@@ -82,20 +84,20 @@ module _ (y : Layout) (d : List ℕ) (root : ℕ) where
 
   -- ---- by what the walk answers
 
-  module _ (m : List ℕ) (w : Walked) (e : w ≡ walked (marked y d) (λ k. not (barred y m true k)) chain) (h : inHeap (y .count) root ≡ true)
+  module _ (m : List ℕ) (w : Walked) (e : w ≡ walked (marked y d) (λ k. not (barred y m true k)) 0 chain) (h : inHeap (y .count) root ≡ true)
       (c : ℕ) (q : c ≡ walkCause w (w .last) (w .count)) where
     abbrev tested : Clusters
     tested = checkChain (marked y d) (w .last) (w .count) chain
 
     walk-number : c ≡ numberOf tested
-    walk-number = q ∙ chain-number (y .count) (fatEntry y d) (marked y d) (λ k. not (barred y m true k)) root (w .last) (w .count) w h e
+    walk-number = q ∙ chain-number (y .count) (fatEntry y d) (marked y d) (λ k. not (barred y m true k)) 0 root (w .last) (w .count) w h e
 
     -- a chain that is listed has the record that the walk gives
     root-is : (ks : List ℕ) → chain ≡ listed ks → (rootRecord y d root ≡ rec (w .last) (w .count)) × (stream ≡ tested)
     root-is ks r = (same, ap (streamOf y d) same ∙ rec-stream (w .last) (w .count) (λ z. omega (arith, long, read-chain-facts (y .count) (fatEntry y d) root ks r .1 .some)))
       where
-        v : w ≡ walked (marked y d) (λ k. not (barred y m true k)) (listed ks)
-        v = e ∙ ap (walked (marked y d) (λ k. not (barred y m true k))) r
+        v : w ≡ walked (marked y d) (λ k. not (barred y m true k)) 0 (listed ks)
+        v = e ∙ ap (walked (marked y d) (λ k. not (barred y m true k)) 0) r
 
         last : w .last ≡ lastOr 0 ks
         last = unfold walked in (ap (λ (x : Walked). x .last) v)
@@ -133,7 +135,7 @@ module _ (y : Layout) (d : List ℕ) (root : ℕ) where
       cause-is b f =
           clusters-cause (sym number-is ∙ z) ∙ ap (λ (x : Clusters). bitmapCause y (clustersOf x)) (read .1)
           ∙ ap (λ (x : Bool). cond x 0 9)
-          (sym (chain-clear (y .count) (fatEntry y d) (marked y d) (λ k. not (barred y m true k)) root (w .last) (w .count) w h e (sym walk-number ∙ z)) ∙ f)
+          (sym (chain-clear (y .count) (fatEntry y d) (marked y d) (λ k. not (barred y m true k)) 0 root (w .last) (w .count) w h e (sym walk-number ∙ z)) ∙ f)
 
       pub root-nine : w .clear ≡ false → record { number = 9; allocation = empty } ≡ openRoot y d root
       root-nine f = sym (open-not 9 (cause-is false f) (λ t. omega arith))
@@ -141,3 +143,31 @@ module _ (y : Layout) (d : List ℕ) (root : ℕ) where
       pub root-done : w .clear ≡ true → record { number = 0; allocation = record { first = root; last = w .last; count = w .count; «no_fat_chain» = false } } ≡ openRoot y d root
       unfolding openRoot
       root-done f = sym (rw (cause-is true f, read .0) refl)
+
+-- ---- the root as code opens it
+
+module _ (y : Layout) (d : List ℕ) (root : ℕ) (r : Directory) (e : r ≡ openRoot y d root) where
+  abbrev cause : ℕ
+  cause = directoryCause y d (rootRecord y d root)
+
+  pub root-number : r .number ≡ cause
+  root-number = ap (λ (x : Directory). x .number) e ∙ by (eqb cause 0) refl
+    where
+      by : (t : Bool) → eqb cause 0 ≡ t → openRoot y d root .number ≡ cause
+      by true q = unfold openRoot in (rw q (sym (eqb-true cause 0 q)))
+      by false q = unfold openRoot in (rw q refl)
+
+  allocation-is : cause ≡ 0 → openRoot y d root .allocation ≡ rootRecord y d root
+  unfolding openRoot
+  allocation-is q = rw q refl
+
+  pub root-record : r .number ≡ 0 → r .allocation ≡ rootRecord y d root
+  root-record z =
+      let q : cause ≡ 0 = sym root-number ∙ z in
+      ap (λ (x : Directory). x .allocation) e ∙ allocation-is q
+
+  pub root-reads : r .number ≡ 0 → numberOf (streamOf y d (r .allocation)) ≡ 0
+  root-reads z =
+      let x = rootRecord y d root in
+      ap (λ (u : Allocation). numberOf (streamOf y d u)) (root-record z)
+      ∙ cause-none (numberOf (streamOf y d x)) (bitmapCause y (clustersOf (streamOf y d x)) ∷ []) (unfold directoryCause in (sym root-number ∙ z)) .0

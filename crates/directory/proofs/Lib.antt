@@ -10,3 +10,4 @@ pub mod RoomLaws
 pub mod WindowLaws
 pub mod SpotLaws
 pub mod OpenLaws
+pub mod FileLaws

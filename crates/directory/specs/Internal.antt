@@ -79,13 +79,14 @@ setRead bs i = cond (eqb (wholeSet bs i) 0) (replicate 608 0) (setAt bs i)
 unfoldable pub sets : List ℕ → ℕ → Option (List ℕ)
 sets bs i = cond (isFile bs i) (some (setAt bs i)) none
 
--- a number with a record, which is empty beside a refusal
-unfoldable pub opened : ℕ → Allocation → Opened
-opened n a = cond (eqb n 0) (record { number = 0; allocation = a }) (record { number = n; allocation = empty })
+-- a number with a record and a cluster, which are empty and 0 beside a refusal
+unfoldable pub opened : ℕ → Allocation → ℕ → Opened
+opened n a k =
+    cond (eqb n 0) (record { number = 0; allocation = a; seen = k }) (record { number = n; allocation = empty; seen = 0 })
 
--- a stream's record, or the number of what refuses it
-abbrev pub openedStream : (y : Layout) (d m : List ℕ) (a : Allocation) → Opened
-openedStream y d m a = opened (streamCause y d m a) a
+-- a stream's record and its cluster `goal` steps from the first, 0 where it ends before; or the number of what refuses it
+abbrev pub openedStream : (y : Layout) (d m : List ℕ) (a : Allocation) (goal : ℕ) → Opened
+openedStream y d m a goal = opened (streamCause y d m a) a (getD (clustersIn y d a) goal 0)
 
 -- the clusters from that of a slot on, three of them, 0 where the directory ends, and the slot's byte in the first
 unfoldable pub spotOf : Layout → List ℕ → Allocation → ℕ → Spot
@@ -106,10 +107,14 @@ pub record Reaches (y : Layout) (s : Spot) (n : ℕ) : Type 0 where
 
 -- no file: a number with no spot and the empty record
 abbrev pub noFile : ℕ → OpenFile
-noFile n = record { number = n; spot = record { first = 0; second = 0; third = 0; at = 0 }; stream = empty }
+noFile n = record { number = n; spot = record { first = 0; second = 0; third = 0; at = 0 }; stream = empty; seen = 0 }
 
--- the file at a slot of directory a opened: where its set stands and its stream's record, or the number
-unfoldable pub openFile : (y : Layout) (d m : List ℕ) (a : Allocation) (slot : ℕ) → OpenFile
-openFile y d m a slot =
-    let n = fileCause y d m a slot in
-    cond (eqb n 0) (record { number = 0; spot = spotOf y d a slot; stream = fileRecord y d (setIn y d a slot) }) (noFile n)
+-- the file at a slot of directory a: where its set stands, its stream's record, and its cluster `goal` steps from the first
+unfoldable pub foundFile : (y : Layout) (d : List ℕ) (a : Allocation) (slot goal : ℕ) → OpenFile
+foundFile y d a slot goal =
+    let b = fileRecord y d (setIn y d a slot) in
+    record { number = 0; spot = spotOf y d a slot; stream = b; seen = getD (clustersIn y d b) goal 0 }
+
+-- the same opened, or the number of what refuses it
+unfoldable pub openFile : (y : Layout) (d m : List ℕ) (a : Allocation) (slot goal : ℕ) → OpenFile
+openFile y d m a slot goal = let n = fileCause y d m a slot in cond (eqb n 0) (foundFile y d a slot goal) (noFile n)

@@ -1,8 +1,9 @@
 -- A file opened by its slot: its record, and what refuses it (Rust: `stream_allocation`, `open_for_write`).
 use mathlib.Core.Bool.{cond}
-use mathlib.Core.List.{List, [], _∷_}
+use mathlib.Core.List.{List, [], _∷_, _++_}
 use Prim.Native.Nat.{ℕ, _+_, _-_}
 use lib.Dec.{eqb}
+use lib.ListN.{take, replicate}
 use Rattle.tables.specs.Lists.{lastOr}
 use Rattle.boot.specs.declared.layout.Layout.{Layout}
 use Rattle.boot.specs.Causes.{firstCause}
@@ -48,3 +49,7 @@ unfoldable pub fileCause : (y : Layout) (d m : List ℕ) (a : Allocation) (slot 
 fileCause y d m a slot =
     let s = setIn y d a slot in
     firstCause (entryCause y (bytesIn y d a) slot ∷ directoryAttributeCause s ∷ streamCause y d m (fileRecord y d s) ∷ [])
+
+-- a stream's bytes as a file shows them (01: its tape): its stored bytes below valid, and 0 from valid to the length
+unfoldable pub shown : (bs : List ℕ) (valid len : ℕ) → List ℕ
+shown bs valid len = take valid bs ++ replicate (len - valid) 0

@@ -30,7 +30,7 @@ pub fn root_dir(vol: &[u8], map: &[u8], y: Layout, root: u32) -> Directory
     ensures { λ r. ⌜ r ≡ openRoot y (now (vol .entry)) root ⌝ }
 {
     if boot::layout::in_heap(y.count, root) {
-        let w = stream::walk::fat_chain(vol, map, y, true, root);
+        let w = stream::walk::fat_chain(vol, map, y, true, root, 0);
         let number = stream::walk::walk_cause(w, w.last, w.count);
         if number != 0 {
             return no_directory(number);

@@ -2,8 +2,8 @@
 ghost use mathlib.Core.Path.{_≡_};
 ghost use mathlib.Core.Bool.{true, false, cond};
 ghost use Prim.Native.Nat.{_+_, _-_, _*_, _≤_, _<_};
-ghost use lib.ListN.{length, replicate};
-ghost use Rattle.tables.specs.Lists.{lastOr};
+ghost use lib.ListN.{length, getD, replicate};
+ghost use Rattle.tables.specs.Lists.{lastOr, consec};
 ghost use Rattle.boot.specs.Internal.{Laid, Apart};
 ghost use Rattle.boot.specs.Layout.{inHeap};
 ghost use Rattle.metadata.specs.Fat.{fatEntry};
@@ -20,17 +20,20 @@ use boot::layout::Layout;
 use stream::allocation::Allocation;
 use stream::bytes::Place;
 
-// A stream's record, or the number of what refuses it.
+// A stream's record and the cluster that the caller looks for, 0 where the stream ends before it; or the number of what refuses it.
 struct Opened {
     number: u32,
     allocation: Allocation,
+    seen: u32,
 }
 
-// A file opened (Rust: `OpenFile`): where its set stands and its stream's record, or the number of what refuses it.
+// A file opened (Rust: `OpenFile`): where its set stands, its stream's record and the stream's cluster that the caller looks for, 0
+// where the stream ends before it; or the number of what refuses it.
 pub struct OpenFile {
     pub number: u32,
     pub spot: Spot,
     pub stream: Allocation,
+    pub seen: u32,
 }
 
 // How many entries the set has whose first entry e is, at a slot with no type 0 before it: 0 where that is no file entry or the set does
@@ -76,20 +79,21 @@ fn copy_set(
 
 // A number with the empty record.
 fn not_opened(number: u32) -> Opened
-    ensures { λ r. ⌜ r ≡ record { number = number; allocation = empty } ⌝ }
+    ensures { λ r. ⌜ r ≡ record { number = number; allocation = empty; seen = 0 } ⌝ }
 {
     Opened {
         number: number,
         allocation: stream::allocation::empty_record(),
+        seen: 0,
     }
 }
 
-// A chain of n clusters opened: one walk gives its record and what refuses it.
-fn open_chain(vol: &[u8], map: &[u8], y: Layout, first: u32, n: u32) -> Opened
+// A chain of n clusters opened: one walk gives its record, its cluster `goal` steps from the first, and what refuses it.
+fn open_chain(vol: &[u8], map: &[u8], y: Layout, first: u32, n: u32, goal: u32) -> Opened
     requires { ⌜ Laid y × ((length (now vol) ≡ y .len) × ((y .count ≤ 8 * length (now map)) × ((inHeap (y .count) first ≡ true) × (1 ≤ n)))) ⌝ }
-    ensures { λ r. ⌜ r ≡ openedStream y (now (vol .entry)) (now (map .entry)) (record { first = first; last = lastOr 0 (clustersOf (readChain (y .count) (fatEntry y (now (vol .entry))) first)); count = n; «no_fat_chain» = false }) ⌝ }
+    ensures { λ r. ⌜ r ≡ openedStream y (now (vol .entry)) (now (map .entry)) (record { first = first; last = lastOr 0 (clustersOf (readChain (y .count) (fatEntry y (now (vol .entry))) first)); count = n; «no_fat_chain» = false }) goal ⌝ }
 {
-    let w = stream::walk::fat_chain(vol, map, y, false, first);
+    let w = stream::walk::fat_chain(vol, map, y, false, first, goal);
     let number = stream::walk::walk_cause(w, w.last, n);
     if number != 0 {
         return not_opened(number);
@@ -104,15 +108,27 @@ fn open_chain(vol: &[u8], map: &[u8], y: Layout, first: u32, n: u32) -> Opened
         return Opened {
             number: 0,
             allocation: a,
+            seen: w.seen,
         };
     }
     not_opened(9)
 }
 
+// The cluster `goal` steps from first in a run of n clusters, 0 where it ends before.
+fn run_cluster(first: u32, n: u32, goal: u32) -> u32
+    requires { ⌜ first + n ≤ 65536 ⌝ }
+    ensures { λ r. ⌜ r ≡ getD (consec first n) goal 0 ⌝ }
+{
+    if goal < n {
+        return first + goal;
+    }
+    0
+}
+
 // A run of n clusters opened: its marks, then the system map; no FAT entry is read.
-fn open_run(vol: &[u8], map: &[u8], y: Layout, first: u32, n: u32) -> Opened
+fn open_run(vol: &[u8], map: &[u8], y: Layout, first: u32, n: u32, goal: u32) -> Opened
     requires { ⌜ Laid y × ((length (now vol) ≡ y .len) × ((y .count ≤ 8 * length (now map)) × ((first + n ≤ y .count + 2) × (1 ≤ n)))) ⌝ }
-    ensures { λ r. ⌜ r ≡ openedStream y (now (vol .entry)) (now (map .entry)) (record { first = first; last = first + n - 1; count = n; «no_fat_chain» = true }) ⌝ }
+    ensures { λ r. ⌜ r ≡ openedStream y (now (vol .entry)) (now (map .entry)) (record { first = first; last = first + n - 1; count = n; «no_fat_chain» = true }) goal ⌝ }
 {
     let a = Allocation {
         first: first,
@@ -131,13 +147,14 @@ fn open_run(vol: &[u8], map: &[u8], y: Layout, first: u32, n: u32) -> Opened
     Opened {
         number: 0,
         allocation: a,
+        seen: run_cluster(first, n, goal),
     }
 }
 
-// The record of a set's stream, or what refuses it: its clusters' number, then 9.
-fn open_stream(vol: &[u8], map: &[u8], y: Layout, set: &[u8; 608]) -> Opened
+// The record of a set's stream and its cluster `goal` steps from the first, or what refuses it: its clusters' number, then 9.
+fn open_stream(vol: &[u8], map: &[u8], y: Layout, set: &[u8; 608], goal: u32) -> Opened
     requires { ⌜ Laid y × ((length (now vol) ≡ y .len) × ((y .count ≤ 8 * length (now map)) × (wellFormed (y .count) (y .size) (now set) ≡ true))) ⌝ }
-    ensures { λ r. ⌜ r ≡ openedStream y (now (vol .entry)) (now (map .entry)) (fileRecord y (now (vol .entry)) (now (set .entry))) ⌝ }
+    ensures { λ r. ⌜ r ≡ openedStream y (now (vol .entry)) (now (map .entry)) (fileRecord y (now (vol .entry)) (now (set .entry))) goal ⌝ }
 {
     let len = entry_set::entry::data_length(set);
     if len == 0 {
@@ -146,9 +163,9 @@ fn open_stream(vol: &[u8], map: &[u8], y: Layout, set: &[u8; 608]) -> Opened
     let n = entry_set::entry::clusters_for(y.size, len) as u32;
     let first = entry_set::entry::first_cluster(set);
     if entry_set::entry::no_fat_chain(set) {
-        return open_run(vol, map, y, first, n);
+        return open_run(vol, map, y, first, n, goal);
     }
-    open_chain(vol, map, y, first, n)
+    open_chain(vol, map, y, first, n, goal)
 }
 
 // What refuses a set's bytes: 10 where they are not well formed, else 11 for a directory.
@@ -180,6 +197,7 @@ pub fn no_file(number: u32) -> OpenFile
         number: number,
         spot: spot,
         stream: a,
+        seen: 0,
     }
 }
 
@@ -192,15 +210,16 @@ fn open_copied(
     slot: u32,
     e: Cursor,
     set: &[u8; 608],
+    goal: u32,
 ) -> OpenFile
     requires { ⌜ Laid y × ((length (now vol) ≡ y .len) × ((y .count ≤ 8 * length (now map)) × (Apart y × ((numberOf (streamOf y (now vol) dir) ≡ 0) × ((slot < entryCount (bytesIn y (now vol) dir)) × ((e ≡ entryPlace y (now vol) dir slot) × ((1 ≤ wholeSet (bytesIn y (now vol) dir) slot) × (now set ≡ setIn y (now vol) dir slot)))))))) ⌝ }
-    ensures { λ r. ⌜ r ≡ openFile y (now (vol .entry)) (now (map .entry)) dir slot ⌝ }
+    ensures { λ r. ⌜ r ≡ openFile y (now (vol .entry)) (now (map .entry)) dir slot goal ⌝ }
 {
     let cause = set_cause(set, y.count, y.size);
     if cause != 0 {
         return no_file(cause);
     }
-    let s = open_stream(vol, map, y, set);
+    let s = open_stream(vol, map, y, set, goal);
     if s.number != 0 {
         return no_file(s.number);
     }
@@ -210,6 +229,7 @@ fn open_copied(
         number: 0,
         spot: spot,
         stream: a,
+        seen: s.seen,
     }
 }
 
@@ -222,30 +242,33 @@ fn open_at(
     slot: u32,
     e: Cursor,
     total: u32,
+    goal: u32,
     set: &mut [u8; 608],
 ) -> OpenFile
     requires { ⌜ Laid y × ((length (now vol) ≡ y .len) × ((y .count ≤ 8 * length (now map)) × (Apart y × ((numberOf (streamOf y (now vol) dir) ≡ 0) × ((slot < entryCount (bytesIn y (now vol) dir)) × ((e ≡ entryPlace y (now vol) dir slot) × ((total ≡ entryCount (bytesIn y (now vol) dir)) × ((total ≤ 524288) × ((beforeEnd (bytesIn y (now vol) dir) slot ≡ true) × (now set ≡ replicate 608 0)))))))))) ⌝ }
-    ensures { λ r. ⌜ (r ≡ openFile y (now (vol .entry)) (now (map .entry)) dir slot) × (now (set .exit) ≡ setRead (bytesIn y (now (vol .entry)) dir) slot) ⌝ }
+    ensures { λ r. ⌜ (r ≡ openFile y (now (vol .entry)) (now (map .entry)) dir slot goal) × (now (set .exit) ≡ setRead (bytesIn y (now (vol .entry)) dir) slot) ⌝ }
 {
     let n = entries_here(vol, y, dir, slot, e, total);
     if n == 0 {
         return no_file(10);
     }
     copy_set(vol, y, dir, slot, e, n, set);
-    open_copied(vol, map, y, dir, slot, e, set)
+    open_copied(vol, map, y, dir, slot, e, set, goal)
 }
 
-// Opens the file at a slot, and copies its set (Rust: `open_for_write`).
+// Opens the file at a slot, and copies its set (Rust: `open_for_write`); the cluster of its stream `goal` steps from the first is noted
+// on the way.
 pub fn open_file(
     vol: &[u8],
     map: &[u8],
     y: Layout,
     dir: Allocation,
     slot: u32,
+    goal: u32,
     set: &mut [u8; 608],
 ) -> OpenFile
     requires { ⌜ Laid y × ((length (now vol) ≡ y .len) × ((y .count ≤ 8 * length (now map)) × (Apart y × ((numberOf (streamOf y (now vol) dir) ≡ 0) × (now set ≡ replicate 608 0))))) ⌝ }
-    ensures { λ r. ⌜ (r ≡ openFile y (now (vol .entry)) (now (map .entry)) dir slot) × (now (set .exit) ≡ setRead (bytesIn y (now (vol .entry)) dir) slot) ⌝ }
+    ensures { λ r. ⌜ (r ≡ openFile y (now (vol .entry)) (now (map .entry)) dir slot goal) × (now (set .exit) ≡ setRead (bytesIn y (now (vol .entry)) dir) slot) ⌝ }
 {
     let total = crate::entries::entry_count(vol, y, dir);
     if total <= slot {
@@ -255,5 +278,5 @@ pub fn open_file(
     if e.cluster == 0 {
         return no_file(10);
     }
-    open_at(vol, map, y, dir, slot, e, total, set)
+    open_at(vol, map, y, dir, slot, e, total, goal, set)
 }

@@ -33,11 +33,11 @@ use Rattle.file.specs.declared.answer.FileAnswer.{FileAnswer}
 use Rattle.file.specs.Outcome.{Outcome, refuse, carried}
 use Rattle.directory.specs.declared.directory.Directory.{Directory}
 use Rattle.directory.specs.Directory.{rootRecord, bitmapCause, directoryCause}
-use Rattle.directory.specs.Internal.{openRoot, spotOf, spotClusters, Reaches, noFile, openFile, setRead}
+use Rattle.directory.specs.Internal.{openRoot, spotOf, spotClusters, Reaches, noFile, foundFile, openFile, setRead}
 use Rattle.directory.proofs.DirectoryLaws.{clusters-length}
 use Rattle.directory.specs.Entries.{entryCount, entriesAt, setAt, isSound}
 use Rattle.directory.proofs.EntryLaws.{sound-file, sound-few, sound-room, sound-formed, set-count}
-use Rattle.directory.proofs.OpenLaws.{whole-yes, entries-low, read-some}
+use Rattle.directory.proofs.FileLaws.{record-count, file-sound, file-read}
 use Rattle.directory.specs.declared.open_file.OpenFile.{OpenFile}
 use Rattle.directory.proofs.CursorLaws.{length-in, count-few}
 use Rattle.directory.specs.declared.spot.Spot.{Spot}
@@ -60,19 +60,6 @@ system-drop : (m : List ℕ) (n : ℕ) (ks : List ℕ) → systemCause m ks ≡ 
 unfolding systemCause
 system-drop m n ks e = rw (every-drop (λ k. not (inMap m k)) n ks (system-every m ks e)) refl
 
--- ---- a file that nothing refuses is sound
-
-sound-at : (y : Layout) (d m : List ℕ) (a : Allocation) (slot : ℕ) → fileCause y d m a slot ≡ 0 → isSound (y .count) (y .size) (bytesIn y d a) slot ≡ true
-sound-at y d m a slot f = by (isSound (y .count) (y .size) (bytesIn y d a) slot) refl
-  where
-    by : (t : Bool) → isSound (y .count) (y .size) (bytesIn y d a) slot ≡ t → t ≡ true
-    by true e = refl
-    by false e =
-        let q : entryCause y (bytesIn y d a) slot ≡ 10 = unfold entryCause in (rw e refl) in
-        let c : firstCause (entryCause y (bytesIn y d a) slot ∷ directoryAttributeCause (setIn y d a slot) ∷ streamCause y d m (fileRecord y d (setIn y d a slot)) ∷ []) ≡ 0 =
-        unfold fileCause in f in
-        absurd (let z = cause-none _ _ c .0 in omega arith)
-
 -- ---- a file that opens
 
 module _ (y : Layout) (d m : List ℕ) (a : Allocation) (slot : ℕ) (s : List ℕ) (f : OpenFile) (hint : ℕ) (o : Opens y d m a slot s f hint) where
@@ -91,7 +78,7 @@ module _ (y : Layout) (d m : List ℕ) (a : Allocation) (slot : ℕ) (s : List �
   causes = unfold fileCause in (o .file)
 
   open-sound : isSound (y .count) (y .size) (bytesIn y d a) slot ≡ true
-  open-sound = sound-at y d m a slot (o .file)
+  open-sound = file-sound y d m a slot (o .file)
 
   stream-none : streamCause y d m (f .stream) ≡ 0
   stream-none =
@@ -133,14 +120,7 @@ module _ (y : Layout) (d m : List ℕ) (a : Allocation) (slot : ℕ) (s : List �
       (formed-lengths (y .count) (y .size) (setAt (bytesIn y d a) slot) (sound-formed (y .count) (y .size) (bytesIn y d a) slot open-sound) .valid)
 
   pub open-count : f .stream .count ≡ clustersFor (y .size) (dataLength s)
-  open-count = ap (λ (x : Allocation). x .count) (o .stream) ∙ by (eqb n 0) refl
-    where
-      n : ℕ
-      n = clustersFor (y .size) (dataLength s)
-
-      by : (t : Bool) → eqb n 0 ≡ t → fileRecord y d s .count ≡ n
-      by true e = unfold fileRecord in (rw e (sym (eqb-true n 0 e)))
-      by false e = unfold fileRecord in (rw e refl)
+  open-count = ap (λ (x : Allocation). x .count) (o .stream) ∙ record-count y d s
 
   pub open-few : f .stream .count ≤ y .count
   open-few = count-few y d open-fits b open-stream
@@ -291,7 +271,7 @@ module _ (y : Layout) (d m : List ℕ) (a : Allocation) (slot hint : ℕ) where
     unfolding targetSet
     set-read q = rw (set-cause ∙ q) refl
 
-    pub target-file : directoryCause y d a ≡ 0 → (openFile y d m a slot ≡ target y d m a slot hint) × (setRead (bytesIn y d a) slot ≡ targetSet y d a slot hint)
+    pub target-file : directoryCause y d a ≡ 0 → (openFile y d m a slot 0 ≡ target y d m a slot hint) × (setRead (bytesIn y d a) slot ≡ targetSet y d a slot hint)
     unfolding target openFile
     target-file q = (rw (open-is y d m a slot hint h q) refl, set-read q)
 
@@ -301,12 +281,19 @@ module _ (y : Layout) (d m : List ℕ) (a : Allocation) (slot hint : ℕ) where
   target-number = by (eqb (openCause y d m a slot hint) 0) refl
     where
       by : (t : Bool) → eqb (openCause y d m a slot hint) 0 ≡ t
-          → cond t (record { number = 0; spot = spotOf y d a slot; stream = fileRecord y d (setIn y d a slot) }) (noFile (openCause y d m a slot hint)) .number
-          ≡ openCause y d m a slot hint
-      by true e = sym (eqb-true (openCause y d m a slot hint) 0 e)
+          → cond t (foundFile y d a slot 0) (noFile (openCause y d m a slot hint)) .number ≡ openCause y d m a slot hint
+      by true e = unfold foundFile in (sym (eqb-true (openCause y d m a slot hint) 0 e))
       by false e = refl
 
-  target-is : openCause y d m a slot hint ≡ 0 → target y d m a slot hint ≡ record { number = 0; spot = spotOf y d a slot; stream = fileRecord y d (setIn y d a slot) }
+  found-spot : foundFile y d a slot 0 .spot ≡ spotOf y d a slot
+  unfolding foundFile
+  found-spot = refl
+
+  found-stream : foundFile y d a slot 0 .stream ≡ fileRecord y d (setIn y d a slot)
+  unfolding foundFile
+  found-stream = refl
+
+  target-is : openCause y d m a slot hint ≡ 0 → target y d m a slot hint ≡ foundFile y d a slot 0
   unfolding target
   target-is e = rw e refl
 
@@ -316,14 +303,6 @@ module _ (y : Layout) (d m : List ℕ) (a : Allocation) (slot hint : ℕ) where
       by : (t : Bool) → inHeap (y .count) hint ≡ t → inHeap (y .count) hint ≡ true
       by true q = q
       by false q = absurd (let z = heap-met (y .count) hint q in omega arith)
-
-  -- a sound file entry has its set read
-  set-sound : fileCause y d m a slot ≡ 0 → setRead (bytesIn y d a) slot ≡ setIn y d a slot
-  set-sound e =
-      let s = sound-at y d m a slot e in
-      let f = sound-file (y .count) (y .size) (bytesIn y d a) slot s in
-      let w = whole-yes (bytesIn y d a) slot f (sound-few (y .count) (y .size) (bytesIn y d a) slot s) (sound-room (y .count) (y .size) (bytesIn y d a) slot s) in
-      sym (read-some y d a slot (λ z. omega (arith, z, w, entries-low (bytesIn y d a) slot)))
 
   module _ (w : Fits y d) (k : y .count ≤ 8 * length m) (f : OpenFile) (e : f ≡ target y d m a slot hint) (s : List ℕ) (q : s ≡ targetSet y d a slot hint)
       (z : f .number ≡ 0) where
@@ -335,7 +314,7 @@ module _ (y : Layout) (d m : List ℕ) (a : Allocation) (slot hint : ℕ) where
         let c = cause-none (heapCause (y .count) hint) (directoryCause y d a ∷ fileCause y d m a slot ∷ []) (unfold openCause in open-none) in
         let u = cause-none (directoryCause y d a) (fileCause y d m a slot ∷ []) (c .1) in
         let v = cause-none (fileCause y d m a slot) [] (u .1) in
-        let i : s ≡ setIn y d a slot = q ∙ sym (set-read (hint-of (c .0)) (u .0)) ∙ set-sound (v .0) in
+        let i : s ≡ setIn y d a slot = q ∙ sym (set-read (hint-of (c .0)) (u .0)) ∙ file-read y d m a slot (v .0) in
         record {
           laid = w .laid;
           apart = w .apart;
@@ -344,35 +323,7 @@ module _ (y : Layout) (d m : List ℕ) (a : Allocation) (slot hint : ℕ) where
           directory = u .0;
           file = v .0;
           set = i;
-          spot = ap (λ (x : OpenFile). x .spot) (e ∙ target-is open-none);
-          stream = ap (λ (x : OpenFile). x .stream) (e ∙ target-is open-none) ∙ ap (fileRecord y d) (sym i);
+          spot = ap (λ (x : OpenFile). x .spot) (e ∙ target-is open-none) ∙ found-spot;
+          stream = ap (λ (x : OpenFile). x .stream) (e ∙ target-is open-none) ∙ found-stream ∙ ap (fileRecord y d) (sym i);
           hint-in = hint-of (c .0);
         }
-
--- ---- the root as code opens it
-
-module _ (y : Layout) (d : List ℕ) (root : ℕ) (r : Directory) (e : r ≡ openRoot y d root) where
-  abbrev cause : ℕ
-  cause = directoryCause y d (rootRecord y d root)
-
-  pub root-number : r .number ≡ cause
-  root-number = ap (λ (x : Directory). x .number) e ∙ by (eqb cause 0) refl
-    where
-      by : (t : Bool) → eqb cause 0 ≡ t → openRoot y d root .number ≡ cause
-      by true q = unfold openRoot in (rw q (sym (eqb-true cause 0 q)))
-      by false q = unfold openRoot in (rw q refl)
-
-  allocation-is : cause ≡ 0 → openRoot y d root .allocation ≡ rootRecord y d root
-  unfolding openRoot
-  allocation-is q = rw q refl
-
-  pub root-record : r .number ≡ 0 → r .allocation ≡ rootRecord y d root
-  root-record z =
-      let q : cause ≡ 0 = sym root-number ∙ z in
-      ap (λ (x : Directory). x .allocation) e ∙ allocation-is q
-
-  pub root-reads : r .number ≡ 0 → numberOf (streamOf y d (r .allocation)) ≡ 0
-  root-reads z =
-      let x = rootRecord y d root in
-      ap (λ (u : Allocation). numberOf (streamOf y d u)) (root-record z)
-      ∙ cause-none (numberOf (streamOf y d x)) (bitmapCause y (clustersOf (streamOf y d x)) ∷ []) (unfold directoryCause in (sym root-number ∙ z)) .0

@@ -16,7 +16,7 @@ use Rattle.stream.specs.Stream.{numberOf, streamOf}
 use Rattle.directory.specs.declared.open_file.OpenFile.{OpenFile}
 use Rattle.directory.specs.Directory.{directoryCause}
 use Rattle.directory.specs.Open.{fileRecord, fileCause, setIn}
-use Rattle.directory.specs.Internal.{spotOf, setRead, noFile}
+use Rattle.directory.specs.Internal.{spotOf, setRead, foundFile, noFile}
 use Rattle.file.specs.Refresh.{openCause}
 
 -- where usable clusters for a stream are looked for first
@@ -46,7 +46,7 @@ pub record Opens (y : Layout) (d m : List ℕ) (a : Allocation) (slot : ℕ) (s 
 unfoldable pub target : (y : Layout) (d m : List ℕ) (a : Allocation) (slot hint : ℕ) → OpenFile
 target y d m a slot hint =
     let n = openCause y d m a slot hint in
-    cond (eqb n 0) (record { number = 0; spot = spotOf y d a slot; stream = fileRecord y d (setIn y d a slot) }) (noFile n)
+    cond (eqb n 0) (foundFile y d a slot 0) (noFile n)
 
 -- the 608 bytes that this fills: the set where hint and directory are not refused and there is one, else zeros
 unfoldable pub targetSet : (y : Layout) (d : List ℕ) (a : Allocation) (slot hint : ℕ) → List ℕ

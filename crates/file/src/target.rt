@@ -28,7 +28,7 @@ pub fn open_target(
             return directory::open_file::no_file(dir.number);
         }
         let a = dir.allocation;
-        return directory::open_file::open_file(vol, map, y, a, slot, set);
+        return directory::open_file::open_file(vol, map, y, a, slot, 0, set);
     }
     directory::open_file::no_file(2)
 }

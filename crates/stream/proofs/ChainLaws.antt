@@ -4,9 +4,10 @@ use mathlib.Core.Bool.{Bool, true, false, _&&_, cond}
 use mathlib.Core.List.{List, [], _∷_}
 use Prim.Native.Nat.{ℕ, zero, suc, _+_, _-_, _≤_, _<_}
 use native.Mathlib.Numerals.{sub-one}
+use native.Mathlib.Decide.{ℕ-discrete}
 use native.Mathlib.Omega.{arith}
 use lib.Dec.{eqb}
-use lib.ListN.{length}
+use lib.ListN.{length, getD}
 use borrow.Author.Tests.{eq-eqb, ne-eqb, eqb-true, eqb-false}
 use Rattle.tables.specs.Lists.{every, lastOr, consec}
 use Rattle.tables.proofs.Cases.{and-true, and-assoc}
@@ -34,76 +35,109 @@ next-wrong C v n h = rw (ne-eqb v END n, h) refl
 
 -- ---- what a walk answers that has passed b clusters, all marked where f says so, none barred where g says so
 
-abbrev pub walkAt : (mark free : ℕ → Bool) (z b : ℕ) (f g : Bool) → Clusters → Walked
-walkAt mark free z b f g (listed ks) =
-    record { number = 0; last = lastOr z ks; count = b + length ks; marked = f && every mark ks; clear = g && every free ks }
-walkAt mark free z b f g (refused n) = record { number = n; last = 0; count = 0; marked = false; clear = false }
+-- the cluster at place `goal` of a chain, ks standing from place b on; s where it is not among them
+unfoldable pub seenFrom : (goal b s : ℕ) → List ℕ → ℕ
+seenFrom goal b s [] = s
+seenFrom goal b s (k ∷ ks) = seenFrom goal (b + 1) (cond (eqb b goal) k s) ks
 
-module _ (mark free : ℕ → Bool) where
-  walk-onto : (z b : ℕ) (f g : Bool) (k : ℕ) (c : Clusters)
-      → walkAt mark free z b f g (withFirst k c) ≡ walkAt mark free k (b + 1) (f && mark k) (g && free k) c
-  unfolding lastOr every
-  walk-onto z b f g k (listed ks) =
+seen-past : (goal b s : ℕ) (ks : List ℕ) → goal < b → seenFrom goal b s ks ≡ s
+unfolding seenFrom
+seen-past goal b s [] h = refl
+seen-past goal b s (k ∷ ks) h = rw (ne-eqb b goal (λ z. omega arith)) (seen-past goal (b + 1) s ks (omega arith))
+
+seen-is : (goal b s : ℕ) (ks : List ℕ) → b ≤ goal → seenFrom goal b s ks ≡ getD ks (goal - b) s
+unfolding seenFrom
+seen-is goal b s [] h = refl
+seen-is goal b s (k ∷ ks) h =
+    elim (ℕ-discrete b goal) [
+      | yes e ↦
+          let z : goal - b ≡ 0 = omega arith in
+          rw (eq-eqb b goal e, z) (seen-past goal (b + 1) k ks (omega arith))
+      | no e ↦
+          let z : goal - b ≡ suc (goal - (b + 1)) = omega arith in
+          rw (ne-eqb b goal e, z) (seen-is goal (b + 1) s ks (omega arith))
+    ]
+
+abbrev pub walkAt : (mark free : ℕ → Bool) (goal z b : ℕ) (f g : Bool) (s : ℕ) → Clusters → Walked
+walkAt mark free goal z b f g s (listed ks) =
+    record {
+      number = 0;
+      last = lastOr z ks;
+      count = b + length ks;
+      marked = f && every mark ks;
+      clear = g && every free ks;
+      seen = seenFrom goal b s ks;
+    }
+walkAt mark free goal z b f g s (refused n) = record { number = n; last = 0; count = 0; marked = false; clear = false; seen = 0 }
+
+module _ (mark free : ℕ → Bool) (goal : ℕ) where
+  walk-onto : (z b : ℕ) (f g : Bool) (s k : ℕ) (c : Clusters)
+      → walkAt mark free goal z b f g s (withFirst k c) ≡ walkAt mark free goal k (b + 1) (f && mark k) (g && free k) (cond (eqb b goal) k s) c
+  unfolding lastOr every seenFrom
+  walk-onto z b f g s k (listed ks) =
       let e : b + suc (length ks) ≡ b + 1 + length ks = omega arith in
       rw (e, and-assoc f (mark k) (every mark ks), and-assoc g (free k) (every free ks)) refl
-  walk-onto z b f g k (refused n) = refl
+  walk-onto z b f g s k (refused n) = refl
 
   -- a chain has a cluster, so what came before it does not matter
-  module _ (C : ℕ) (fat : ℕ → ℕ) (z z′ b : ℕ) (f g : Bool) where
-    by-any : (x : Next) (k : ℕ) (c : Clusters) (n : ℕ) → walkAt mark free z b f g (byNext x (listed (k ∷ [])) (withFirst k c) (refused n))
-        ≡ walkAt mark free z′ b f g (byNext x (listed (k ∷ [])) (withFirst k c) (refused n))
+  module _ (C : ℕ) (fat : ℕ → ℕ) (z z′ b : ℕ) (f g : Bool) (s : ℕ) where
+    by-any : (x : Next) (k : ℕ) (c : Clusters) (n : ℕ) → walkAt mark free goal z b f g s (byNext x (listed (k ∷ [])) (withFirst k c) (refused n))
+        ≡ walkAt mark free goal z′ b f g s (byNext x (listed (k ∷ [])) (withFirst k c) (refused n))
     unfolding lastOr
     by-any End k c n = refl
-    by-any More k c n = walk-onto z b f g k c ∙ sym (walk-onto z′ b f g k c)
+    by-any More k c n = walk-onto z b f g s k c ∙ sym (walk-onto z′ b f g s k c)
     by-any Wrong k c n = refl
 
-    by-last : (x : Next) (k m n : ℕ) → walkAt mark free z b f g (byNext x (listed (k ∷ [])) (refused m) (refused n))
-        ≡ walkAt mark free z′ b f g (byNext x (listed (k ∷ [])) (refused m) (refused n))
+    by-last : (x : Next) (k m n : ℕ) → walkAt mark free goal z b f g s (byNext x (listed (k ∷ [])) (refused m) (refused n))
+        ≡ walkAt mark free goal z′ b f g s (byNext x (listed (k ∷ [])) (refused m) (refused n))
     unfolding lastOr
     by-last End k m n = refl
     by-last More k m n = refl
     by-last Wrong k m n = refl
 
-    walk-any : (n k : ℕ) → walkAt mark free z b f g (chainFrom C fat n k) ≡ walkAt mark free z′ b f g (chainFrom C fat n k)
+    walk-any : (n k : ℕ) → walkAt mark free goal z b f g s (chainFrom C fat n k) ≡ walkAt mark free goal z′ b f g s (chainFrom C fat n k)
     unfolding chainFrom
     walk-any zero k = by-last (nextOf C (fat k)) k 4 3
     walk-any (suc n) k = by-any (nextOf C (fat k)) k (chainFrom C fat n (fat k)) 3
 
-  module _ (C : ℕ) (fat : ℕ → ℕ) (b : ℕ) (f g : Bool) where
+  module _ (C : ℕ) (fat : ℕ → ℕ) (b : ℕ) (f g : Bool) (s : ℕ) where
     pub walk-end : (n k : ℕ) → fat k ≡ END
-        → walkAt mark free 0 b f g (chainFrom C fat n k) ≡ record { number = 0; last = k; count = b + 1; marked = f && mark k; clear = g && free k }
-    unfolding chainFrom lastOr every
+        → walkAt mark free goal 0 b f g s (chainFrom C fat n k) ≡ record { number = 0; last = k; count = b + 1; marked = f && mark k; clear = g && free k; seen = cond (eqb b goal) k s }
+    unfolding chainFrom lastOr every seenFrom
     walk-end zero k e = rw (next-end C (fat k) e, and-true (mark k), and-true (free k)) refl
     walk-end (suc n) k e = rw (next-end C (fat k) e, and-true (mark k), and-true (free k)) refl
 
     pub walk-wrong : (n k : ℕ) → (fat k ≡ END → ⊥) → inHeap C (fat k) ≡ false
-        → walkAt mark free 0 b f g (chainFrom C fat n k) ≡ record { number = 3; last = 0; count = 0; marked = false; clear = false }
+        → walkAt mark free goal 0 b f g s (chainFrom C fat n k) ≡ record { number = 3; last = 0; count = 0; marked = false; clear = false; seen = 0 }
     unfolding chainFrom
     walk-wrong zero k e h = rw (next-wrong C (fat k) e h) refl
     walk-wrong (suc n) k e h = rw (next-wrong C (fat k) e h) refl
 
     pub walk-over : (n k : ℕ) → n ≡ 0 → (fat k ≡ END → ⊥) → inHeap C (fat k) ≡ true
-        → walkAt mark free 0 b f g (chainFrom C fat n k) ≡ record { number = 4; last = 0; count = 0; marked = false; clear = false }
+        → walkAt mark free goal 0 b f g s (chainFrom C fat n k) ≡ record { number = 4; last = 0; count = 0; marked = false; clear = false; seen = 0 }
     unfolding chainFrom
     walk-over zero k z e h = rw (next-more C (fat k) e h) refl
     walk-over (suc n) k z e h = absurd (omega arith)
 
     pub walk-more : (n k : ℕ) → (n ≡ 0 → ⊥) → (fat k ≡ END → ⊥) → inHeap C (fat k) ≡ true
-        → walkAt mark free 0 b f g (chainFrom C fat n k) ≡ walkAt mark free 0 (b + 1) (f && mark k) (g && free k) (chainFrom C fat (n - 1) (fat k))
+        → walkAt mark free goal 0 b f g s (chainFrom C fat n k) ≡ walkAt mark free goal 0 (b + 1) (f && mark k) (g && free k) (cond (eqb b goal) k s) (chainFrom C fat (n - 1) (fat k))
     unfolding chainFrom
     walk-more zero k z e h = absurd (z refl)
     walk-more (suc n) k z e h =
         rw (next-more C (fat k) e h, sub-one)
-        (walk-onto 0 b f g k (chainFrom C fat n (fat k)) ∙ walk-any C fat k 0 (b + 1) (f && mark k) (g && free k) n (fat k))
+        (walk-onto 0 b f g s k (chainFrom C fat n (fat k)) ∙ walk-any C fat k 0 (b + 1) (f && mark k) (g && free k) (cond (eqb b goal) k s) n (fat k))
 
   -- the whole walk
-  walk-all : (c : Clusters) → walked mark free c ≡ walkAt mark free 0 0 true true c
+  walk-all : (c : Clusters) → walked mark free goal c ≡ walkAt mark free goal 0 0 true true 0 c
   unfolding walked
-  walk-all (listed ks) = let e : 0 + length ks ≡ length ks = omega arith in rw e refl
+  walk-all (listed ks) =
+      let e : 0 + length ks ≡ length ks = omega arith in
+      let z : goal - 0 ≡ goal = omega arith in
+      rw (e, seen-is goal 0 0 ks (omega arith), z) refl
   walk-all (refused n) = refl
 
   pub walk-start : (C : ℕ) (fat : ℕ → ℕ) (first : ℕ) → inHeap C first ≡ true
-      → walkAt mark free 0 0 true true (chainFrom C fat (C - 1) first) ≡ walked mark free (readChain C fat first)
+      → walkAt mark free goal 0 0 true true 0 (chainFrom C fat (C - 1) first) ≡ walked mark free goal (readChain C fat first)
   unfolding readChain
   walk-start C fat first h = rw h (sym (walk-all (chainFrom C fat (C - 1) first)))
 
@@ -177,25 +211,26 @@ module _ (w : Walked) (last count : ℕ) where
   cause-marked b e f h i = rw (eq-eqb (w .number) 0 e, eq-eqb (w .count) count f, eq-eqb (w .last) last h, i) refl
 
 -- a refused chain has a number that is not 0
-chain-cause : (mark free : ℕ → Bool) (last count : ℕ) (c : Clusters) → ((n : ℕ) → c ≡ refused n → n ≡ 0 → ⊥)
-    → walkCause (walked mark free c) last count ≡ numberOf (checkChain mark last count c)
+chain-cause : (mark free : ℕ → Bool) (goal last count : ℕ) (c : Clusters) → ((n : ℕ) → c ≡ refused n → n ≡ 0 → ⊥)
+    → walkCause (walked mark free goal c) last count ≡ numberOf (checkChain mark last count c)
 unfolding walkCause numberOf checkChain walked
-chain-cause mark free last count (listed ks) h = by (eqb (length ks) count && eqb (lastOr 0 ks) last) (every mark ks)
+chain-cause mark free goal last count (listed ks) h = by (eqb (length ks) count && eqb (lastOr 0 ks) last) (every mark ks)
   where
     by : (a b : Bool) → cond a (cond b 0 6) 5 ≡ numberOf (cond a (cond b (listed ks) (refused 6)) (refused 5))
     by true true = refl
     by true false = refl
     by false b = refl
-chain-cause mark free last count (refused n) h = rw (ne-eqb n 0 (h n refl)) refl
+chain-cause mark free goal last count (refused n) h = rw (ne-eqb n 0 (h n refl)) refl
 
-check-clear : (mark free : ℕ → Bool) (last count : ℕ) (c : Clusters) → ((n : ℕ) → c ≡ refused n → n ≡ 0 → ⊥)
-    → numberOf (checkChain mark last count c) ≡ 0 → walked mark free c .clear ≡ every free (clustersOf (checkChain mark last count c))
-unfolding walked checkChain numberOf
-check-clear mark free last count (refused n) h e = absurd (h n refl e)
-check-clear mark free last count (listed ks) h e = by (eqb (length ks) count && eqb (lastOr 0 ks) last) (every mark ks) e
+-- a chain that its record does not refuse is the list of the record's clusters
+check-listed : (mark : ℕ → Bool) (last count : ℕ) (c : Clusters) → ((n : ℕ) → c ≡ refused n → n ≡ 0 → ⊥)
+    → numberOf (checkChain mark last count c) ≡ 0 → c ≡ listed (clustersOf (checkChain mark last count c))
+unfolding checkChain numberOf
+check-listed mark last count (refused n) h e = absurd (h n refl e)
+check-listed mark last count (listed ks) h e = by (eqb (length ks) count && eqb (lastOr 0 ks) last) (every mark ks) e
   where
     by : (p q : Bool) → numberOf (cond p (cond q (listed ks) (refused 6)) (refused 5)) ≡ 0
-        → every free ks ≡ every free (clustersOf (cond p (cond q (listed ks) (refused 6)) (refused 5)))
+        → listed ks ≡ listed (clustersOf (cond p (cond q (listed ks) (refused 6)) (refused 5)))
     by true true r = refl
     by true false r = absurd (omega arith)
     by false q r = absurd (omega arith)
@@ -239,25 +274,34 @@ module _ (C : ℕ) (fat : ℕ → ℕ) where
   unfolding readChain
   chain-not-zero first m h e z = from-not-zero (C - 1) first m (rw h at e) z
 
-  pub chain-number : (mark free : ℕ → Bool) (first last count : ℕ) (w : Walked) → inHeap C first ≡ true → w ≡ walked mark free (readChain C fat first)
+  pub chain-number : (mark free : ℕ → Bool) (goal first last count : ℕ) (w : Walked) → inHeap C first ≡ true
+      → w ≡ walked mark free goal (readChain C fat first)
       → walkCause w last count ≡ numberOf (checkChain mark last count (readChain C fat first))
-  chain-number mark free first last count w h e =
-      ap (λ v. walkCause v last count) e ∙ chain-cause mark free last count (readChain C fat first) (λ n q z. chain-not-zero first n h q z)
+  chain-number mark free goal first last count w h e =
+      ap (λ v. walkCause v last count) e ∙ chain-cause mark free goal last count (readChain C fat first) (λ n q z. chain-not-zero first n h q z)
 
   -- the last cluster of a walk; and where its record does not refuse the chain, its clusters are the record's
-  pub chain-last : (mark free : ℕ → Bool) (first : ℕ) (w : Walked) → w ≡ walked mark free (readChain C fat first)
+  pub chain-last : (mark free : ℕ → Bool) (goal first : ℕ) (w : Walked) → w ≡ walked mark free goal (readChain C fat first)
       → w .last ≡ lastOr 0 (clustersOf (readChain C fat first))
-  chain-last mark free first w e = ap (λ (v : Walked). v .last) e ∙ by (readChain C fat first)
+  chain-last mark free goal first w e = ap (λ (v : Walked). v .last) e ∙ by (readChain C fat first)
     where
-      by : (c : Clusters) → walked mark free c .last ≡ lastOr 0 (clustersOf c)
+      by : (c : Clusters) → walked mark free goal c .last ≡ lastOr 0 (clustersOf c)
       by (listed ks) = unfold walked in refl
       by (refused n) = unfold walked in (unfold lastOr in refl)
 
-  pub chain-clear : (mark free : ℕ → Bool) (first last count : ℕ) (w : Walked) → inHeap C first ≡ true → w ≡ walked mark free (readChain C fat first)
-      → numberOf (checkChain mark last count (readChain C fat first)) ≡ 0
-      → w .clear ≡ every free (clustersOf (checkChain mark last count (readChain C fat first)))
-  chain-clear mark free first last count w h e z =
-      ap (λ (v : Walked). v .clear) e ∙ check-clear mark free last count (readChain C fat first) (λ n q. chain-not-zero first n h q) z
+  module _ (mark free : ℕ → Bool) (goal first last count : ℕ) (w : Walked) (h : inHeap C first ≡ true) (e : w ≡ walked mark free goal (readChain C fat first))
+      (z : numberOf (checkChain mark last count (readChain C fat first)) ≡ 0) where
+    abbrev ks : List ℕ
+    ks = clustersOf (checkChain mark last count (readChain C fat first))
+
+    walk-listed : w ≡ walked mark free goal (listed ks)
+    walk-listed = e ∙ ap (walked mark free goal) (check-listed mark last count (readChain C fat first) (λ n q. chain-not-zero first n h q) z)
+
+    pub chain-clear : w .clear ≡ every free (clustersOf (checkChain mark last count (readChain C fat first)))
+    chain-clear = ap (λ (v : Walked). v .clear) walk-listed ∙ (unfold walked in refl)
+
+    pub chain-seen : w .seen ≡ getD (clustersOf (checkChain mark last count (readChain C fat first))) goal 0
+    chain-seen = ap (λ (v : Walked). v .seen) walk-listed ∙ (unfold walked in refl)
 
   pub chain-out-number : (mark : ℕ → Bool) (first last count : ℕ) → inHeap C first ≡ false
       → numberOf (checkChain mark last count (readChain C fat first)) ≡ 2

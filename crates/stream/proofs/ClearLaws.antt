@@ -22,7 +22,7 @@ module _ (y : Layout) (d m : List ℕ) where
   pub chain-out-clear : (first : ℕ) → inHeap (y .count) first ≡ false → chainClear y d m first ≡ false
   unfolding chainClear walked
   chain-out-clear first e =
-      ap (λ (c : Clusters). walked (marked y d) (λ k. not (barred y m false k)) c .clear) (chain-out (y .count) (fatEntry y d) first e)
+      ap (λ (c : Clusters). walked (marked y d) (λ k. not (barred y m false k)) 0 c .clear) (chain-out (y .count) (fatEntry y d) first e)
 
   module _ (a : Allocation) where
     pub clear-empty : a .count ≡ 0 → streamClear y d m a ≡ false
@@ -52,7 +52,7 @@ module _ (y : Layout) (d m : List ℕ) where
             let q = stream-chain (y .count) (fatEntry y d) (marked y d) a e r in
             ap (λ s. systemCause m (clustersOf s)) q
             ∙ system-clear m (clustersOf (checkChain (marked y d) (a .last) (a .count) (readChain (y .count) (fatEntry y d) (a .first))))
-            (sym (chain-clear (y .count) (fatEntry y d) (marked y d) (λ k. not (barred y m false k)) (a .first) (a .last) (a .count) _ h refl (sym (ap numberOf q) ∙ z))
+            (sym (chain-clear (y .count) (fatEntry y d) (marked y d) (λ k. not (barred y m false k)) 0 (a .first) (a .last) (a .count) _ h refl (sym (ap numberOf q) ∙ z))
             ∙ (sym (clear-chain e r) ∙ t))
         by-heap false h e r = absurd (false≢true (sym (clear-chain e r ∙ chain-out-clear (a .first) h) ∙ t))
 

@@ -26,7 +26,7 @@ use Rattle.stream.proofs.BytesLaws.{store-first}
 
 -- ---- one piece of the volume
 
-row-at : (y : Layout) (c k : ℕ) → 2 ≤ k → clusterAt y (k + c) ≡ clusterAt y k + c * y .size
+pub row-at : (y : Layout) (c k : ℕ) → 2 ≤ k → clusterAt y (k + c) ≡ clusterAt y k + c * y .size
 unfolding clusterAt
 row-at y c k h =
     let e : k + c - 2 ≡ k - 2 + c = omega arith in

@@ -4,7 +4,7 @@ use mathlib.Core.List.{List, [], _∷_}
 use Prim.Native.Nat.{ℕ, zero, suc, _+_, _-_, _≤_}
 use mathlib.Core.Path.{_≡_}
 use lib.Dec.{eqb}
-use lib.ListN.{length}
+use lib.ListN.{length, getD}
 use Rattle.boot.specs.declared.layout.Layout.{Layout}
 use Rattle.boot.specs.Limits.{inMap}
 use Rattle.boot.specs.Layout.{isBitmapCluster}
@@ -39,11 +39,12 @@ pub record Known (y : Layout) (d : List ℕ) (a : Allocation) (p : Place) : Type
 unfoldable pub barred : (y : Layout) (m : List ℕ) (root : Bool) (k : ℕ) → Bool
 barred y m root k = cond root (isBitmapCluster y k) (inMap m k)
 
--- what a walk of a chain answers, by two tests of its clusters: whether all are marked, and whether none is barred
-unfoldable pub walked : (mark free : ℕ → Bool) → Clusters → Walked
-walked mark free (listed ks) =
-    record { number = 0; last = lastOr 0 ks; count = length ks; marked = every mark ks; clear = every free ks }
-walked mark free (refused n) = record { number = n; last = 0; count = 0; marked = false; clear = false }
+-- what a walk of a chain answers, by two tests of its clusters, whether all are marked and whether none is barred, and with the cluster
+-- that stands at place `goal`
+unfoldable pub walked : (mark free : ℕ → Bool) (goal : ℕ) → Clusters → Walked
+walked mark free goal (listed ks) =
+    record { number = 0; last = lastOr 0 ks; count = length ks; marked = every mark ks; clear = every free ks; seen = getD ks goal 0 }
+walked mark free goal (refused n) = record { number = n; last = 0; count = 0; marked = false; clear = false; seen = 0 }
 
 -- the number of a walk under a record: the walk's, then 5, then 6
 unfoldable pub walkCause : (w : Walked) (last count : ℕ) → ℕ
@@ -52,8 +53,18 @@ walkCause w last count =
 
 -- a walk of the chain from first sees that none of its clusters is a system cluster
 unfoldable pub chainClear : (y : Layout) (d m : List ℕ) (first : ℕ) → Bool
-chainClear y d m first = walked (marked y d) (λ k. not (barred y m false k)) (readChain (y .count) (fatEntry y d) first) .clear
+chainClear y d m first = walked (marked y d) (λ k. not (barred y m false k)) 0 (readChain (y .count) (fatEntry y d) first) .clear
 
 -- a record is a chain's, and the walk of it sees that
 unfoldable pub streamClear : (y : Layout) (d m : List ℕ) (a : Allocation) → Bool
 streamClear y d m a = not (eqb (a .count) 0) && (not (a .«no_fat_chain») && chainClear y d m (a .first))
+
+-- how many pieces of consecutive clusters begin behind k
+unfoldable pub breaks : ℕ → List ℕ → ℕ
+breaks k [] = 0
+breaks k (j ∷ js) = cond (eqb j (k + 1)) (breaks j js) (suc (breaks j js))
+
+-- how many pieces a list falls into, `leading` being the clusters of the first (02: stretches); nothing promises it yet
+unfoldable pub stretches : List ℕ → ℕ
+stretches [] = 0
+stretches (k ∷ ks) = suc (breaks k ks)

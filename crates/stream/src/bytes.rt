@@ -21,7 +21,7 @@ pub struct Place {
 }
 
 // The lesser of two numbers.
-fn lesser(a: usize, b: usize) -> usize
+pub fn lesser(a: usize, b: usize) -> usize
     ensures { λ r. ⌜ r ≡ min a b ⌝ }
 {
     if a < b {

@@ -2,5 +2,6 @@
 pub mod allocation;
 pub mod bytes;
 pub mod list;
+pub mod pieces;
 pub mod system;
 pub mod walk;

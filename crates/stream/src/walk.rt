@@ -1,6 +1,6 @@
 // A record's clusters walked and tested: what refuses it.
 ghost use mathlib.Core.Path.{_≡_};
-ghost use mathlib.Core.Bool.{not, false};
+ghost use mathlib.Core.Bool.{not, false, cond};
 ghost use Prim.Native.Nat.{_+_, _-_, _*_, _≤_, _<_, min};
 ghost use lib.ListN.{length};
 ghost use Rattle.boot.specs.Internal.{Laid};
@@ -21,13 +21,15 @@ pub enum Next {
     Wrong,
 }
 
-// A chain walked to its end: its last cluster, its length, whether all are marked, whether none is barred (number 9); or what refuses it.
+// A chain walked to its end: its last cluster, its length, whether all are marked, whether none is barred (number 9), and the cluster
+// that the caller looks for, 0 where the chain ends before it; or what refuses it.
 pub struct Walked {
     pub number: u32,
     pub last: u32,
     pub count: u32,
     pub marked: bool,
     pub clear: bool,
+    pub seen: u32,
 }
 
 // A record's clusters tested: what refuses it, and whether a walk of them saw that none is a system cluster.
@@ -49,7 +51,7 @@ fn is_barred(map: &[u8], y: Layout, root: bool, k: u32) -> bool
 
 // A chain refused by its walk.
 fn not_walked(number: u32) -> Walked
-    ensures { λ r. ⌜ r ≡ record { number = number; last = 0; count = 0; marked = false; clear = false } ⌝ }
+    ensures { λ r. ⌜ r ≡ record { number = number; last = 0; count = 0; marked = false; clear = false; seen = 0 } ⌝ }
 {
     Walked {
         number: number,
@@ -57,23 +59,37 @@ fn not_walked(number: u32) -> Walked
         count: 0,
         marked: false,
         clear: false,
+        seen: 0,
     }
 }
 
-// The chain from first, a cluster of the heap, walked once, as the root directory's or as another stream's (Rust: `fat_chain`).
-pub fn fat_chain(vol: &[u8], map: &[u8], y: Layout, root: bool, first: u32) -> Walked
+// The first of two numbers where that is asked for, else the second.
+fn either(first: bool, a: u32, b: u32) -> u32
+    ensures { λ r. ⌜ r ≡ cond first a b ⌝ }
+{
+    if first {
+        return a;
+    }
+    b
+}
+
+// The chain from first, a cluster of the heap, walked once, as the root directory's or as another stream's (Rust: `fat_chain`); the
+// cluster `goal` steps from the first is noted on the way.
+pub fn fat_chain(vol: &[u8], map: &[u8], y: Layout, root: bool, first: u32, goal: u32) -> Walked
     requires { ⌜ Laid y × ((length (now vol) ≡ y .len) × ((y .count ≤ 8 * length (now map)) × ((2 ≤ first) × (first < y .count + 2)))) ⌝ }
-    ensures { λ r. ⌜ r ≡ walked (marked y (now (vol .entry))) (λ k. not (barred y (now (map .entry)) root k)) (readChain (y .count) (fatEntry y (now (vol .entry))) first) ⌝ }
+    ensures { λ r. ⌜ r ≡ walked (marked y (now (vol .entry))) (λ k. not (barred y (now (map .entry)) root k)) goal (readChain (y .count) (fatEntry y (now (vol .entry))) first) ⌝ }
 {
     let mut k = first;
     let mut before: u32 = 0;
     let mut all = true;
     let mut clear = true;
+    let mut seen: u32 = 0;
     let mut left = y.count - 1;
     loop {
         let v = metadata::fat::fat_entry(vol, y, k);
         all = both(all, metadata::bitmap::allocated(vol, y, k));
         clear = both(clear, !is_barred(map, y, root, k));
+        seen = either(before == goal, k, seen);
         if boot::layout::in_heap(y.count, v) {
             if left == 0 {
                 return not_walked(4);
@@ -89,6 +105,7 @@ pub fn fat_chain(vol: &[u8], map: &[u8], y: Layout, root: bool, first: u32) -> W
                     count: before + 1,
                     marked: all,
                     clear: clear,
+                    seen: seen,
                 };
             }
             return not_walked(3);
@@ -161,7 +178,7 @@ fn read_chain(vol: &[u8], map: &[u8], y: Layout, a: Allocation) -> Tested
     ensures { λ r. ⌜ (r .number ≡ numberOf (checkChain (marked y (now (vol .entry))) (a .last) (a .count) (readChain (y .count) (fatEntry y (now (vol .entry))) (a .first)))) × (r .clear ≡ chainClear y (now (vol .entry)) (now (map .entry)) (a .first)) ⌝ }
 {
     if boot::layout::in_heap(y.count, a.first) {
-        let w = fat_chain(vol, map, y, false, a.first);
+        let w = fat_chain(vol, map, y, false, a.first, 0);
         return Tested {
             number: walk_cause(w, a.last, a.count),
             clear: w.clear,

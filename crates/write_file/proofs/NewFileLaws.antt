@@ -53,7 +53,7 @@ use Rattle.file.specs.Internal.{Stands}
 use Rattle.write_file.specs.Internal.{Ready}
 use Rattle.write_file.specs.NewFile.{newGrowth, newFileCause, placed, newFileIn, newFile}
 use Rattle.file.proofs.RefreshLaws.{stream-is}
-use Rattle.file.proofs.OpenLaws.{root-number, root-record}
+use Rattle.directory.proofs.DirectoryLaws.{root-number, root-record}
 use Rattle.file.proofs.CallLaws.{directory-reads, directory-plain}
 
 -- ---- a directory that is ready

@@ -22,13 +22,13 @@ returns : tie.Need-returns
 returns c =
     let p = c .before .before .before .before .before .before .pre .1 .1 .1 in
     let w = c .before .before .before .fat-chain in
-    c .not-opened .ensures ∙ chain-not _ _ _ _ _ (w .result) (w .ensures) (p .0) (p .1) _ (c .before .before .walk-cause .ensures) (λ z. omega arith)
+    c .not-opened .ensures ∙ chain-not _ _ _ _ _ _ (w .result) (w .ensures) (p .0) (p .1) _ (c .before .before .walk-cause .ensures) (λ z. omega arith)
 
 returns-2 : tie.Need-returns-2
 returns-2 c =
     let p = c .before .before .before .before .before .before .pre .1 .1 .1 in
     let w = c .before .before .before .fat-chain in
-    chain-done _ _ _ _ _ (w .result) (w .ensures) (p .0) (p .1) _ (c .before .before .walk-cause .ensures) (omega arith) (cc)
+    chain-done _ _ _ _ _ _ (w .result) (w .ensures) (p .0) (p .1) _ (c .before .before .walk-cause .ensures) (omega arith) (cc)
 
 not-opened-requires-2 : tie.Need-not-opened-requires-2
 not-opened-requires-2 c κs = search needs
@@ -37,7 +37,7 @@ returns-3 : tie.Need-returns-3
 returns-3 c =
     let p = c .before .before .before .before .before .before .before .pre .1 .1 .1 in
     let w = c .before .before .before .before .fat-chain in
-    c .not-opened2 .ensures ∙ chain-nine _ _ _ _ _ (w .result) (w .ensures) (p .0) (p .1) _ (c .before .before .before .walk-cause .ensures) (omega arith) (cc)
+    c .not-opened2 .ensures ∙ chain-nine _ _ _ _ _ _ (w .result) (w .ensures) (p .0) (p .1) _ (c .before .before .before .walk-cause .ensures) (omega arith) (cc)
 
 pub open-chain-spec : {M : Type 1} → statement M
 open-chain-spec =

@@ -24,7 +24,7 @@ returns c =
     let p = c .before .before .before .before .before .pre in
     let a = c .before .before .before .before .before .args in
     let z = takes-none (a .y .size) (dataLength (a .set .now)) (omega (arith, p .0 .size-low)) (omega arith) in
-    c .not-opened .ensures ∙ stream-none (a .y) (a .vol .now) (a .map .now) (fileRecord (a .y) (a .vol .now) (a .set .now)) (record-none (a .y) (a .vol .now) (a .set .now) z)
+    c .not-opened .ensures ∙ stream-none (a .y) (a .vol .now) (a .map .now) (fileRecord (a .y) (a .vol .now) (a .set .now)) (a .goal) (record-none (a .y) (a .vol .now) (a .set .now) z)
 
 clusters-for-requires : tie.Need-clusters-for-requires
 clusters-for-requires c κs = search needs
@@ -65,7 +65,7 @@ returns-2 c =
     let z : dataLength (a .set .now) ≢ 0 = λ q. omega (arith, q) in
     let n : k .result ≡ clustersFor (a .y .size) (dataLength (a .set .now)) = (cc) in
     let m : 1 ≤ k .result = omega (arith, n, takes-some (a .y .size) (dataLength (a .set .now)) (omega (arith, p .0 .size-low)) z) in
-    c .open-run .ensures ∙ ap (λ (x : Allocation). openedStream (a .y) (a .vol .now) (a .map .now) x) (record-run (a .y) (a .vol .now) (a .set .now) (f .result) (k .result) (f .ensures) n m (cc))
+    c .open-run .ensures ∙ ap (λ (x : Allocation). openedStream (a .y) (a .vol .now) (a .map .now) x (a .goal)) (record-run (a .y) (a .vol .now) (a .set .now) (f .result) (k .result) (f .ensures) n m (cc))
 
 open-chain-requires : tie.Need-open-chain-requires
 open-chain-requires c κs =
@@ -89,7 +89,7 @@ returns-3 c =
     let z : dataLength (a .set .now) ≢ 0 = λ q. omega (arith, q) in
     let n : k .result ≡ clustersFor (a .y .size) (dataLength (a .set .now)) = (cc) in
     let m : 1 ≤ k .result = omega (arith, n, takes-some (a .y .size) (dataLength (a .set .now)) (omega (arith, p .0 .size-low)) z) in
-    c .open-chain .ensures ∙ ap (λ (x : Allocation). openedStream (a .y) (a .vol .now) (a .map .now) x) (record-chain (a .y) (a .vol .now) (a .set .now) (f .result) (k .result) (f .ensures) n m (cc))
+    c .open-chain .ensures ∙ ap (λ (x : Allocation). openedStream (a .y) (a .vol .now) (a .map .now) x (a .goal)) (record-chain (a .y) (a .vol .now) (a .set .now) (f .result) (k .result) (f .ensures) n m (cc))
 
 pub open-stream-spec : {M : Type 1} → statement M
 open-stream-spec =

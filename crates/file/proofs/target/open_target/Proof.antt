@@ -4,7 +4,8 @@ use Rattle.stream.specs.declared.allocation.Allocation.{Allocation}
 use Rattle.stream.specs.Bytes.{bytesIn}
 use Rattle.directory.specs.Directory.{rootRecord}
 use Rattle.directory.specs.Internal.{openFile, setRead}
-use Rattle.file.proofs.OpenLaws.{target-hint, target-directory, target-file, root-number, root-record, root-reads}
+use Rattle.directory.proofs.DirectoryLaws.{root-number, root-record, root-reads}
+use Rattle.file.proofs.OpenLaws.{target-hint, target-directory, target-file}
 use borrow.Author.Needs.{needs}
 use Rattle.file.proofs.target.open_target.Statement.{statement}
 use Rattle.file.proofs.target.open_target.Tie as tie
@@ -42,7 +43,7 @@ returns-2 c =
     let z : r .result .number ≡ 0 = omega arith in
     let x = root-record (a .y) (a .vol .now) (a .root) (r .result) (r .ensures) z in
     let t = target-file (a .y) (a .vol .now) (a .map .now) (rootRecord (a .y) (a .vol .now) (a .root)) (a .slot) (a .hint) (cc) (sym (root-number (a .y) (a .vol .now) (a .root) (r .result) (r .ensures)) ∙ z) in
-    (c .open-file .ensures .0 ∙ ap (λ (u : Allocation). openFile (a .y) (a .vol .now) (a .map .now) u (a .slot)) x ∙ t .0, c .open-file .ensures .1 ∙ ap (λ (u : Allocation). setRead (bytesIn (a .y) (a .vol .now) u) (a .slot)) x ∙ t .1)
+    (c .open-file .ensures .0 ∙ ap (λ (u : Allocation). openFile (a .y) (a .vol .now) (a .map .now) u (a .slot) 0) x ∙ t .0, c .open-file .ensures .1 ∙ ap (λ (u : Allocation). setRead (bytesIn (a .y) (a .vol .now) u) (a .slot)) x ∙ t .1)
 
 no-file-requires-2 : tie.Need-no-file-requires-2
 no-file-requires-2 c κs = search needs

@@ -13,16 +13,16 @@ use Rattle.stream.proofs.walk.fat_chain.Statement.{statement}
 use Rattle.stream.proofs.walk.fat_chain.Tie as tie
 
 abbrev Inv-loop : tie.InvT-loop
-Inv-loop vol map y root first k₀ before₀ all₀ clear₀ left₀ k before all clear left = (2 ≤ k) × ((k < y .count + 2) × ((before + left < y .count) × (walkAt (marked y vol) (λ j. not (barred y map root j)) 0 before all clear (chainFrom (y .count) (fatEntry y vol) left k) ≡ walked (marked y vol) (λ j. not (barred y map root j)) (readChain (y .count) (fatEntry y vol) first))))
+Inv-loop vol map y root first goal k₀ before₀ all₀ clear₀ seen₀ left₀ k before all clear seen left = (2 ≤ k) × ((k < y .count + 2) × ((before + left < y .count) × (walkAt (marked y vol) (λ j. not (barred y map root j)) goal 0 before all clear seen (chainFrom (y .count) (fatEntry y vol) left k) ≡ walked (marked y vol) (λ j. not (barred y map root j)) goal (readChain (y .count) (fatEntry y vol) first))))
 
 abbrev μ-loop : tie.MeasureT-loop
-μ-loop vol map y root first k₀ before₀ all₀ clear₀ left₀ k before all clear left = left
+μ-loop vol map y root first goal k₀ before₀ all₀ clear₀ seen₀ left₀ k before all clear seen left = left
 
 sub-left : tie.Need-sub-left Inv-loop μ-loop
 sub-left c = search needs
 
 loop-holds : tie.Need-loop-holds Inv-loop μ-loop
-loop-holds c = (omega arith, (omega arith, (omega arith, walk-start _ _ _ _ _ (heap-in _ _ (omega arith) (omega arith)))))
+loop-holds c = (omega arith, (omega arith, (omega arith, walk-start _ _ _ _ _ _ (heap-in _ _ (omega arith) (omega arith)))))
 
 fat-entry-requires : tie.Need-fat-entry-requires Inv-loop μ-loop
 fat-entry-requires c κs = search needs
@@ -39,6 +39,9 @@ is-barred-requires c κs = search needs
 both-requires-2 : tie.Need-both-requires-2 Inv-loop μ-loop
 both-requires-2 c κs = search needs
 
+either-requires : tie.Need-either-requires Inv-loop μ-loop
+either-requires c κs = search needs
+
 in-heap-requires : tie.Need-in-heap-requires Inv-loop μ-loop
 in-heap-requires c κs = search needs
 
@@ -48,9 +51,9 @@ not-walked-requires c κs = search needs
 -- a cluster of the heap is not the end mark
 returns : tie.Need-returns Inv-loop μ-loop
 returns c =
-    let v = c .before .before .before .before .before .before .before .before .fat-entry .result in
-    let h = in-heap (c .before .before .before .before .before .before .before .before .before .before .before .before .before .args .y .count) v (cc) in
-    c .not-walked .ensures ∙ (sym (walk-over _ _ _ _ _ _ _ _ _ (omega arith) (λ z. omega arith) (cc)) ∙ c .before .before .before .before .before .before .before .before .before .loop .inv .1 .1 .1)
+    let v = c .before .before .before .before .before .before .before .before .before .fat-entry .result in
+    let h = in-heap (c .before .before .before .before .before .before .before .before .before .before .before .before .before .before .args .y .count) v (cc) in
+    c .not-walked .ensures ∙ (sym (walk-over _ _ _ _ _ _ _ _ _ _ _ (omega arith) (λ z. omega arith) (cc)) ∙ c .before .before .before .before .before .before .before .before .before .before .loop .inv .1 .1 .1)
 
 add-before : tie.Need-add-before Inv-loop μ-loop
 add-before c = omega arith
@@ -63,22 +66,22 @@ loop-less c = omega arith
 
 loop-again : tie.Need-loop-again Inv-loop μ-loop
 loop-again c =
-    let v = c .before .before .before .before .before .before .before .fat-entry .result in
-    let h = in-heap (c .before .before .before .before .before .before .before .before .before .before .before .before .args .y .count) v (cc) in
-    let i = c .before .before .before .before .before .before .before .before .loop .inv .1 .1 .1 in
-    (h .0, (h .1, (omega arith, (cc) ∙ (sym (walk-more _ _ _ _ _ _ _ _ _ (λ z. omega arith) (λ z. omega arith) (cc)) ∙ i))))
+    let v = c .before .before .before .before .before .before .before .before .fat-entry .result in
+    let h = in-heap (c .before .before .before .before .before .before .before .before .before .before .before .before .before .args .y .count) v (cc) in
+    let i = c .before .before .before .before .before .before .before .before .before .loop .inv .1 .1 .1 in
+    (h .0, (h .1, (omega arith, (cc) ∙ (sym (walk-more _ _ _ _ _ _ _ _ _ _ _ (λ z. omega arith) (λ z. omega arith) (cc)) ∙ i))))
 
-add-t17 : tie.Need-add-t17 Inv-loop μ-loop
-add-t17 c = omega arith
+add-t19 : tie.Need-add-t19 Inv-loop μ-loop
+add-t19 c = omega arith
 
 returns-2 : tie.Need-returns-2 Inv-loop μ-loop
-returns-2 c = (cc) ∙ (sym (walk-end _ _ _ _ _ _ _ _ _ (cc)) ∙ c .before .before .before .before .before .before .before .before .loop .inv .1 .1 .1)
+returns-2 c = (cc) ∙ (sym (walk-end _ _ _ _ _ _ _ _ _ _ _ (cc)) ∙ c .before .before .before .before .before .before .before .before .before .loop .inv .1 .1 .1)
 
 not-walked-requires-2 : tie.Need-not-walked-requires-2 Inv-loop μ-loop
 not-walked-requires-2 c κs = search needs
 
 returns-3 : tie.Need-returns-3 Inv-loop μ-loop
-returns-3 c = c .not-walked2 .ensures ∙ (sym (walk-wrong _ _ _ _ _ _ _ _ _ (λ z. omega arith) (cc)) ∙ c .before .before .before .before .before .before .before .before .before .loop .inv .1 .1 .1)
+returns-3 c = c .not-walked2 .ensures ∙ (sym (walk-wrong _ _ _ _ _ _ _ _ _ _ _ (λ z. omega arith) (cc)) ∙ c .before .before .before .before .before .before .before .before .before .before .loop .inv .1 .1 .1)
 
 pub fat-chain-spec : {M : Type 1} → statement M
 fat-chain-spec =
@@ -93,6 +96,7 @@ fat-chain-spec =
     both-requires
     is-barred-requires
     both-requires-2
+    either-requires
     in-heap-requires
     not-walked-requires
     returns
@@ -100,7 +104,7 @@ fat-chain-spec =
     sub-left-2
     loop-less
     loop-again
-    add-t17
+    add-t19
     returns-2
     not-walked-requires-2
     returns-3)

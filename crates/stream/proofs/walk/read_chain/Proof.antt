@@ -24,7 +24,7 @@ unfolding chainClear
 returns c =
     let h = sym (c .before .before .before .in-heap .ensures) ∙ c .before .before .if1 .taken in
     let w = c .before .fat-chain in
-    (c .walk-cause .ensures ∙ chain-number _ _ _ _ _ _ _ _ h (w .ensures), ap (λ (v : Walked). v .clear) (w .ensures))
+    (c .walk-cause .ensures ∙ chain-number _ _ _ _ _ _ _ _ _ h (w .ensures), ap (λ (v : Walked). v .clear) (w .ensures))
 
 returns-2 : tie.Need-returns-2
 returns-2 c = (sym (chain-out-number _ _ _ _ _ _ (cc)), sym (chain-out-clear _ _ _ _ (cc)))
