@@ -5,6 +5,7 @@ use Prim.Native.Nat.{ℕ}
 use lib.Dec.{eqb}
 use lib.ListN.{getD}
 use Rattle.stream.specs.declared.allocation.Allocation.{Allocation}
+use Rattle.read_file.specs.declared.part.Part.{Part}
 use Rattle.write_alloc.specs.declared.answer.Answer.{Answer}
 use Rattle.file.specs.declared.answer.FileAnswer.{FileAnswer}
 
@@ -24,6 +25,10 @@ allocationOf ws =
 -- the 8 words that a free count leaves in `out`
 unfoldable pub countWords : ℕ → List ℕ
 countWords n = n ∷ 0 ∷ 0 ∷ 0 ∷ 0 ∷ 0 ∷ 0 ∷ 0 ∷ []
+
+-- those of a part: 1 for the zeros or 0 for the volume, the first byte there, and how many bytes
+unfoldable pub partWords : Part → List ℕ
+partWords p = flagWord (p .zeros) ∷ p .start ∷ p .len ∷ 0 ∷ 0 ∷ 0 ∷ 0 ∷ 0 ∷ []
 
 -- and those that allocate, extend and shrink leave there: the record, then the hint
 unfoldable pub answerWords : Answer → List ℕ

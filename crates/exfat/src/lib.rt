@@ -1,5 +1,5 @@
 // The C boundary: the library's calls over numbers and slices alone (include/exfat.h). Each function takes its arguments apart,
-// makes the call and stores what it gives; every function answers the number.
+// makes the call and stores what it gives; every function answers the number, but for the read of a part, whose number is a call of its own.
 mod words;
 
 ghost use mathlib.Core.Path.{_≡_};
@@ -8,6 +8,8 @@ ghost use Rattle.boot.specs.Geometry.{geometryOf};
 ghost use Rattle.metadata.specs.Free.{freeClusters};
 ghost use Rattle.stream.specs.Listing.{listingNumber, listingList};
 ghost use Rattle.entry_set.specs.Stamps.{stampAt, stampsAt};
+ghost use Rattle.read_file.specs.Read.{readNumber, readPart};
+ghost use Rattle.read_file.specs.Part.{Inside};
 ghost use Rattle.write_alloc.specs.Allocate.{allocateClusters};
 ghost use Rattle.write_extend.specs.Extend.{extendClusters};
 ghost use Rattle.write_shrink.specs.Shrink.{shrinkClusters};
@@ -15,7 +17,7 @@ ghost use Rattle.write_file.specs.NewFile.{newFile};
 ghost use Rattle.write_file.specs.Write.{writeInto};
 ghost use Rattle.write_length.specs.SetLength.{setLength};
 ghost use Rattle.write_remove.specs.Remove.{remove};
-ghost use Rattle.exfat.specs.Words.{flagOf, allocationOf, countWords, answerWords, slotWords, hintWords};
+ghost use Rattle.exfat.specs.Words.{flagOf, allocationOf, countWords, partWords, answerWords, slotWords, hintWords};
 use boot::geometry::GEOMETRY_WORDS;
 
 // How many clusters are free.
@@ -47,6 +49,40 @@ pub extern "C" fn exfat_clusters(
     let g = boot::geometry::geometry_of(geometry);
     let a = words::allocation_of(allocation);
     stream::list::clusters(vol, map, g, a, list)
+}
+
+// The number of a read of the file at a slot.
+#[no_mangle]
+pub extern "C" fn exfat_read_number(
+    vol: &[u8],
+    map: &[u8],
+    geometry: &[u32; GEOMETRY_WORDS],
+    zeros: &[u8],
+    slot: u32,
+) -> u32
+    ensures { λ r. ⌜ r ≡ readNumber (geometryOf (now (geometry .entry))) (now (vol .entry)) (now (map .entry)) (now (zeros .entry)) slot ⌝ }
+{
+    let g = boot::geometry::geometry_of(geometry);
+    read_file::read::read_number(vol, map, g, zeros, slot)
+}
+
+// Where the bytes of the file at a slot lie, from an offset on: the slice, the start in it and the length. No reference can be returned
+// to C, which adds the start to the pointer that it lent.
+#[no_mangle]
+pub extern "C" fn exfat_read(
+    vol: &[u8],
+    map: &[u8],
+    geometry: &[u32; GEOMETRY_WORDS],
+    zeros: &[u8],
+    slot: u32,
+    offset: u64,
+    out: &mut [u32; 8],
+)
+    ensures { λ _. ⌜ (let p = readPart (geometryOf (now (geometry .entry))) (now (vol .entry)) (now (map .entry)) (now (zeros .entry)) slot offset in (now (out .exit) ≡ partWords p) × Inside (length (now (vol .entry))) (length (now (zeros .entry))) p) ⌝ }
+{
+    let g = boot::geometry::geometry_of(geometry);
+    let p = read_file::read::read_part(vol, map, g, zeros, slot, offset);
+    words::put_part(out, p);
 }
 
 // A new stream of `count` clusters, near a cluster where has_near is not 0.

@@ -1,11 +1,12 @@
 // Arguments and answers as words: what crosses the C boundary.
 ghost use mathlib.Core.Path.{_≡_};
 ghost use Rattle.entry_set.specs.Stamps.{stampAt, stampsAt};
-ghost use Rattle.exfat.specs.Words.{flagOf, flagWord, allocationOf, countWords, answerWords, slotWords, hintWords};
+ghost use Rattle.exfat.specs.Words.{flagOf, flagWord, allocationOf, countWords, partWords, answerWords, slotWords, hintWords};
 use entry_set::stamp::Stamp;
 use entry_set::stamp::Stamps;
 use file::answer::FileAnswer;
 use metadata::free::FreeCount;
+use read_file::part::Part;
 use stream::allocation::Allocation;
 use write_alloc::answer::Answer;
 
@@ -45,6 +46,14 @@ pub fn put_count(out: &mut [u32; 8], r: FreeCount) -> u32
 {
     *out = [r.count, 0, 0, 0, 0, 0, 0, 0];
     r.number
+}
+
+// Stores where a part lies.
+pub fn put_part(out: &mut [u32; 8], p: Part)
+    ensures { λ _. ⌜ now (out .exit) ≡ partWords p ⌝ }
+{
+    let flag = flag_word(p.zeros);
+    *out = [flag, p.start, p.len, 0, 0, 0, 0, 0];
 }
 
 // Stores the record and the hint of an answer, and answers its number.
