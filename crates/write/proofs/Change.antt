@@ -33,9 +33,9 @@ use Rattle.directory.proofs.EntryLaws.{sound-file}
 use Rattle.directory.proofs.FitLaws.{fit-low}
 use Rattle.directory.proofs.OrderedLaws.{Ordered, file-room, file-fit, files-apart}
 use Rattle.directory.proofs.StoreLaws.{sets-file, sets-none}
-use Rattle.directory.specs.Open.{fileRecord}
+use Rattle.directory.specs.Open.{fileRecord, shown}
 use Rattle.write.specs.Consistent.{Consistent, lay, root, rootClusters, rootBytes, fileAt, setOf, streamAt, fileClusters, fileBytes}
-use Rattle.write.specs.Contents.{shown, hasFile, contents}
+use Rattle.write.specs.Contents.{hasFile, contents}
 use Rattle.write.specs.Space.{lengthTakes, sum, clustersTaken}
 use Rattle.write.specs.Demand.{entriesPut, Lost}
 use Rattle.write.proofs.Reading.{record-same}

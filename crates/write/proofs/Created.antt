@@ -36,7 +36,7 @@ use Rattle.directory.specs.Room.{freeRun, slotOf, withZeros, growth}
 use Rattle.directory.proofs.FitLaws.{Fit}
 use Rattle.directory.proofs.DirectoryLaws.{clusters-length}
 use Rattle.file.specs.Outcome.{carried}
-use Rattle.directory.specs.Open.{fileRecord}
+use Rattle.directory.specs.Open.{fileRecord, shown}
 use Rattle.write_dir.specs.Place.{GrownDirectory, growBy}
 use Rattle.write_dir.proofs.InsertLaws.{insert-room, insert-free, insert-ordered, insert-sets}
 use Rattle.file.specs.Refresh.{entriesOf}
@@ -44,7 +44,7 @@ use Rattle.write_file.specs.NewFile.{newGrowth, newFileCause, placed}
 use Rattle.write_file.proofs.NewFileLaws.{space-enough}
 use Rattle.write.specs.Calls.{New, step}
 use Rattle.write.specs.Consistent.{Consistent, lay, root, rootClusters, rootBytes, setOf}
-use Rattle.write.specs.Contents.{shown, contents}
+use Rattle.write.specs.Contents.{contents}
 use Rattle.write.specs.Model.{accepted, hasList, finds}
 use Rattle.write.specs.Space.{mustAdd}
 use Rattle.write.specs.Demand as demand

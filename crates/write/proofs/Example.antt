@@ -25,9 +25,9 @@ use Rattle.entry_set.specs.Sound.{headOk, streamEntryOk, namesOk, lengthsOk, we
 use Rattle.search.specs.Search.{allFrom}
 use Rattle.directory.specs.Directory.{chainRecord, rootRecord, bitmapCause, directoryCause}
 use Rattle.directory.specs.Entries.{entryCount, typeAt, inUse, beforeEnd, isFile, entriesAt, setAt, isSound}
-use Rattle.directory.specs.Open.{fileRecord, streamCause}
+use Rattle.directory.specs.Open.{fileRecord, streamCause, shown}
 use Rattle.write.specs.Consistent.{Consistent, lay, root, rootClusters, rootBytes, setOf, streamAt}
-use Rattle.write.specs.Contents.{shown, hasFile, contents}
+use Rattle.write.specs.Contents.{hasFile, contents}
 use Rattle.write.specs.Demand.{Lost}
 use Rattle.write.specs.Example.{exampleGeometry, exampleMap, word, filled, exampleSet, exampleRoot, exampleFat, exampleMarks, exampleContents, exampleVolume}
 use Rattle.write.proofs.ExampleTests.{implies, owns, slotTest, pairTest, Passed, passed-lost, passed-consistent}

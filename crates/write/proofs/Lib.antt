@@ -10,6 +10,7 @@ pub mod Answers
 pub mod Open
 pub mod Reached
 pub mod Kept
+pub mod ReadAgain
 pub mod Steps
 pub mod Hints
 pub mod Fewest

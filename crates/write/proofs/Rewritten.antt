@@ -35,11 +35,11 @@ use Rattle.directory.proofs.FitLaws.{Fit}
 use Rattle.directory.proofs.OrderedLaws.{file-room}
 use Rattle.directory.proofs.StoreLaws.{sets-some, replaced-ordered, replaced-sets}
 use Rattle.file.specs.Outcome.{carried}
-use Rattle.directory.specs.Open.{fileRecord}
+use Rattle.directory.specs.Open.{fileRecord, shown}
 use Rattle.file.specs.Refresh.{entriesOf, recorded, stored, missing}
 use Rattle.write.specs.Calls.{Call, step}
 use Rattle.write.specs.Consistent.{Consistent, lay, root, rootClusters, rootBytes, setOf, fileClusters}
-use Rattle.write.specs.Contents.{shown, contents}
+use Rattle.write.specs.Contents.{contents}
 use Rattle.write.specs.Model.{accepted, finds}
 use Rattle.write.specs.Demand.{callSlot, setAfter, entriesPut, rootAdds, slotAnswered, hintAnswered}
 use Rattle.write.proofs.Reading.{reads-as, bytes-length, record-count}

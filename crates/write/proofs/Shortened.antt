@@ -29,12 +29,12 @@ use Rattle.directory.proofs.FitLaws.{Fit}
 use Rattle.directory.proofs.StoreLaws.{sets-some, replaced-ordered, replaced-sets}
 use Rattle.directory.proofs.DirectoryLaws.{clusters-length}
 use Rattle.file.specs.Outcome.{carried}
-use Rattle.directory.specs.Open.{fileRecord, setIn}
+use Rattle.directory.specs.Open.{fileRecord, setIn, shown}
 use Rattle.file.specs.Refresh.{entriesOf, recorded, stored, openCause}
 use Rattle.write_length.specs.SetLength.{setLengthCause, shorter, resized}
 use Rattle.write.specs.Calls.{SetLength, step}
 use Rattle.write.specs.Consistent.{Consistent, lay, root, rootBytes, setOf, streamAt, fileClusters}
-use Rattle.write.specs.Contents.{shown, contents}
+use Rattle.write.specs.Contents.{contents}
 use Rattle.write.specs.Model.{resize, onto, accepted, hasList, finds}
 use Rattle.write.specs.Space.{beyond, mustAdd}
 use Rattle.write.specs.Demand.{callSlot, hintOf, setAfter, entriesPut, rootAdds, slotAnswered, hintAnswered}

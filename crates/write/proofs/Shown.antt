@@ -11,7 +11,8 @@ use lib.Seq.{length-take-le, take-all, take-append-le, take-at, getD-take, getD-
 use Rattle.primitives.specs.Splice.{splice}
 use Rattle.primitives.proofs.SpliceLaws.{length-splice, splice-in, splice-off}
 use Rattle.entry_set.proofs.NewLaws.{getD-zeros}
-use Rattle.write.specs.Contents.{shown}
+use Rattle.directory.specs.Open.{shown}
+use Rattle.read_file.proofs.PartLaws.{length-shown}
 use Rattle.write.specs.Model.{overwrite, resize}
 
 -- ---- lists by place
@@ -27,10 +28,6 @@ at-right a b i h =
 -- ---- what is shown, by place
 
 module _ (bs : List ℕ) (valid len : ℕ) (stored : valid ≤ length bs) (v : valid ≤ len) where
-  pub length-shown : length (shown bs valid len) ≡ len
-  unfolding shown
-  length-shown = rw (length-append, length-replicate, length-take-le valid bs stored) (omega arith)
-
   pub shown-below : (i : ℕ) → i < valid → getD (shown bs valid len) i 0 ≡ getD bs i 0
   unfolding shown
   shown-below i h = at-left (take valid bs) (replicate (len - valid) 0) i (rw (length-take-le valid bs stored) h) ∙ getD-take valid bs i 0 h

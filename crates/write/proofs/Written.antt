@@ -32,7 +32,7 @@ use Rattle.write_extend.proofs.ExtendLaws.{extend-none}
 use Rattle.stream.specs.Stream.{clustersIn}
 use Rattle.directory.specs.Internal.{sets}
 use Rattle.file.specs.Outcome.{carried}
-use Rattle.directory.specs.Open.{fileRecord, setIn}
+use Rattle.directory.specs.Open.{fileRecord, setIn, shown}
 use Rattle.file.specs.Refresh.{recorded, stored, missing, lengthCause, openCause, refreshedOnly}
 use Rattle.write_file.specs.Write.{dataCause, writeCause, withData, written}
 use Rattle.write_length.specs.SetLength.{setLengthCause, zeroEnd, longerFile, resized}
@@ -40,7 +40,7 @@ use Rattle.write_file.proofs.NewFileLaws.{space-enough}
 use Rattle.write_length.proofs.SetLengthLaws as new-length
 use Rattle.write.specs.Calls.{Call, Write, SetLength, step}
 use Rattle.write.specs.Consistent.{Consistent, lay, root, rootBytes, setOf, streamAt, fileClusters}
-use Rattle.write.specs.Contents.{shown, contents}
+use Rattle.write.specs.Contents.{contents}
 use Rattle.write.specs.Model.{overwrite, resize, onto, accepted, hasList, finds}
 use Rattle.write.specs.Space.{beyond, mustAdd}
 use Rattle.write.specs.Demand.{callSlot, hintOf, setAfter, rootAdds, slotAnswered, clustersGrown, hintAnswered}

@@ -1,18 +1,14 @@
 -- What a file holds (01: its tape): its stored bytes below valid, and 0 from valid to length.
 use mathlib.Core.Bool.{Bool, not, _&&_, cond}
-use mathlib.Core.List.{List, _++_}
+use mathlib.Core.List.{List}
 use mathlib.Core.Option.{Option, none, some}
-use Prim.Native.Nat.{ℕ, _-_}
-use lib.ListN.{take, replicate}
+use Prim.Native.Nat.{ℕ}
 use Rattle.boot.specs.declared.geometry.Geometry.{Geometry}
 use Rattle.entry_set.specs.Fields.{isDirectory, validLength, dataLength}
 use Rattle.stream.specs.Bytes.{bytesIn}
 use Rattle.directory.specs.Entries.{isSound}
+use Rattle.directory.specs.Open.{shown}
 use Rattle.write.specs.Consistent.{lay, rootBytes, setOf, streamAt}
-
--- a stream's bytes as a file shows them
-unfoldable pub shown : (bs : List ℕ) (valid len : ℕ) → List ℕ
-shown bs valid len = take valid bs ++ replicate (len - valid) 0
 
 -- slot i has a file: a sound entry with no attribute 0x10
 unfoldable pub hasFile : Geometry → List ℕ → ℕ → Bool

@@ -25,6 +25,8 @@ use Rattle.entry_set.specs.Put.{cleared}
 use Rattle.write_extend.specs.Extend.{extendIn}
 use Rattle.write_shrink.specs.Shrink.{keptRecord}
 use Rattle.directory.specs.Room as room
+use Rattle.read_file.specs.Read.{zeroCause}
+use Rattle.read_file.specs.ReadBack.{readFile}
 use Rattle.file.specs.Outcome.{Outcome, refuse}
 use Rattle.file.specs.Refresh.{entriesOf, recorded, missing}
 use Rattle.write.specs.Calls.{Call, New, Write, SetLength, Remove, step, run, answers}
@@ -169,6 +171,10 @@ pub record Demand (g : Geometry) (m d : List ℕ) (cs : List Call) : Type 0 wher
   pub consistent : Consistent g m (run g m d cs)
   -- for every slot, the contents are what the model has there, and none where it has none
   pub contents-agree : (i : ℕ) → contents g (run g m d cs) i ≡ model (contents g d) cs (answers g m d cs) i
+  -- read back from offset 0 by as many parts as there are bytes or more, with any slice of zeros, each slot gives what the model has
+  -- there, and is refused where it has none
+  pub reads-back : (z : List ℕ) → zeroCause z ≡ 0 → (i n : ℕ) → dataLength (setOf g (run g m d cs) i) ≤ n
+      → readFile g (run g m d cs) m z i n ≡ model (contents g d) cs (answers g m d cs) i
   -- at every point of the list, its end included, any call that is accepted finds at its slot what it has to: a new file takes no slot
   -- that the model has just then, any other call changes a list of the model
   pub slots-fit : (before rest : List Call) → cs ≡ before ++ rest → (c : Call) → step g m (run g m d before) c .answer .number ≡ 0
