@@ -16,6 +16,7 @@ static uint8_t map[COUNT / 8];
 static const uint32_t geometry[EXFAT_GEOMETRY_WORDS] = {9, 0, 24, 251, 1, 0, 280, COUNT, ROOT, 2, 0};
 static const uint8_t stamps[18];
 static const uint8_t data[SIZE] = {1};
+static const uint8_t zeros[SIZE];
 static uint32_t out[EXFAT_OUT_WORDS];
 #define CARD vol, sizeof vol, map, sizeof map, geometry
 
@@ -101,11 +102,41 @@ static void one_left(void)
     file(FIRST, 1, SIZE);
 }
 
-static void run_of_four(void)
+static void run_of(uint32_t n)
 {
-    for (uint32_t k = FIRST; k < FIRST + 4; k++)
+    for (uint32_t k = FIRST; k < FIRST + n; k++)
         take(k);
-    file(FIRST, 1, 4 * SIZE);
+    file(FIRST, 1, (uint64_t)n * SIZE);
+}
+
+/* the same clusters as a chain */
+static void rising_chain_of(uint32_t n)
+{
+    for (uint32_t k = FIRST; k < FIRST + n; k++) {
+        take(k);
+        set_fat(k, k + 1 < FIRST + n ? k + 1 : 0xFFFFFFFF);
+    }
+    file(FIRST, 0, (uint64_t)n * SIZE);
+}
+
+/* A bare walk of a chain to its end mark, which a read of a chain is held against. Gives the last cluster. */
+__attribute__((noinline)) uint32_t bare_walk(uint32_t first)
+{
+    uint32_t k = first, next;
+
+    for (;;) {
+        memcpy(&next, vol + FAT + 4 * (size_t)k, 4);
+        if (next == 0xFFFFFFFF)
+            return k;
+        k = next;
+    }
+}
+
+/* The number of a read that gives a part of that length: 0. */
+static uint32_t read_part(uint64_t offset, uint32_t length)
+{
+    exfat_read(CARD, zeros, sizeof zeros, 0, offset, out);
+    return out[0] == 0 && out[2] == length ? exfat_read_number(CARD, zeros, sizeof zeros, 0) : 99;
 }
 
 int main(int argc, char **argv)
@@ -118,10 +149,10 @@ int main(int argc, char **argv)
     if (strcmp(which, "allocate") == 0) {
         number = exfat_allocate(CARD, 1, 0, 0, FIRST, out);
     } else if (strcmp(which, "extend") == 0) {
-        run_of_four();
+        run_of(4);
         number = exfat_extend(CARD, record, 1, FIRST, out);
     } else if (strcmp(which, "append") == 0) {
-        run_of_four();
+        run_of(4);
         number = exfat_write(CARD, 0, 4 * SIZE, data, SIZE, stamps, FIRST, out);
     } else if (strcmp(which, "remove") == 0) {
         file_of_all();
@@ -129,6 +160,18 @@ int main(int argc, char **argv)
     } else if (strcmp(which, "worst") == 0) {
         one_left();
         number = exfat_write(CARD, 0, SIZE, data, SIZE, stamps, FIRST, out);
+    } else if (strcmp(which, "read") == 0) {
+        file_of_all();
+        number = read_part((uint64_t)(END - FIRST - 1) * SIZE, SIZE);
+    } else if (strcmp(which, "walk") == 0) {
+        file_of_all();
+        number = bare_walk(FIRST) < FIRST;
+    } else if (strcmp(which, "rising") == 0) {
+        rising_chain_of(END - FIRST);
+        number = read_part(0, (END - FIRST) * SIZE);
+    } else if (strcmp(which, "run") == 0) {
+        run_of(END - FIRST);
+        number = read_part(0, (END - FIRST) * SIZE);
     } else {
         return 2;
     }

@@ -1,6 +1,7 @@
 /*
- * A recorder's firmware over the library: makes a file and appends lines to it, on a card that `bittsalak format` made. To be run
- * on a host, it reads the card from the standard input and writes it to the standard output.
+ * A recorder's firmware over the library: makes a file, appends lines to it and shows it, on a card that `bittsalak format` made. To
+ * be run on a host, it reads the card from the standard input, writes it to the standard output and has the standard error for a
+ * display.
  */
 #include <stdio.h>
 
@@ -18,7 +19,19 @@ static const uint8_t stamps[18] = {0, 0x60, 0x70, 0x5D, 0, 0x80,          /* cre
                                    0, 0x60, 0x70, 0x5D, 0, 0x80,          /* modified */
                                    0, 0x60, 0x70, 0x5D, 0, 0x80};         /* accessed */
 
-/* Makes MELT.CSV and appends three lines of 9 bytes. Gives 0, or the number of the call that was refused. */
+static void display(const uint8_t *bytes, size_t length); /* the device's own */
+
+/* Shows a file from where it lies, part by part, without a copy. */
+static void show(uint32_t slot)
+{
+    static const uint8_t zeros[512];
+    struct exfat_part part;
+
+    for (uint64_t at = 0; (part = exfat_read_part(CARD, zeros, sizeof zeros, slot, at)).length != 0; at += part.length)
+        display(part.start, part.length);
+}
+
+/* Makes MELT.CSV, appends three lines of 9 bytes and shows it. Gives 0, or the number of the call that was refused. */
 static uint32_t record(void)
 {
     static const uint8_t lines[3][10] = {"0,1712.5\n", "1,1713.1\n", "2,1711.8\n"}; /* seconds, degrees Celsius */
@@ -30,7 +43,14 @@ static uint32_t record(void)
         number = exfat_write(CARD, slot, 9 * i, lines[i], 9, stamps, hint, out);
         hint = out[0]; /* where the next call had best seek */
     }
+    if (number == 0)
+        show(slot);
     return number;
+}
+
+static void display(const uint8_t *bytes, size_t length)
+{
+    fwrite(bytes, 1, length, stderr);
 }
 
 int main(void)

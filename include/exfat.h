@@ -1,11 +1,12 @@
 /*
- * exfat.h: a proved exFAT volume writer, as a static library.
+ * exfat.h: a proved exFAT volume writer, which reads files back too, as a static library.
  *
  * The volume is one byte slice that the caller lends; no call keeps anything between calls, allocates memory or calls the
- * system. Every call takes any bytes and any numbers: it tests everything itself, answers a number, and returns.
+ * system. Every call takes any bytes and any numbers: it tests everything itself and returns. Every call answers a number, but
+ * for exfat_read, whose number is a call of its own.
  *
- * A slice is a pointer and then a length: in bytes for a volume, a map and data, in words for a list, in units of 16 bits for a
- * name. An array is a pointer.
+ * A slice is a pointer and then a length: in bytes for a volume, a map, data and zeros, in words for a list, in units of 16 bits
+ * for a name. An array is a pointer.
  * What the caller has to keep: each pointer leads to as many elements as its length or its array says, is aligned for them and
  * is not null, at length 0 too; nothing else changes a slice or an array during the call; and what a call writes (a volume that
  * is not const, `list`, `out`) overlaps no other argument.
@@ -32,6 +33,8 @@
  *               exfat_new_file gave, or found by reading the root.
  *   stamp       6 bytes: a time as the entry holds it (4 bytes, low byte first), its 10 ms increment, its UTC offset. They are
  *               stored as given. `stamps` is three of them: created, modified, accessed.
+ *   zeros       Bytes that are all 0, one or more, only read: the part of a file that is shown as 0 is a part of them. They are
+ *               tested whole in each call that takes them, so as many as a cluster has, or fewer, are best.
  *   hint        The cluster at which a search starts where nothing else says so: the one that the call before gave back, or 2.
  *   out         8 words that the call stores, all of them: what it gives, then zeros.
  *
@@ -63,9 +66,10 @@
  *   12  the name is refused
  *   13  an attribute outside 0x27 (ReadOnly 0x01, Hidden 0x02, System 0x04, Archive 0x20)
  *   14  the list is shorter than the record's count
+ *   15  the zero slice is empty or holds a byte other than 0
  *
- * Every call tests 1 first, then the hint where it has one. A refused call (a number that is not 0) leaves the volume and the
- * list as they were.
+ * Every call tests 1 first, then the hint where it has one. A refused call (a number that is not 0) leaves every slice that it
+ * was lent as it was.
  */
 #ifndef EXFAT_H
 #define EXFAT_H
@@ -96,7 +100,8 @@ enum exfat_number {
     EXFAT_IS_DIRECTORY = 11,
     EXFAT_NAME_REFUSED = 12,
     EXFAT_ATTRIBUTE_REFUSED = 13,
-    EXFAT_LIST_TOO_SHORT = 14
+    EXFAT_LIST_TOO_SHORT = 14,
+    EXFAT_ZEROS_REFUSED = 15
 };
 
 /*
@@ -206,6 +211,51 @@ uint32_t exfat_set_length(uint8_t *vol, size_t vol_len, const uint8_t *map, size
 uint32_t exfat_remove(uint8_t *vol, size_t vol_len, const uint8_t *map, size_t map_len,
                       const uint32_t geometry[EXFAT_GEOMETRY_WORDS], uint32_t slot, uint32_t hint,
                       uint32_t out[EXFAT_OUT_WORDS]);
+
+/*
+ * The number of a read of a file: whether exfat_read gives its bytes. No offset changes it. Nothing is written.
+ *
+ * Numbers: 1; 15; the root's 2, 3, 4, 6, 9; 10; 11; the file's 3 or 4, 5, 6, 9.
+ */
+uint32_t exfat_read_number(const uint8_t *vol, size_t vol_len, const uint8_t *map, size_t map_len,
+                           const uint32_t geometry[EXFAT_GEOMETRY_WORDS], const uint8_t *zeros, size_t zeros_len,
+                           uint32_t slot);
+
+/*
+ * Where a file's bytes lie from an offset on, so that they need not be copied: the longest part that lies in one piece. Below the
+ * valid length it is a part of the volume, through clusters that follow each other (a run's, or a chain's where its numbers rise
+ * by one) and not past the valid length. From there to the length, where the file shows 0, it is the first bytes of `zeros`, as
+ * many as there are or as the file still has. At the length and past it the part is empty. Parts fetched one after another, from
+ * offset 0 and each where the one before ended, until one is empty, are what the file holds. Nothing is written.
+ *
+ * Numbers: it answers none; refused where exfat_read_number, given the same, is not 0.
+ * out[0] is 0 for a part of the volume and 1 for one of the zeros, out[1] its first byte in that slice, out[2] its length in
+ * bytes; refused or empty, three zeros. A part is memory that the caller lent: it shows the file as long as the volume is not
+ * changed. Each call tests the zeros whole and walks the file's chain whole, so take a part as long as it comes.
+ */
+void exfat_read(const uint8_t *vol, size_t vol_len, const uint8_t *map, size_t map_len,
+                const uint32_t geometry[EXFAT_GEOMETRY_WORDS], const uint8_t *zeros, size_t zeros_len, uint32_t slot,
+                uint64_t offset, uint32_t out[EXFAT_OUT_WORDS]);
+
+/* A part of the volume or of the zeros, as a pointer; where it is empty the pointer is that of the volume. */
+struct exfat_part {
+    const uint8_t *start;
+    size_t length;
+};
+
+/* exfat_read, and the pointer made of what it gives. This is C, outside of what is proved. */
+static inline struct exfat_part exfat_read_part(const uint8_t *vol, size_t vol_len, const uint8_t *map, size_t map_len,
+                                                const uint32_t geometry[EXFAT_GEOMETRY_WORDS], const uint8_t *zeros,
+                                                size_t zeros_len, uint32_t slot, uint64_t offset)
+{
+    uint32_t out[EXFAT_OUT_WORDS];
+    struct exfat_part part;
+
+    exfat_read(vol, vol_len, map, map_len, geometry, zeros, zeros_len, slot, offset, out);
+    part.start = (out[0] ? zeros : vol) + out[1];
+    part.length = out[2];
+    return part;
+}
 
 #ifdef __cplusplus
 }

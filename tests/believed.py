@@ -15,8 +15,10 @@ sys.dont_write_bytecode = True
 import contracts  # noqa: E402, beside this file
 import verdict  # noqa: E402, beside this file
 
-# What the certificate cites besides the public calls: the claim over lists, the choice of clusters, and what new-fewest speaks of.
+# What the certificate cites besides the public calls: the claim over lists, the choice of clusters, what new-fewest speaks of, and what
+# reading a file part by part gives.
 CLAIMS = [("write", "Demand", "Demand"), ("choice_claim", "Adds", "Allocates"), ("choice_claim", "Extends", "Extends"), ("directory", "Room", "Row")]
+CLAIMS += [("read_file", "ReadBack", "ReadBack")]
 # Example: a concrete consistent volume, which shows that the claim over lists is not empty.
 APART = ["Internal", "Example"]
 # Their definitions are of tests, and no promise cites them.

@@ -3,9 +3,10 @@
 
 Reads crates/*/src/*.rt. A function that returns something or takes a `&mut` has an `ensures` that settles it: the result, or every
 field of it, and each `&mut` afterwards stand in an equation whose other side names only what went in, or what another equation
-settles. So `r ≡ r` and `r ≡ f r` say nothing, and an equation behind an arrow does not count. `main` is left out. A public call (one of
-the calls of 01, listed here, or a function that is exported to C) has no `requires`, and each of its equations cites the definition
-that is named for it here, applied to every argument of the call. Contracts that are wrong on purpose are tried first.
+settles. So `r ≡ r` and `r ≡ f r` say nothing, and an equation behind an arrow does not count. A result that is lent is settled by two:
+its bytes and where they lie. `main` is left out. A public call (one of the calls of 01 and 02, listed here, or a function that is exported
+to C) has no `requires`, and each of its equations cites the definition that is named for it here, applied to every argument of the
+call. Contracts that are wrong on purpose are tried first.
 """
 
 import pathlib
@@ -19,6 +20,9 @@ import verdict  # noqa: E402, beside this file
 PUBLIC_CALLS = {
     "boot::geometry::validate": "boot.specs.Limits.limits",
     "metadata::free::free_clusters": "metadata.specs.Free.freeClusters",
+    "read_file::read::read_number": "read_file.specs.Read.readNumber",
+    "read_file::read::read_part": "read_file.specs.Read.readPart",
+    "read_file::read::read": "read_file.specs.Read.readPart",
     "stream::list::clusters": {"result": "stream.specs.Listing.listingNumber", "list": "stream.specs.Listing.listingList"},
     "write_alloc::allocate::allocate_clusters": "write_alloc.specs.Allocate.allocateClusters",
     "write_extend::extend::extend_clusters": "write_extend.specs.Extend.extendClusters",
@@ -34,6 +38,8 @@ PUBLIC_CALLS = {
 EXPORTED = {
     "exfat::exfat_free_count": "metadata::free::free_clusters",
     "exfat::exfat_clusters": "stream::list::clusters",
+    "exfat::exfat_read_number": "read_file::read::read_number",
+    "exfat::exfat_read": "read_file::read::read_part",
     "exfat::exfat_allocate": "write_alloc::allocate::allocate_clusters",
     "exfat::exfat_extend": "write_extend::extend::extend_clusters",
     "exfat::exfat_shrink": "write_shrink::shrink::shrink_clusters",
@@ -42,6 +48,9 @@ EXPORTED = {
     "exfat::exfat_set_length": "write_length::set_length::set_length",
     "exfat::exfat_remove": "write_remove::remove::remove",
 }
+
+# what settles a result that is lent: its bytes, and where they lie
+LENT = (("now",), (".ptr",))
 
 # an argument that is only written to, so that no definition takes what it holds before
 ONLY_WRITTEN = "out"
@@ -178,8 +187,11 @@ def words_of(term):
 
 
 def path_of(term, result):
-    """What an equation's side is, if it is something that the function gives: ("result", field, ..) or (lent,)."""
+    """What an equation's side is, if it is something that the function gives: ("result", field, ..), of a result that is lent
+    ("result", "now") and ("result", ".ptr"), or (lent,)."""
     words = words_of(term)
+    if words == ["now", result]:
+        return ("result", "now")
     if words and words[0] == result and all(w.startswith(".") for w in words[1:]):
         return ("result",) + tuple(words[1:])
     if len(words) == 3 and words[0] == "now" and words[2] == ".exit":
@@ -195,7 +207,8 @@ def gives(term, result):
             j = i + 1
             while j < len(words) and words[j].startswith("."):
                 j += 1
-            found.append(("result",) + tuple(words[i + 1 : j]))
+            bytes_ = i and words[i - 1] == "now" and j == i + 1
+            found.append(("result", "now") if bytes_ else ("result",) + tuple(words[i + 1 : j]))
         if i + 1 < len(words) and words[i + 1] == ".exit":
             found.append((w,))
     return found
@@ -205,6 +218,8 @@ def settled(path, told, kind, structs):
     """Whether a path is settled: by an equation for it or for a whole that it is part of, or by one for each of its fields."""
     if any(path[:n] in told for n in range(1, len(path) + 1)):
         return True
+    if kind and kind.startswith("&"):
+        return all(path + part in told for part in LENT)
     fields = structs.get(kind)
     return bool(fields) and all(settled(path + ("." + f,), told, t, structs) for f, t in fields)
 
@@ -256,7 +271,7 @@ def uses_of(text):
     return uses
 
 
-def cite_faults(head, claims, result, lent, names, uses, cited):
+def cite_faults(head, claims, result, parts, lent, names, uses, cited):
     """Whether each equation of a public call cites its definition, applied to every argument of the call."""
     faults = []
 
@@ -276,15 +291,15 @@ def cite_faults(head, claims, result, lent, names, uses, cited):
                     return None
         faults.append("does not cite `%s`, applied to every argument, for `%s`" % (short, thing))
 
-    for thing in (["result"] if result else []) + lent:
+    for thing in ([("result",) + part for part in parts] if result else []) + [(one,) for one in lent]:
         sides = []
         for claim in claims:
             if claim[0] == "equation":
                 for mine, other in ((claim[1], claim[2]), (claim[2], claim[1])):
                     path = path_of(mine, result)
-                    if path and path[0] == thing:
+                    if path and path[: len(thing)] == thing:
                         sides.append(other)
-        cites(thing, sides)
+        cites(thing[0], sides)
     return faults
 
 
@@ -305,12 +320,16 @@ def promise_faults(signature, promise, structs, uses, cited):
     faults = ["has an equation with the same text on both sides"] if same_sides(whole) else []
     told = told_by(claims, result, structs)
     if result and not settled(("result",), told, gives_back[1], structs):
-        faults.append("does not say what its result equals, whole or every field of it")
+        if gives_back[1].startswith("&"):
+            faults.append("does not say which bytes it lends and where they lie")
+        else:
+            faults.append("does not say what its result equals, whole or every field of it")
     for one in lent:
         if (one,) not in told:
             faults.append("does not say what `%s` equals afterwards" % one)
     if cited:
-        faults += cite_faults(signature, claims, result, lent, names, uses, cited)
+        parts = LENT if result and gives_back[1].startswith("&") else ((),)
+        faults += cite_faults(signature, claims, result, parts, lent, names, uses, cited)
     return faults
 
 
@@ -366,6 +385,13 @@ BAD = [
     ("fn h(x: u32) -> Pair ensures { λ r. ⌜ (r .a ≡ right (r .b)) × (r .b ≡ right (r .a)) ⌝ } {", "every field of it"),
     ("fn h(v: &mut [u8], x: u32) ensures { λ _. ⌜ now (v .exit) ≡ right (now (v .exit)) ⌝ } {", "what `v` equals afterwards"),
     ("fn h(x: u32) -> u32 {", "does not say its result"),
+    ("fn h<'a>(v: &'a [u8]) -> &'a [u8] ensures { λ r. ⌜ now r ≡ right (now (v .entry)) ⌝ } {", "where they lie"),
+    ("fn h<'a>(v: &'a [u8]) -> &'a [u8] ensures { λ r. ⌜ r .ptr ≡ right (v .entry .ptr) ⌝ } {", "where they lie"),
+    ("fn h<'a>(v: &'a [u8]) -> &'a [u8] ensures { λ r. ⌜ (now r ≡ right (now r)) × (r .ptr ≡ v .entry .ptr) ⌝ } {", "where they lie"),
+    (
+        "pub fn f<'a>(v: &'a [u8]) -> &'a [u8] ensures { λ r. ⌜ (now r ≡ right (now (v .entry))) × (r .ptr ≡ v .entry .ptr) ⌝ } {",
+        "does not cite `right`",
+    ),
     ("pub fn f(x: u32) -> u32 ensures { λ r. ⌜ r ≡ other x ⌝ } {", "does not cite `right`"),
     ("pub fn f(x: u32, y: u32) -> u32 ensures { λ r. ⌜ r ≡ right x 0 ⌝ } {", "does not cite `right`"),
     ("pub fn f(x: u32) -> u32 ensures { λ r. ⌜ (r ≡ other x) × (right x ≡ right 0) ⌝ } {", "does not cite `right`"),
@@ -377,6 +403,7 @@ BAD = [
 GOOD = [
     "fn h(x: u32) -> Pair ensures { λ r. ⌜ (other x (r .a) ≡ r .b) × (r .a ≡ right x) ⌝ } {",
     "pub fn f(v: &mut [u8]) -> u32 ensures { λ r. ⌜ (let o = right (now (v .entry)) in (r ≡ o .a) × (now (v .exit) ≡ o .b)) ⌝ } {",
+    "pub fn f<'a>(v: &'a [u8]) -> &'a [u8] ensures { λ r. ⌜ (let o = right (now (v .entry)) in (now r ≡ o .a) × (r .ptr ≡ other o)) ⌝ } {",
 ]
 
 

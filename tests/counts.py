@@ -55,7 +55,8 @@ def sample():
 
 
 def public():
-    """The calls of 01 that are public, without `carry_out`, which makes four of them, and `validate`, which none of 01's calls is."""
+    """The calls of 01 and 02, as they are exported: without `carry_out`, which makes four of them, `validate`, which is none of them,
+    and `read`, which lends what `read_part` gives the place of."""
     return (len(contracts.EXPORTED),)
 
 

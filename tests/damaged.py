@@ -9,6 +9,7 @@ fields, and make the checksums of boot region, entry sets and up-case table righ
 command of COMMANDS then runs on the image. It has to end within 10 seconds and 1 GiB of memory with a status from 0 to 3, with
 one line on the standard error where it fails and none where not; one that fails or only looks leaves the image as it was; none
 opens an image that `check` does not; and where `check` called the image consistent, it does so after a command that succeeded.
+`cat` shows nothing where it fails, and else, in an image that is consistent, what this program reads by itself.
 """
 
 import argparse
@@ -53,7 +54,9 @@ COMMANDS = [
 ]
 NAMES = ["run", "chain", "other", "valid", "empty", "a rather long name of more than thirty units.csv", "steel", "@3"]
 # what 1,000 images have to come to at the least, so that the verdict is not an empty one
-LEAST = {"opened": 500, "consistent": 250, "succeeded on a consistent image": 1500, "refused": 700, "not opened": 150}
+LEAST = {
+    "opened": 500, "consistent": 250, "succeeded on a consistent image": 1500, "refused": 700, "not opened": 150, "files read back": 150,
+}  # fmt: skip
 
 
 def fresh(tool, folder, sector, cluster, fats, label, clusters):
@@ -92,6 +95,22 @@ def slot(image, name):
     units = name.encode("utf-16-le")[:30]
     files = (at for at, place in enumerate(places) if image.bytes[place] == 0x85)
     return next(at for at in files if image.bytes[places[at + 2] + 2:places[at + 2] + 2 + len(units)] == units)
+
+
+def contents(data, name):
+    """What the file of a name or slot holds in a consistent image, by its first FAT; None where damage hides the name."""
+    image = Image(data)
+    places = image.places(image.root)
+    try:
+        at = int(name[1:]) if name[0] == "@" else slot(image, name)
+    except StopIteration:
+        return None
+    stream = places[at + 1]
+    valid, first, length = struct.unpack_from("<Q4xIQ", image.bytes, stream + 8)
+    count = -(-length // image.cluster)
+    clusters = range(first, first + count) if image.bytes[stream + 1] & 2 else image.chain(first) if count else ()
+    stored = b"".join(image.bytes[image.place(k):image.place(k) + image.cluster] for k in clusters)
+    return stored[:valid] + bytes(length - valid)
 
 
 class Damage:
@@ -250,6 +269,7 @@ class Runs:
         self.tool = tool
         self.path = os.path.join(folder, "image")
         self.data = os.path.join(folder, "data")
+        self.output = os.path.join(folder, "output")
         self.error = os.path.join(folder, "error")
         with open(self.data, "wb") as file:
             file.write(random.Random(0).randbytes(3000))
@@ -262,9 +282,10 @@ class Runs:
     def run(self, words):
         """The status, or what kind of end it was; and what is on the standard error."""
         self.counts["commands"] += 1
-        quiet = [(os.POSIX_SPAWN_OPEN, fd, "/dev/null", os.O_RDWR, 0) for fd in (0, 1)]
-        error = (os.POSIX_SPAWN_OPEN, 2, self.error, os.O_WRONLY | os.O_CREAT | os.O_TRUNC, 0o600)
-        self.child = os.posix_spawn(self.tool, [self.tool, *words], os.environ, file_actions=[*quiet, error])
+        quiet = (os.POSIX_SPAWN_OPEN, 0, "/dev/null", os.O_RDONLY, 0)
+        how = os.O_WRONLY | os.O_CREAT | os.O_TRUNC, 0o600
+        kept = [(os.POSIX_SPAWN_OPEN, fd, path, *how) for fd, path in ((1, self.output), (2, self.error))]
+        self.child = os.posix_spawn(self.tool, [self.tool, *words], os.environ, file_actions=[quiet, *kept])
         signal.alarm(SECONDS)
         status = os.waitstatus_to_exitcode(os.waitpid(self.child, 0)[1])
         signal.alarm(0)
@@ -289,6 +310,15 @@ class Runs:
                 say("a failure is one line:")
             if after != data and (status != 0 or not changes):
                 say("the image is changed:")
+            if words[0] == "cat":
+                shown = self.load(self.output)
+                if status != 0 and shown:
+                    say(f"shows {len(shown)} bytes:")
+                wanted = contents(data, name) if status == 0 and before == 0 and not data[106] & 1 else None
+                if wanted is not None:
+                    self.counts["files read back"] += 1
+                    if shown != wanted:
+                        say(f"shows {len(shown)} bytes, other than the file's {len(wanted)}:")
             if before is None:
                 before = status
                 self.counts["opened" if status != 3 else "not opened"] += 1
@@ -309,8 +339,8 @@ class Runs:
         with open(self.path, "wb") as file:
             file.write(data)
 
-    def load(self):
-        with open(self.path, "rb") as file:
+    def load(self, path=None):
+        with open(path or self.path, "rb") as file:
             return file.read()
 
 

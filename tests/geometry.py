@@ -51,7 +51,7 @@ COUNTS = (
 )
 # an array of as many words by a number: a type of Rattle or Rust, one of C, one of Python
 BY_NUMBER = r"\[u32; %d\]|uint32_t \w+\[%d\]|c_uint32 \* %d\b"
-SOURCES = ("crates/*/src/*.rt", "*/src/*.rs", "include/*.h", "examples/*.c", "tests/c/*.c", "tests/*.py", "README.md")
+SOURCES = ("crates/*/src/*.rt", "*/src/*.rs", "include/*.h", "examples/*.c", "tests/c/*.[ch]", "tests/*.py", "README.md")
 
 
 def faults():

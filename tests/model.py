@@ -1,8 +1,10 @@
-"""Document 01 computed a second way: its nine calls in plain Python, written from 01 and its readings (docs/DECISIONS.md) alone.
+"""Documents 01 and 02 computed a second way: 01's nine calls, and reading back (02, 2027-01), its number and its part as one, in
+plain Python, written from the documents and their readings (docs/DECISIONS.md) alone.
 
 It shares nothing with the Rattle code, its definitions or the other tests. Each part stands in 01's order and carries the sentence
 that it computes. The table CALLS, at the end, has for each call what can refuse it, in order, what it does where nothing does, and
-what it returns refused. `answer(kind, volume, arguments)` is a call: the volume's bytes are changed in place.
+what it returns refused. `answer(kind, volume, arguments)` is a call: the volume's bytes are changed in place. `tape(volume, slot)`
+is what a file that can be read holds.
 
 tests/model_run.py holds the library against it. tests/model_slips.py has wrong variants of this text.
 """
@@ -365,6 +367,14 @@ def place_of(root, count):
     return None
 
 
+def tape(v, slot):
+    """ "A file's tape is its stored bytes below valid and 0 from valid to length." """
+    k = SimpleNamespace(v=v, slot=slot)
+    for test in (root, entry, directory, stream):
+        test(k)
+    return bytes_of(v, k.clusters)[: k.fields.valid] + bytes(k.fields.length - k.fields.valid)
+
+
 def file_record(k):
     """The file's record, once its stream has been read."""
     return Record(k.fields.first, k.clusters[-1], len(k.clusters), k.fields.run) if k.clusters else EMPTY
@@ -471,6 +481,10 @@ def stream(k):
     if not all(marked(k.v, x) for x in k.clusters):
         return 6
     return 9 if any(system(k.v, x) for x in k.clusters) else 0
+
+
+def zero_slice(k):
+    return 15 if not k.zeros or any(k.zeros) else 0  # "the zero slice is empty or holds another byte"
 
 
 def empty_data(k):
@@ -601,9 +615,24 @@ def do_remove(k):
     return [k.hint]
 
 
+def do_read(k):
+    valid, length, size = k.fields.valid, k.fields.length, cluster_size(k.v)
+    if k.offset >= length:
+        return [0, 0, 0]  # "At or past the length it is an empty part."
+    if k.offset >= valid:  # "From the valid length to the length, the answer is a part of a lent slice of zeros instead,"
+        return [1, 0, min(length - k.offset, len(k.zeros))]  # "as long as both allow."
+    # "the longest part of the volume that starts there, stays below the valid length and runs through consecutive clusters."
+    at = k.offset // size
+    end = at + 1
+    while end < len(k.clusters) and k.clusters[end] == k.clusters[end - 1] + 1:
+        end += 1
+    return [0, cluster_at(k.v, k.clusters[at]) + k.offset % size, min(valid, end * size) - k.offset]
+
+
 # "Every call tests 1 first, then the hint if it has one; the rest follows in the order told below."
 Call = namedtuple("Call", "causes does refused")
 OPEN = [limits, hint, root, entry, directory, stream]
+READ = [limits, zero_slice, root, entry, directory, stream]  # "Neither carries a hint. Checks: 15, .. after 1."
 CALLS = {
     "free count": Call([limits], do_free_count, lambda k: [0]),
     "listing": Call([limits, short_list, record], do_listing, lambda k: []),
@@ -615,12 +644,13 @@ CALLS = {
     "write": Call([*OPEN, empty_data, past_end, few], do_write, lambda k: [k.hint]),
     "set length": Call([*OPEN, few], do_set_length, lambda k: [k.hint]),
     "remove": Call(OPEN, do_remove, lambda k: [k.hint]),
+    "read": Call(READ, do_read, lambda k: [0, 0, 0]),  # "a refused read's part is empty."
 }
 
 # the numbers that a cause can give
 NUMBERS = {
     **{limits: [1], hint: [2], near: [2], above_free: [7], above_all: [7], few: [7], past_end: [8], freed_system: [9]},
-    **{entry: [10], directory: [11], name: [12], attributes: [13], short_list: [14], record: [2, 3, 4, 5, 6]},
+    **{entry: [10], directory: [11], name: [12], attributes: [13], short_list: [14], zero_slice: [15], record: [2, 3, 4, 5, 6]},
     **{root: [2, 3, 4, 6, 9], stream: [3, 4, 5, 6, 9], count_0: [], more_0: [], keeps_all: [], empty_data: []},
 }
 

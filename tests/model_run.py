@@ -7,7 +7,8 @@
 
 Case N of a seed is one volume and a list of calls on it; it depends on nothing but SEED and N. Compared after each call: the
 number, all words of `out`, the whole list, every byte of the volume, and that map, geometry and the other arguments stay as they
-were.
+were. A read is both calls of the library, that of the number and that of the part; after most accepted ones the file is fetched
+whole, part by part, and compared with its tape.
 """
 
 import argparse
@@ -23,12 +24,13 @@ from model import Record, ceil_div
 from model_slips import SLIPS
 from model_volumes import TOP, Case, bend
 
-SHARE_CALLS, SHARE_SEED = 20_000, 2
+SHARE_CALLS, SHARE_SEED = 20_000, 3
 
 
 # ---- Calls --------------------------------------------------------------------------------------------------------------------
 
-KINDS = ["free count"] + ["listing", "allocate", "extend", "shrink", "new file"] * 3 + ["remove"] * 4 + ["write", "set length"] * 5
+KINDS = ["free count"] + ["listing", "allocate", "extend", "shrink", "new file"] * 3 + ["remove"] * 4
+KINDS += ["write", "set length", "read"] * 5
 
 
 def some_cluster(rng, v):
@@ -67,7 +69,7 @@ def some_slot(case):
     if case.hurt and rng.random() < 0.4:
         slot, _ = case.slots[rng.choice(case.hurt)]
     if rng.random() < 0.15:
-        slot = rng.choice([slot + 1, max(0, slot - 1), rng.randrange(len(types)), len(types), len(types) - 1, TOP])
+        slot = rng.choice([slot + 1, max(0, slot - 1), rng.randrange(len(types)), len(types), len(types) - 1, slot + 2**27, TOP])
     at = 32 * slot + 32
     e = bytes(32) + model.bytes_of(v, root if not number else [])[at : at + 32]
     return slot, model.Fields(e if len(e) == 64 else bytes(64))
@@ -84,6 +86,31 @@ def some_length(case, slot, fields):
     heap = case.v.C * size
     far = rng.choice([2**64 - 1, 2**64 - 1, 2**64 - rng.randint(1, 2000), heap, rng.getrandbits(64), rng.randint(0, heap)])
     return max(0, min(2**64 - 1, base + step)) if rng.random() < 0.8 else far
+
+
+def some_offset(case, fields):
+    """An offset of a read: a border of the file or of one of its clusters, a byte beside it, any byte; now and then far out."""
+    rng, size = case.rng, model.cluster_size(case.v)
+    length, valid = fields.length, fields.valid
+    cluster = rng.randint(0, min(ceil_div(length, size), case.v.C)) * size
+    base = rng.choice([0, valid, valid, length, length, cluster, cluster, cluster])
+    inside = rng.randint(0, max(0, min(length, case.v.C * size) - 1))
+    far = rng.choice([2**32, 2**32 + inside, 2**64 - 1, 2**64 - rng.randint(1, 2000), len(case.v.data), rng.getrandbits(64)])
+    near = max(0, min(2**64 - 1, base + rng.choice([-1, 0, 0, 1])))
+    return rng.choice([near] * 6 + [inside] * 3 + [far])
+
+
+def some_zeros(case):
+    """A zero slice: most are right, of any length from 1 on; else there is none, or one byte of it is another."""
+    rng = case.rng
+    zeros = bytearray(rng.choice([1, 1, 2, rng.randint(3, 40), model.cluster_size(case.v), 4096, rng.randint(1, 5000)]))
+    roll = rng.random()
+    if roll < 0.05:
+        return b""
+    if roll < 0.2:
+        at = rng.choice([0, len(zeros) // 2, len(zeros) - 1, rng.randrange(len(zeros))])
+        zeros[at] = rng.choice([1, 0x80, 0xFF, rng.randint(1, 255)])
+    return bytes(zeros)
 
 
 def some_name(rng, long):
@@ -103,7 +130,7 @@ def make_call(case):
     """A kind, and its arguments by the model's names."""
     rng, v = case.rng, case.v
     kind = rng.choice(KINDS)
-    a = {} if kind in ("free count", "listing") else {"hint": some_cluster(rng, v)}
+    a = {} if kind in ("free count", "listing", "read") else {"hint": some_cluster(rng, v)}
     if kind in ("listing", "extend", "shrink"):
         a["record"] = r = some_record(case)
     if kind == "listing":
@@ -119,7 +146,7 @@ def make_call(case):
     if kind == "new file":
         wide = rng.getrandbits(16) if rng.random() < 0.15 else rng.getrandbits(16) & 0x27
         a.update(name=some_name(rng, case.long), attributes=wide, hash=rng.getrandbits(16), stamps=rng.randbytes(18))
-    if kind in ("write", "set length", "remove"):
+    if kind in ("write", "set length", "remove", "read"):
         a["slot"], fields = some_slot(case)
     if kind == "write":
         size = model.cluster_size(v)
@@ -127,6 +154,8 @@ def make_call(case):
         a.update(offset=some_length(case, a["slot"], fields), data=rng.randbytes(length), stamp=rng.randbytes(6))
     if kind == "set length":
         a.update(length=some_length(case, a["slot"], fields), stamp=rng.randbytes(6))
+    if kind == "read":
+        a.update(offset=some_offset(case, fields), zeros=some_zeros(case))
     return kind, a
 
 
@@ -137,6 +166,7 @@ class Library:
 
     def __init__(self, path):
         self.library = ctypes.CDLL(str(path))
+        self.fetched = self.parts = 0
 
     def call(self, rng, kind, data, map, words, a):
         """The number, the words of `out`, the list, and the arguments that are only read and were changed all the same."""
@@ -172,13 +202,34 @@ class Library:
             "write": lambda: [word(a["slot"]), ctypes.c_uint64(a["offset"]), *slice(byte, a["data"]), array(byte, a["stamp"])],
             "set length": lambda: [word(a["slot"]), ctypes.c_uint64(a["length"]), array(byte, a["stamp"])],
             "remove": lambda: [word(a["slot"])],
+            "read": lambda: [*slice(byte, a["zeros"]), word(a["slot"])],
         }[kind]()
         tail = ([word(a["hint"])] if "hint" in a else []) + ([out] if kind != "listing" else [])
+        place = [*lent(data), *lent(map), array(u32, words)]
         function = getattr(self.library, self.NAMES[kind])
-        function.restype = u32
-        number = function(*lent(data), *lent(map), array(u32, words), *own, *tail)
+        if kind == "read":  # the number alone, then the part alone
+            self.library.exfat_read_number.restype, function.restype = u32, None
+            number = self.library.exfat_read_number(*place, *own)
+            function(*place, *own, ctypes.c_uint64(a["offset"]), *tail)
+        else:
+            function.restype = u32
+            number = function(*place, *own, *tail)
         changed = [values for made, values in kept if list(made) != values]
         return number, list(out) if kind != "listing" else [0] * 8, list(list_), changed
+
+
+    def fetch(self, rng, data, map, words, slot, zeros, most):
+        """A file's bytes, part by part from offset 0 until a part is empty, or there are more than `most` of them."""
+        got, slices = bytearray(), (data, zeros)
+        self.fetched += 1
+        while len(got) <= most:
+            a = {"slot": slot, "offset": len(got), "zeros": zeros}
+            _, (of_zeros, start, length, *_), _, _ = self.call(rng, "read", data, map, words, a)
+            self.parts += 1
+            if length == 0:
+                break
+            got += slices[of_zeros != 0][start : start + length]
+        return bytes(got)
 
 
 # ---- Comparison ---------------------------------------------------------------------------------------------------------------
@@ -219,6 +270,15 @@ def one_call(library, case, tried, theirs):
         found.append(f"volume: {len(at)} bytes differ: {first}")
     if given_map != map or changed:
         found.append(f"an argument that is only read was changed: {'map' if given_map != map else changed[0][:20]}")
+    if number == 0 and kind == "read" and not found and rng.random() < 0.6:
+        whole, zeros = tried.tape(tried.Volume(data, map, words), a["slot"]), a["zeros"]
+        if len(whole) > 200 * len(zeros):  # a file of many zeros, and few to show them by
+            zeros = bytes(len(whole) // 20)
+        fetched = library.fetch(rng, given, given_map, words, a["slot"], zeros, len(whole))
+        if fetched != whole:
+            found.append(f"tape: the model says {len(whole)} bytes, the library gave {len(fetched)}, or others")
+        if given != data or given_map != map:
+            found.append("fetching the file changed volume or map")
     if number == 0 and kind in ("allocate", "extend", "shrink") and not bent:
         case.made.append(expected[:4])
     return kind, number, cause, found, f"{kind}({told(a)}) on geometry {words}, {len(data)} bytes, map of {len(map)}"
@@ -249,7 +309,7 @@ def run(library, seed, calls, tried=model, first_only=False, case_only=None):
 
 
 def summary(counts):
-    kinds = {kind: " ".join(f"{n}:{counts[kind, n]}" for n in range(15) if counts[kind, n]) for kind in model.CALLS}
+    kinds = {kind: " ".join(f"{n}:{counts[kind, n]}" for n in range(16) if counts[kind, n]) for kind in model.CALLS}
     return "; ".join(f"{kind} {text}" for kind, text in kinds.items())
 
 
@@ -264,6 +324,8 @@ def honest(library, seed, calls, case_only=None, all_met=False):
     for kind, cause, number in missing:
         print(f"model: NOT TRIED: {kind} refused with {number} ({cause})")
     print(f"model: {done} calls on {volumes} volumes, seed {seed}, by number: {summary(counts)}; {len(differing)} differences")
+    if not differing:
+        print(f"model: {library.fetched} of the files read were fetched whole, in {library.parts} parts, and are their tapes")
     return not differing and not missing
 
 

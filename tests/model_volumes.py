@@ -39,12 +39,15 @@ def make_geometry(rng):
 
 
 def take_some(rng, free, count, together):
-    """Some clusters out of the free ones, as many as there are: in a row where that is asked and possible."""
+    """Some clusters out of the free ones, as many as there are: in a row where that is asked and possible; a row may be turned
+    round, or its end may come first."""
     count = min(count, len(free))
     starts = [k for k in sorted(free) if all(k + i in free for i in range(count))] if together else []
     if starts:
         first = rng.choice(starts)
         taken = list(range(first, first + count))
+        turn, cut = rng.random(), rng.randint(0, count)
+        taken = taken[::-1] if turn < 0.1 else taken[cut:] + taken[:cut] if turn < 0.25 else taken
     else:
         taken = rng.sample(sorted(free), count)
         if rng.random() < 0.4:

@@ -1,10 +1,12 @@
 #!/usr/bin/env python3
-"""Volumes that the library leaves, read by other programs: fsck.exfat, exfat-fuse, and sleuthkit's fls and icat.
+"""Volumes that the library leaves, read by other programs: fsck.exfat, exfat-fuse, and sleuthkit's fls and icat; and read back by
+the library itself, through `bittsalak cat`.
 
 readers.py LIBRARY TOOL [--first SEED] [--seeds N] [--keep FOLDER]
 LIBRARY is a shared library made of dist/libexfat.a. TOOL, the program bittsalak, formats some volumes and mkfs.exfat the others.
 On each a random list of calls runs, with a fixed seed; a plain table from slots to bytes says what the files must hold, and each
-program has to show exactly that. The known limits of these programs (FUSE_VALID and below) are allowed for, and nothing else.
+program has to show exactly that. The known limits of these programs (FUSE_VALID and below) are allowed for, and nothing else: from
+the valid length on exfat-fuse and icat show what the clusters hold, and `cat`, to which no limit is allowed, has to show zeros.
 --seeds N runs N lists on each kind of volume in place of one, from seed 1 or --first on; --keep leaves the images in a folder.
 """
 
@@ -35,8 +37,9 @@ class Unsound(Exception):
     """A call answered wrongly, or the script's own reading of an image failed."""
 
 
-# what a reader has to show of a file: name, bytes and modified time as the table has them, valid length and clusters from the image
-File = collections.namedtuple("File", "slot name data modified valid clusters")
+# what a reader has to show of a file: name, bytes and modified time as the table has them, valid length, clusters and whether the
+# FAT links them from the image
+File = collections.namedtuple("File", "slot name data modified valid clusters linked")
 
 
 class Volume:
@@ -118,7 +121,7 @@ class Volume:
             slot += entries
 
     def files(self):
-        """For each slot the units of the name, the valid length, the length and the clusters."""
+        """For each slot the units of the name, the valid length, the length, the clusters and whether the FAT links them."""
         found = {}
         for slot, bytes_ in self.sets():
             valid, first, length = *struct.unpack_from("<Q", bytes_, 40), *struct.unpack_from("<IQ", bytes_, 52)
@@ -127,8 +130,21 @@ class Volume:
             clusters = list(range(first, first + number)) if bytes_[33] & 2 else self.chain(first) if number else []
             if len(clusters) != number:
                 raise Unsound(f"the file at slot {slot} has {len(clusters)} clusters for {length} bytes")
-            found[slot] = struct.unpack_from(f"<{bytes_[35]}H", units), valid, length, clusters
+            linked = number > 0 and not bytes_[33] & 2
+            found[slot] = struct.unpack_from(f"<{bytes_[35]}H", units), valid, length, clusters, linked
         return found
+
+    def link_run(self, slot, clusters):
+        """Makes a chain of a run, as programs do that know no runs: the FAT links its clusters, and the flag is cleared."""
+        for k, next_ in zip(clusters, [*clusters[1:], END]):
+            for fat in range(self.fats):
+                struct.pack_into("<I", self.image, self.fat_at(k, fat), next_)
+        self.image[self.root_at(slot + 1) + 1] = 1
+        bytes_, sum_ = dict(self.sets())[slot], 0
+        for at, byte in enumerate(bytes_):
+            if at not in (2, 3):
+                sum_ = ((sum_ >> 1 | (sum_ & 1) << 15) + byte) & 0xFFFF
+        struct.pack_into("<H", self.image, self.root_at(slot) + 2, sum_)
 
     def stored(self, clusters):
         return b"".join(map(self.bytes_of, clusters))
@@ -372,7 +388,7 @@ class Lists:
         found = volume.files()
         if found.keys() != self.data.keys():
             raise Unsound("its files are at other slots")
-        for slot, (units, valid, length, clusters) in found.items():
+        for slot, (units, valid, length, clusters, linked) in found.items():
             data = bytes(self.data[slot])
             if units != self.names[slot] or length != len(data):
                 raise Unsound(f"the file at slot {slot} has another name or length")
@@ -380,7 +396,7 @@ class Lists:
                 raise Unsound(f"the file at slot {slot} has other contents")
             taken += clusters
             name = struct.pack(f"<{len(units)}H", *units).decode("utf-16-le").encode()
-            files.append(File(slot, name, data, self.modified[slot], valid, clusters))
+            files.append(File(slot, name, data, self.modified[slot], valid, clusters, linked))
         marks = sum(1 << k - 2 for k in set(taken))
         if len(set(taken)) != len(taken) or any(volume.bitmap(fat) != marks for fat in range(volume.fats)):
             raise Unsound("clusters and marks are not the same")
@@ -390,9 +406,9 @@ class Lists:
 class Tally(collections.Counter):
     """What was counted; and the faults, each with the image that shows it."""
 
-    def __init__(self):
+    def __init__(self, tool):
         super().__init__()
-        self.faults, self.image, self.answers = [], "", collections.Counter()
+        self.tool, self.faults, self.image, self.answers = tool, [], "", collections.Counter()
 
     def fault(self, text):
         self.faults.append(f"{self.image}: {text}")
@@ -553,6 +569,21 @@ def sleuthkit(path, volume, files, tally):
             shown("icat", ICAT_VALID, volume, file, got, tally)
 
 
+def cat(path, volume, files, tally):
+    for file in files:
+        status, got = run(tally.tool, "cat", path, f"@{file.slot}")
+        tally["cat"] += 1
+        if status or got != file.data:
+            tally.fault(f"bittsalak cat ends with status {status} and {len(got)} bytes at slot {file.slot}, not its {len(file.data)}")
+        tally["cat", "held"] += any(volume.stored(file.clusters)[file.valid : len(file.data)])
+        tally["cat", "pieces"] += file.linked and not rises(file)
+        tally["cat", "rising"] += file.linked and rises(file) and len(file.clusters) > 1
+
+
+def rises(file):
+    return file.clusters == [*range(file.clusters[0], file.clusters[0] + len(file.clusters))]
+
+
 CALLS = 600
 
 # who formats, bytes of a sector and of a cluster, FATs, MiB, the longest name, what is done to the fresh volume; a name of 225
@@ -635,7 +666,7 @@ def who_refuses_two(tool, path, programs):
     for fats in (1, 2):
         volume = fresh(tool, path, "bittsalak", 512, 4096, fats, 2, 0, "")
         for name, program in programs.items():
-            tally = Tally()
+            tally = Tally(tool)
             judge(path, volume, [], {name: program}, [], tally)
             if fats == 2 and any("unsupported FAT count" in fault for fault in tally.faults):
                 refuse.append(name)
@@ -647,12 +678,16 @@ def who_refuses_two(tool, path, programs):
 
 def damaged(volume):
     """Damaged images, and the programs that must notice."""
-    slot, (_, _, _, clusters) = max(volume.files().items(), key=lambda item: item[1][1])
+    slot, (_, _, _, clusters, _) = max(volume.files().items(), key=lambda item: item[1][1])
     content, name, mark = (Volume(bytearray(volume.image)) for _ in range(3))
     content.image[content.at(clusters[0])] ^= 1
     name.image[name.root_at(slot + 2) + 2] ^= 1
     mark.mark(clusters[-1], False)
-    return (content, ("exfat-fuse", "fls and icat")), (name, ("fsck.exfat", "fls and icat")), (mark, ("fsck.exfat",))
+    return (
+        (content, ("exfat-fuse", "fls and icat", "bittsalak cat")),
+        (name, ("fsck.exfat", "fls and icat", "bittsalak cat")),
+        (mark, ("fsck.exfat", "bittsalak cat")),
+    )
 
 
 def all_notice(path, volume, files, programs, tally):
@@ -660,7 +695,7 @@ def all_notice(path, volume, files, programs, tally):
     for number, (copy, names) in enumerate(damaged(volume)):
         for name in names:
             if name in programs:
-                scratch = Tally()
+                scratch = Tally(tally.tool)
                 judge(path, copy, files, {name: programs[name]}, [], scratch)
                 tally["noticed"] += 1
                 if not scratch.faults:
@@ -669,18 +704,23 @@ def all_notice(path, volume, files, programs, tally):
 
 
 def play(lists, path, programs, refuse_two, tally):
-    """A list of calls; the image is judged when the heap is full for the first time, and at the end."""
+    """A list of calls; the image is judged when the heap is full for the first time, and at the end with chains for half of the runs,
+    which no call makes."""
     for until_full in (True, False):
         for _ in range(CALLS):
             lists.step()
             if until_full and not lists.growing:
                 break
+        if not until_full:
+            runs = [file for file in lists.own_reading() if len(file.clusters) > 1 and not file.linked]
+            for file in runs[::2]:
+                lists.volume.link_run(file.slot, file.clusters)
         files = lists.own_reading()
         judge(path, lists.volume, files, programs, refuse_two, tally)
         tally["images"] += 1
         tally["full"] += 50 * lists.volume.free() < lists.volume.count
         tally["files"] += len(files)
-        tally["pieces"] += sum(file.clusters != [*range(file.clusters[0], file.clusters[-1] + 1)] for file in files if file.data)
+        tally["pieces"] += sum(not rises(file) for file in files if file.data)
     if not tally["noticed"]:
         all_notice(path, lists.volume, files, programs, tally)
 
@@ -737,6 +777,9 @@ def report(tally, refuse_two):
             tally.faults.append(f"no case met the limit: {limit}")
         elif tally[limit, "excused"] < tally[limit]:
             print(f"readers: not so in {tally[limit] - tally[limit, 'excused']} of {tally[limit]} cases: {limit}")
+    for kind in ("pieces", "rising", "held"):
+        if not tally["cat", kind]:
+            tally.faults.append(f"bittsalak cat met no file of this kind: {kind}")
     for fault in tally.faults:
         print(f"readers: {fault}")
     if tally.faults:
@@ -750,6 +793,11 @@ def report(tally, refuse_two):
         f"three-cluster set {tally[FSCK_THREE, 'excused']} images, root last {tally[FLS_LAST, 'excused']} images, "
         f"name of 128 units {tally[FLS_128, 'excused']} image"
     )
+    print(
+        f"readers: bittsalak cat gave {tally['cat']} files, each as it was written: {tally['cat', 'pieces']} in several pieces, "
+        f"{tally['cat', 'rising']} chains whose clusters rise by one, and zeros in {tally['cat', 'held']} whose clusters hold other "
+        "bytes above ValidDataLength"
+    )
     return 0
 
 
@@ -761,8 +809,9 @@ def main():
     words.add_argument("--seeds", type=int, default=1)
     words.add_argument("--keep")
     words = words.parse_args()
-    library, tally = ctypes.CDLL(words.library), Tally()
-    programs, kinds = {"fsck.exfat": fsck, "exfat-fuse": exfat_fuse, "fls and icat": sleuthkit}, KINDS
+    library, tally = ctypes.CDLL(words.library), Tally(words.tool)
+    programs = {"fsck.exfat": fsck, "exfat-fuse": exfat_fuse, "fls and icat": sleuthkit, "bittsalak cat": cat}
+    kinds = KINDS
     if os.environ.get("READERS_WITHOUT_MOUNT") == "1":
         del programs["exfat-fuse"]
         kinds = [kind for kind in KINDS if kind[:2] != ("mkfs.exfat", 4096)]

@@ -1,11 +1,12 @@
 #!/usr/bin/env python3
-"""docs/TRACE.md against the repository, and against 01 where that is at hand.
+"""docs/TRACE.md against the repository, and against 01 and 02 where they are at hand.
 
-A line of TRACE.md is  - "BEGINNING": `FILE: NAME`, `FILE`, ..  or  - "BEGINNING": demands nothing, REASON  under a heading of 01;
-a line for a clause inside a sentence is indented. Every file must be there and define the name, every must-fail edit and every
-public call must be cited, and the beginnings must be those of all sentences of 01, in its order. 01 is ../shared/docs/01-scope.md,
-or the file that EXFAT_SCOPE names. docs/CLAIM.md must have each clause of the claim over lists, with an edit of it. The C code of
-README.md must be a part of examples/firmware.c.
+A line of TRACE.md is  - "BEGINNING": `FILE: NAME`, `FILE`, ..  or  - "BEGINNING": demands nothing, REASON  under a heading of 01, or
+under one with the number and the title of a request of 02 that has landed (LANDED); a line for a clause inside a sentence is indented.
+Every file must be there and define the name, every must-fail edit and every public call must be cited, and the beginnings must be
+those of all sentences of 01 and then of these requests, in their order. 01 is ../shared/docs/01-scope.md, or the file that EXFAT_SCOPE
+names; 02 is ../shared/docs/02-change-requests.md, or the file that EXFAT_REQUESTS names. docs/CLAIM.md must have each clause of the
+claim over lists, with an edit of it. The C code of README.md must be a part of examples/firmware.c.
 """
 
 import functools
@@ -21,6 +22,8 @@ import verdict  # noqa: E402
 
 TRACE = pathlib.Path("docs/TRACE.md")
 SCOPE = pathlib.Path(os.environ.get("EXFAT_SCOPE", "../shared/docs/01-scope.md"))
+REQUESTS = pathlib.Path(os.environ.get("EXFAT_REQUESTS", "../shared/docs/02-change-requests.md"))
+LANDED = ("2027-01",)
 LINE = re.compile(r'(?P<inside>  )?- "(?P<quote>.+?)": (?P<answer>`.+|demands nothing, .+)')
 MARKS = r"(?:unfoldable |abbrev |pub )*"
 faults = []
@@ -116,8 +119,12 @@ def exported():
     return found
 
 
+def split(text):
+    return [plain(s) for s in re.split(r"(?<=\.)\s+", text)]
+
+
 def sentences():
-    """(heading, sentence) of 01: a row of a table is one, and its first cell comes first."""
+    """(heading, sentence) of 01, where a row of a table is one, and its first cell comes first; then of the requests."""
     heading, found = None, []
     for line in SCOPE.read_text(encoding="utf-8").splitlines():
         line = line.strip()
@@ -129,16 +136,20 @@ def sentences():
                 found.append((heading, cell))
         elif line:
             line = re.sub(r"^(?:- |\d+\. )", "", line)
-            found += [(heading, plain(s)) for s in re.split(r"(?<=\.)\s+", line)]
+            found += [(heading, s) for s in split(line)]
+    requests = REQUESTS.read_text(encoding="utf-8")
+    for number in LANDED:
+        title, text = re.search(r"^\*\*(%s .+?)\.\*\* (.+)$" % number, requests, re.M).groups()
+        found += [(title, s) for s in split(text)]
     return found
 
 
 def check_scope(lines):
-    """The lines are 01's sentences, none left out, in order, each under its heading; a clause stands in the sentence before it."""
+    """The lines are these sentences, none left out, in order, each under its heading; a clause stands in the sentence before it."""
     left, now, offset = sentences(), None, 0
     headings = list(dict.fromkeys(heading for heading, _ in left))
     if [heading for _, heading, _, quote, _ in lines if quote is None] != headings:
-        faults.append("TRACE.md does not have 01's headings in 01's order")
+        faults.append("TRACE.md does not have the documents' headings in their order")
     for at, heading, inside, quote, _ in lines:
         if quote is None:
             continue
@@ -148,15 +159,15 @@ def check_scope(lines):
         else:
             found = next((i for i, (_, s) in enumerate(left) if s.startswith(quote)), -1)
             for _, s in left[: max(found, 0)]:
-                faults.append('TRACE.md:%d: before it 01 has "%s"' % (at, s[:60]))
+                faults.append('TRACE.md:%d: before it the documents have "%s"' % (at, s[:60]))
             if found >= 0:
                 now, left, offset = left[found], left[found + 1 :], len(quote)
         if found < 0:
-            faults.append('TRACE.md:%d: 01 has no "%s" there' % (at, quote))
+            faults.append('TRACE.md:%d: the documents have no "%s" there' % (at, quote))
         elif now[0] != heading:
-            faults.append('TRACE.md:%d: "%s" stands under "%s" in 01' % (at, quote, now[0]))
-    for _, s in left:
-        faults.append('TRACE.md ends before 01\'s "%s"' % s[:60])
+            faults.append('TRACE.md:%d: "%s" stands under "%s" in the documents' % (at, quote, now[0]))
+    for heading, s in left:
+        faults.append('TRACE.md ends before "%s" of "%s"' % (s[:60], heading))
 
 
 def check_claim():
@@ -195,11 +206,12 @@ def main():
     count = sum(quote is not None and not inside for _, _, inside, quote, _ in lines)
     if count == 0:
         faults.append("TRACE.md has no sentence")
-    if SCOPE.is_file():
+    if SCOPE.is_file() and REQUESTS.is_file():
         check_scope(lines)
     else:
-        print("trace: NOT COMPARED WITH 01, which is not at %s (EXFAT_SCOPE names another file)" % SCOPE)
-        left_out.left_out("docs/TRACE.md was not compared with 01, which is not at %s" % SCOPE)
+        missing = ("01", SCOPE, "EXFAT_SCOPE") if not SCOPE.is_file() else ("02", REQUESTS, "EXFAT_REQUESTS")
+        print("trace: NOT COMPARED WITH %s, which is not at %s (%s names another file)" % missing)
+        left_out.left_out("docs/TRACE.md was not compared with %s, which is not at %s" % missing[:2])
     return verdict.verdict("trace", faults, "%d sentences, %d names, all there" % (count, len(cited)))
 
 

@@ -53,6 +53,12 @@ pub enum Call {
     Remove {
         file: usize,
     },
+    /// Of a part, whose length is known.
+    Read {
+        file: usize,
+        offset: u64,
+        length: usize,
+    },
     Allocate {
         count: u32,
     },

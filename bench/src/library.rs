@@ -4,6 +4,9 @@ use crate::calls::{Call, List, Shared, STAMP};
 use crate::limits::now;
 use exfat::Setting;
 
+/// As many zeros as a cluster has; each read tests them all.
+static ZEROS: [u8; 512] = [0; 512];
+
 /// What is kept between calls: the bytes, and what the calls gave.
 pub struct Side<'list> {
     list: &'list List,
@@ -70,6 +73,16 @@ impl<'list> Side<'list> {
             Call::Remove { file } => {
                 exfat::remove(volume, setting, self.slots[file], hint, &mut out)
             }
+            Call::Read {
+                file,
+                offset,
+                length,
+            } => {
+                let at = (self.slots[file], offset);
+                let part = exfat::read(volume, setting, &ZEROS, at, &mut out);
+                assert_eq!(part.len(), length, "the library gives another part");
+                0
+            }
             Call::Allocate { count } => {
                 exfat::allocate(volume, setting, count, None, hint, &mut out)
             }
@@ -87,6 +100,7 @@ impl<'list> Side<'list> {
                 self.hint = out[1];
             }
             Call::Write { .. } | Call::Remove { .. } => self.hint = out[0],
+            Call::Read { .. } => {}
             _ => {
                 self.record.copy_from_slice(&out[..4]);
                 self.hint = out[4];

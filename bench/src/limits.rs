@@ -3,6 +3,7 @@
 mod c {
     extern "C" {
         pub fn bench_walk(fat: *const u8, first: u32) -> u32;
+        pub fn bench_run(marks: *const u8, map: *const u8, length: usize) -> u32;
         pub fn bench_copy(to: *mut u8, from: *const u8, length: usize);
         pub fn bench_clear(bytes: *const u8, length: usize);
         pub fn bench_now() -> u64;
@@ -13,6 +14,13 @@ mod c {
 pub fn walk(fat: &[u8], first: u32) -> u32 {
     // SAFETY: the chains that are walked lie in the FAT and end.
     unsafe { c::bench_walk(fat.as_ptr(), first) }
+}
+
+/// Whether all bits of the marks are ones and all of the map zeros, looked at byte by byte.
+pub fn run(marks: &[u8], map: &[u8]) -> bool {
+    assert!(map.len() >= marks.len());
+    // SAFETY: the map has as many bytes as the marks.
+    unsafe { c::bench_run(marks.as_ptr(), map.as_ptr(), marks.len()) == 1 }
 }
 
 pub fn copy(to: &mut [u8], from: &[u8]) {

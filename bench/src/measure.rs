@@ -2,10 +2,9 @@
 
 use crate::calls::{shared, Call, List, Shared};
 use crate::library;
-use crate::limits::{clear, copy, now, walk};
+use crate::limits::{clear, copy, now, run, walk};
 #[cfg(rust_sources)]
 use crate::rust;
-#[cfg(rust_sources)]
 use crate::volume::same;
 use crate::workloads::{Limit, Workload};
 use exfat::bytes::u32_at;
@@ -128,6 +127,41 @@ fn run_walks(list: &List, data: &[u8], volume: &Shared) -> u64 {
     sum
 }
 
+/// For each part, a walk of the file's chain and nothing else.
+fn run_part_walks(list: &List, volume: &Shared, cold: bool) -> u64 {
+    let (first, chain) = stream_of(list, &volume.borrow(), list.files[0].slot);
+    assert!(chain, "a file with a chain is read");
+    let parts = |bytes: &[u8]| {
+        let fat = &bytes[list.volume.fat..list.volume.heap];
+        let start = now();
+        for _ in &list.calls {
+            assert!(walk(fat, first) >= 2);
+        }
+        now() - start
+    };
+    parts(&volume.borrow());
+    cool(cold, volume, &[]);
+    let bytes = &*volume.borrow();
+    parts(bytes)
+}
+
+/// For each part, the tests of the run's clusters whose bits fill bytes; at most 14 others are left out.
+fn run_tests(list: &List, volume: &Shared, first: u32, count: u32, cold: bool) -> u64 {
+    cool(cold, volume, &list.volume.map);
+    let bytes = &*volume.borrow();
+    let (from, to) = (
+        (first as usize - 2).div_ceil(8),
+        (first + count - 2) as usize / 8,
+    );
+    let marks = &bytes[list.volume.heap + from..list.volume.heap + to];
+    let map = &list.volume.map[from..to];
+    let start = now();
+    for _ in &list.calls {
+        assert!(run(marks, map));
+    }
+    now() - start
+}
+
 /// The first cluster of the file at a slot of the root's first cluster, and whether the FAT links its clusters.
 fn stream_of(list: &List, volume: &[u8], slot: u32) -> (u32, bool) {
     let at = list.volume.cluster_at(list.volume.geometry.root_cluster) + 32 * (slot as usize + 1);
@@ -181,6 +215,8 @@ pub fn measure(work: &Workload, data: &[u8], cold: bool, rounds: Rounds) -> Time
             "{title}: {side} leaves other bytes"
         );
     };
+    // The Rust's reader is not among its files.
+    let reads = matches!(list.calls[0], Call::Read { .. });
     let mut turns = [Turn::Library, Turn::Limit, Turn::OneMount, Turn::Fresh];
     for round in 0..more * rounds.all {
         for turn in turns {
@@ -191,19 +227,27 @@ pub fn measure(work: &Workload, data: &[u8], cold: bool, rounds: Rounds) -> Time
                 }
                 Turn::Limit => match work.limit {
                     Limit::None => {}
+                    Limit::Walk if reads => {
+                        times.limit.push(run_part_walks(list, &volume, cold));
+                    }
                     Limit::Walk => times.limit.push(run_walks(list, data, &volume)),
+                    Limit::Run { first, count } => {
+                        times
+                            .limit
+                            .push(run_tests(list, &volume, first, count, cold));
+                    }
                     Limit::Copy { first } => {
                         let at = list.volume.cluster_at(first);
                         times.limit.push(run_copy(at, data, &volume, cold));
                     }
                 },
                 #[cfg(rust_sources)]
-                Turn::OneMount => {
+                Turn::OneMount if !reads => {
                     times.warm.push(run_warm(work, data, &volume, cold));
                     held("the Rust on one mount");
                 }
                 #[cfg(rust_sources)]
-                Turn::Fresh if round < fresh => {
+                Turn::Fresh if !reads && round < fresh => {
                     times.fresh.push(run_fresh(work, data, &volume, cold));
                     held("the Rust, mounted anew,");
                 }

@@ -227,8 +227,13 @@ impl Volume {
 
     /// A file that fills the given clusters: a run where they follow each other, else a chain. Answers its slot.
     pub fn add_file(&mut self, name: &str, clusters: &[u32]) -> u32 {
-        self.take(clusters);
         let run = clusters.windows(2).all(|pair| pair[1] == pair[0] + 1);
+        self.add_stream(name, clusters, run)
+    }
+
+    /// The same, as a run or as a chain.
+    pub fn add_stream(&mut self, name: &str, clusters: &[u32], run: bool) -> u32 {
+        self.take(clusters);
         if !run {
             self.link(clusters);
         }

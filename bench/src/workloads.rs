@@ -11,8 +11,13 @@ const PIECE: usize = 4096;
 #[derive(Clone, Copy, PartialEq)]
 pub enum Limit {
     None,
-    /// Before each call, a walk of the file's chain as it then is.
+    /// Before each call, a walk of the file's chain as it then is; for a read, that alone.
     Walk,
+    /// For each read of a run, the marks and the system map of its clusters, byte by byte.
+    Run {
+        first: u32,
+        count: u32,
+    },
     /// A memory copy of the data into the heap, from the file's first cluster on.
     Copy {
         first: u32,
@@ -308,6 +313,68 @@ fn full_heap(data: &[u8]) -> [Workload; 2] {
     ]
 }
 
+/// How many clusters a file has that is read back.
+const READ: usize = 16_384;
+
+/// One file of 8 MiB in clusters of 512 bytes, read back in parts: from which of its clusters on, and how many each has. The Rust
+/// has no part in it, since its reader is not among the files.
+fn reads(title: &str, clusters: &[u32], run: bool, parts: &[(usize, usize)]) -> Workload {
+    let mut volume = Volume::new(0);
+    let slot = volume.add_stream("recording", clusters, run);
+    let read = |&(from, count): &(usize, usize)| Call::Read {
+        file: 0,
+        offset: 512 * from as u64,
+        length: 512 * count,
+    };
+    let calls = parts.iter().map(read).collect();
+    let limit = if run {
+        Limit::Run {
+            first: clusters[0],
+            count: clusters.len() as u32,
+        }
+    } else {
+        Limit::Walk
+    };
+    Workload {
+        limit,
+        most: Some(1.5),
+        repeated: !run,
+        ..plain(
+            format!("read back 16,384 clusters of 512 B, {title}"),
+            list(volume, vec![File::at("recording", slot)], calls),
+        )
+    }
+}
+
+fn all_reads(mut take: impl FnMut(Workload)) {
+    let volume = Volume::new(0);
+    let (first, end) = (volume.first_free, volume.end());
+    // Every other cluster, then some of those between: no two that follow each other in the stream do so in the heap.
+    let scattered: Vec<u32> = (first..end)
+        .step_by(2)
+        .chain((first + 1..end).step_by(2))
+        .take(READ)
+        .collect();
+    for (place, from) in [("first", 0), ("middle", READ / 2), ("last", READ - 1)] {
+        let title = format!("scattered: the part at the {place} cluster");
+        take(reads(&title, &scattered, false, &[(from, 1)]));
+    }
+    // 64 pieces of 256 clusters, and a cluster between each two.
+    let pieces: Vec<u32> = (0..READ as u32).map(|k| first + k + k / 256).collect();
+    let whole: Vec<(usize, usize)> = (0..64).map(|piece| (256 * piece, 256)).collect();
+    take(reads("64 pieces: all 64 parts", &pieces, false, &whole));
+    let together: Vec<u32> = (first..).take(READ).collect();
+    let title = "a chain that rises by one: the one part";
+    take(reads(title, &together, false, &[(0, READ)]));
+    // 1,000 times, since the clock would count beside one call.
+    take(reads(
+        "a run: the one part",
+        &together,
+        true,
+        &[(0, READ); 1000],
+    ));
+}
+
 /// Every workload in turn. Each is made only when its turn comes.
 pub fn all(data: &[u8], mut take: impl FnMut(Workload)) {
     take(appends("empty heap", Volume::new(3), Limit::None, data));
@@ -326,5 +393,6 @@ pub fn all(data: &[u8], mut take: impl FnMut(Workload)) {
     }
     take(random_writes(0, data));
     take(random_writes(3, data));
-    full_heap(data).into_iter().for_each(take);
+    full_heap(data).into_iter().for_each(&mut take);
+    all_reads(take);
 }

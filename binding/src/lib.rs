@@ -17,6 +17,9 @@ pub type Stamp = [u8; 6];
 /// What a call gives, then zeros.
 pub type Out = [u32; 8];
 
+/// A place in a file: its slot, and an offset or a length.
+pub type Place = (u32, u64);
+
 /// Geometry and system map, which every call takes.
 #[derive(Clone, Copy)]
 pub struct Setting<'a> {
@@ -33,9 +36,10 @@ pub struct NewFile<'a> {
     pub stamps: [Stamp; 3],
 }
 
-/// Declares each function with what every call takes, then its own arguments.
+/// Declares each function with what every call takes, then its own arguments
+/// and what it answers.
 macro_rules! foreign {
-    ($($name:ident($volume:ty $(, $argument:ident: $kind:ty)*);)*) => {
+    ($($name:ident($volume:ty $(, $argument:ident: $kind:ty)*) $(-> $answer:ty)?;)*) => {
         mod foreign {
             use super::{GeometryWords, Out, Record, Stamp};
 
@@ -47,27 +51,29 @@ macro_rules! foreign {
                     map_len: usize,
                     geometry: *const GeometryWords
                     $(, $argument: $kind)*
-                ) -> u32;)*
+                ) $(-> $answer)?;)*
             }
         }
     };
 }
 
 foreign! {
-    exfat_free_count(*const u8, out: *mut Out);
-    exfat_clusters(*const u8, allocation: *const Record, list: *mut u32, list_len: usize);
-    exfat_allocate(*mut u8, count: u32, has_near: u32, near: u32, hint: u32, out: *mut Out);
-    exfat_extend(*mut u8, allocation: *const Record, more: u32, hint: u32, out: *mut Out);
-    exfat_shrink(*mut u8, allocation: *const Record, keep: u32, hint: u32, out: *mut Out);
+    exfat_free_count(*const u8, out: *mut Out) -> u32;
+    exfat_clusters(*const u8, allocation: *const Record, list: *mut u32, list_len: usize) -> u32;
+    exfat_read_number(*const u8, zeros: *const u8, zeros_len: usize, slot: u32) -> u32;
+    exfat_read(*const u8, zeros: *const u8, zeros_len: usize, slot: u32, offset: u64, out: *mut Out);
+    exfat_allocate(*mut u8, count: u32, has_near: u32, near: u32, hint: u32, out: *mut Out) -> u32;
+    exfat_extend(*mut u8, allocation: *const Record, more: u32, hint: u32, out: *mut Out) -> u32;
+    exfat_shrink(*mut u8, allocation: *const Record, keep: u32, hint: u32, out: *mut Out) -> u32;
     exfat_new_file(
         *mut u8, name: *const u16, name_len: usize, attributes: u16, hash: u16, stamps: *const [Stamp; 3], hint: u32,
         out: *mut Out
-    );
+    ) -> u32;
     exfat_write(
         *mut u8, slot: u32, offset: u64, src: *const u8, src_len: usize, stamp: *const Stamp, hint: u32, out: *mut Out
-    );
-    exfat_set_length(*mut u8, slot: u32, length: u64, stamp: *const Stamp, hint: u32, out: *mut Out);
-    exfat_remove(*mut u8, slot: u32, hint: u32, out: *mut Out);
+    ) -> u32;
+    exfat_set_length(*mut u8, slot: u32, length: u64, stamp: *const Stamp, hint: u32, out: *mut Out) -> u32;
+    exfat_remove(*mut u8, slot: u32, hint: u32, out: *mut Out) -> u32;
 }
 
 /// Calls a function with what every call takes, then its own arguments.
@@ -84,13 +90,27 @@ macro_rules! call {
     };
 }
 
-/// Each call answers its number; 0 is success.
+/// Each call answers its number, 0 for success; but for the read of a part,
+/// whose number is a call of its own.
 pub fn free_count(vol: &[u8], setting: Setting, out: &mut Out) -> u32 {
     call!(exfat_free_count, vol, as_ptr, setting, out)
 }
 
 pub fn clusters(vol: &[u8], setting: Setting, record: &Record, list: &mut [u32]) -> u32 {
     call!(exfat_clusters, vol, as_ptr, setting, record, list.as_mut_ptr(), list.len())
+}
+
+pub fn read_number(vol: &[u8], setting: Setting, zeros: &[u8], slot: u32) -> u32 {
+    call!(exfat_read_number, vol, as_ptr, setting, zeros.as_ptr(), zeros.len(), slot)
+}
+
+/// The bytes of a file from an offset on that lie together, in the volume or in
+/// the zeros; none where the read is refused, and at or past the file's length.
+pub fn read<'a>(vol: &'a [u8], setting: Setting, zeros: &'a [u8], at: Place, out: &mut Out) -> &'a [u8] {
+    call!(exfat_read, vol, as_ptr, setting, zeros.as_ptr(), zeros.len(), at.0, at.1, out);
+    let (start, length) = (out[1] as usize, out[2] as usize);
+    let lent = if out[0] == 0 { vol } else { zeros };
+    &lent[start..start + length]
 }
 
 pub fn allocate(vol: &mut [u8], setting: Setting, count: u32, near: Option<u32>, hint: u32, out: &mut Out) -> u32 {
@@ -110,9 +130,6 @@ pub fn new_file(vol: &mut [u8], setting: Setting, file: &NewFile, hint: u32, out
     let NewFile { name, attributes, hash, stamps } = file;
     call!(exfat_new_file, vol, as_mut_ptr, setting, name.as_ptr(), name.len(), *attributes, *hash, stamps, hint, out)
 }
-
-/// A place in a file: its slot, and an offset or a length.
-pub type Place = (u32, u64);
 
 pub fn write(vol: &mut [u8], setting: Setting, at: Place, data: &[u8], stamp: &Stamp, hint: u32, out: &mut Out) -> u32 {
     call!(exfat_write, vol, as_mut_ptr, setting, at.0, at.1, data.as_ptr(), data.len(), stamp, hint, out)

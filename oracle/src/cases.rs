@@ -6,12 +6,14 @@ use crate::calls::{Call, Data};
 use crate::compare::{timed, Mode, Outcome, Pair};
 use crate::entries::{self, StreamFields};
 use crate::maker::{put_boot_regions, Health, Volume};
+use crate::reads::Found;
 use crate::rng::Rng;
 use crate::sides::Theirs;
 use crate::subject::{NewFile, Subject};
 use crate::view::Record;
 use exfat::bytes::{put32, set_bit, FAT_BAD, FAT_END};
 use exfat::Geometry;
+use original::Error;
 
 /// What the original does in a case.
 #[derive(Clone, Copy, Debug, PartialEq, Eq)]
@@ -394,9 +396,8 @@ fn cache_cases() -> Vec<Case> {
     vec![first, second, third]
 }
 
-fn other_cases() -> Vec<Case> {
-    let mut cases = inactive_bitmap_cases();
-
+/// An empty file whose set has one more entry behind its name.
+fn extra_secondary() -> (Bench, u32) {
     let mut bench = Bench::new(1);
     let mut set = bench.set("a", 0, 0, 1, 0x20);
     set[1] += 1;
@@ -404,6 +405,13 @@ fn other_cases() -> Vec<Case> {
     set.resize(set.len() + 31, 0);
     entries::seal(&mut set);
     let slot = bench.put_set(&set);
+    (bench, slot)
+}
+
+fn other_cases() -> Vec<Case> {
+    let mut cases = inactive_bitmap_cases();
+
+    let (bench, slot) = extra_secondary();
     let title = "2. a set with a further benign secondary";
     cases.push(case(
         title,
@@ -682,9 +690,95 @@ fn seen(outcome: &Outcome) -> Rust {
     }
 }
 
+/// A file read, the library's number, and how the original's reader of volumes
+/// refuses it, if it does.
+struct ReadCase {
+    title: &'static str,
+    volume: Volume,
+    slot: u32,
+    number: u32,
+    refusal: Option<&'static str>,
+}
+
+fn read_cases() -> Vec<ReadCase> {
+    // A chain of two pieces: nothing differs.
+    let mut bench = Bench::for_trials();
+    for (cluster, next) in [(4, 5), (5, 9), (9, FAT_END)] {
+        bench.mark(cluster);
+        bench.fat(cluster, next);
+    }
+    let set = bench.set("a", 4, 1300, 1, 0x20);
+    let slot = bench.put_set(&set);
+    let mut cases = vec![ReadCase {
+        title: "a file read back",
+        volume: bench.volume(),
+        slot,
+        number: 0,
+        refusal: None,
+    }];
+
+    let mut bench = Bench::new(2);
+    let slot = bench.run_file("a", 3, 1);
+    cases.push(ReadCase {
+        title: "1. the bitmap of the FAT that is not active, read",
+        volume: bench.volume(),
+        slot,
+        number: 9,
+        refusal: None,
+    });
+
+    let (bench, slot) = extra_secondary();
+    cases.push(ReadCase {
+        title: "2. a set with a further benign secondary, read",
+        volume: bench.volume(),
+        slot,
+        number: 10,
+        refusal: None,
+    });
+
+    let mut bench = Bench::new(1);
+    bench.mark(5);
+    bench.fat(5, 6);
+    bench.fat(6, FAT_END);
+    let set = bench.set("a", 5, 512, 1, 0x20);
+    let slot = bench.put_set(&set);
+    cases.push(ReadCase {
+        title: "13. a chain of another length with a cluster that is not marked, read",
+        volume: bench.volume(),
+        slot,
+        number: 5,
+        refusal: Some("chain uses a free cluster"),
+    });
+    cases
+}
+
+fn print_reads(subject: &dyn Subject) -> u32 {
+    let mut wrong = 0;
+    for case in read_cases() {
+        let mut pair = Pair::new(subject, &case.volume, Mode::Fresh);
+        let reading = pair.read(case.slot, 512, &mut Rng::new(7));
+        let rust = match (&reading.found, case.refusal) {
+            (Found::Opened(_), None) => true,
+            (Found::Refused(Error::Invalid(text)), Some(refusal)) => *text == refusal,
+            _ => false,
+        };
+        // Where the library accepts, the parts have to agree too.
+        let agrees = case.number != 0 || reading.wrong.is_none();
+        let as_told = rust && agrees && reading.number == case.number;
+        wrong += u32::from(!as_told);
+        let verdict = if as_told { "as told" } else { "NOT AS TOLD" };
+        println!("{verdict} [--] {}", case.title);
+        println!(
+            "    ours {}; the original: {:?}",
+            reading.number, reading.found
+        );
+    }
+    wrong
+}
+
 /// Prints every case; the answer is how many are not as told.
 pub fn print(subject: &dyn Subject) -> u32 {
-    let mut wrong = 0;
+    let mut wrong = print_reads(subject);
     let mut cases = trials();
     cases.extend(listed_cases());
     cases.extend(other_cases());

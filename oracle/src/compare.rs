@@ -4,6 +4,7 @@ use crate::boundary;
 use crate::calls::{Call, Chooser, Kinds, Step, KINDS};
 use crate::differences::{explain, in_inactive_bitmap, Difference};
 use crate::maker::{self, Health, Size, Volume};
+use crate::reads::{self, Found, Parts, Reading};
 use crate::rng::Rng;
 use crate::sides::{call_original, call_subject, numbers, root_numbers};
 use crate::sides::{Numbers, Ours, Theirs};
@@ -45,6 +46,11 @@ pub struct Tally {
     pub cut_short: u64,
     /// Refusals before which the original had written.
     pub wrote_first: u64,
+    /// Reads of files by the library's number, their parts, and how they
+    /// differ.
+    pub reads: [u64; 16],
+    pub parts: Parts,
+    pub read_differences: BTreeMap<Difference, (u64, String)>,
     /// How many volumes are of a shape, by what is told of it.
     pub shapes: BTreeMap<String, u64>,
 }
@@ -188,6 +194,48 @@ impl<'run> Pair<'run> {
             theirs,
             wrong,
             wrote_first,
+        }
+    }
+
+    /// Reads the file at a slot on both sides, as the volume is.
+    pub fn read(&mut self, slot: u32, zeros: usize, rng: &mut Rng) -> Reading {
+        self.device.begin();
+        let found = match self.mount(2) {
+            Err(error) => Found::NotMounted(error),
+            Ok(()) => match self.mount.as_ref().expect("mounted above").open(slot) {
+                Ok(opened) => Found::Opened(opened),
+                Err(error) => Found::Refused(error),
+            },
+        };
+        let zeros = vec![0; zeros];
+        let mut side = reads::Side {
+            subject: self.subject,
+            volume: &mut self.ours,
+            map: &self.map,
+            geometry: self.volume.geometry,
+        };
+        let number = side.number(&zeros, slot);
+        let parts = match (&found, &self.mount) {
+            (Found::Opened(file), Some(mount)) if number == 0 => {
+                let theirs = self.device.bytes();
+                side.accepted(mount, &theirs, file, &zeros, slot, rng)
+            }
+            _ if number == 0 => Err("the library accepts".to_string()),
+            _ => side.refused(&zeros, slot, rng).map(|()| Parts::default()),
+        };
+        let allowed = match &found {
+            Found::Opened(_) => Numbers::One(0),
+            Found::Refused(error) => reads::numbers(error),
+            Found::NotMounted(error) => self.mount_numbers(error),
+        };
+        let other = (!allowed.allow(number)).then(|| "the numbers differ".to_string());
+        Reading {
+            slot,
+            zeros: zeros.len(),
+            number,
+            found,
+            wrong: other.or(parts.as_ref().err().cloned()),
+            parts: parts.unwrap_or_default(),
         }
     }
 
@@ -364,6 +412,7 @@ impl Run<'_> {
         place: &Place,
         honest: bool,
     ) -> Option<Outcome> {
+        self.make_read(pair, place, honest);
         let outcome = pair.step(step);
         if self.options.only.is_some() {
             let (number, theirs) = (outcome.ours.number, &outcome.theirs);
@@ -384,6 +433,75 @@ impl Run<'_> {
             self.difference(pair, step, place, &outcome, wrong, honest);
         }
         Some(outcome)
+    }
+
+    /// A read on the volume as the calls before left it, with its
+    /// bookkeeping. It has random numbers of its own, so that a seed gives the
+    /// same calls with it and without.
+    fn make_read(&mut self, pair: &mut Pair, place: &Place, honest: bool) {
+        let seed = self.options.seed ^ (place.step << 32);
+        let mut rng = Rng::for_volume(seed, !place.volume);
+        let slot = reads::slot(pair.view(), pair.volume.health, &mut rng);
+        let zeros = reads::zeros(pair.volume.geometry, &mut rng);
+        let reading = pair.read(slot, zeros, &mut rng);
+        if self.options.only.is_some() {
+            println!(
+                "{:4} read {slot}, {zeros} zeros: {} {:?}",
+                place.step, reading.number, reading.parts
+            );
+        }
+        let should_mount = matches!(pair.volume.health, Health::Tidy | Health::Streams);
+        if should_mount && matches!(reading.found, Found::NotMounted(_)) {
+            // The call that follows tells it.
+            return;
+        }
+        self.tally.reads[reading.number.min(15) as usize] += 1;
+        self.tally.parts.add(reading.parts);
+        if reading.wrong.is_some() {
+            self.read_differs(pair, place, reading, honest, &mut rng);
+        }
+    }
+
+    /// Names the cause of a difference between reads, or reports it.
+    fn read_differs(
+        &mut self,
+        pair: &mut Pair,
+        place: &Place,
+        reading: Reading,
+        honest: bool,
+        rng: &mut Rng,
+    ) {
+        let mut cause = reads::explain(pair.view(), pair.volume, &reading);
+        if cause.is_none() && pair.mode == Mode::List && !honest {
+            cause = live_read_cause(pair, &reading, rng);
+        }
+        let text = format!(
+            "volume {} before step {}: read {}, {} zeros: ours {}, theirs {:?}",
+            place.volume, place.step, reading.slot, reading.zeros, reading.number, reading.found
+        );
+        if let Some(cause) = cause {
+            let known = &mut self.tally.read_differences;
+            known.entry(cause).or_insert((0, text)).0 += 1;
+            return;
+        }
+        self.tally.unexplained += 1;
+        if self.tally.unexplained <= 20 {
+            println!("DIFFERENCE: {}", reading.wrong.unwrap_or_default());
+            println!("  {text}");
+            println!("  {}", self.repeat(place));
+        }
+    }
+
+    /// The words that repeat a volume.
+    fn repeat(&self, place: &Place) -> String {
+        let options = self.options;
+        format!(
+            "repeat: --seed {} --kinds {} --mode {} --only {}",
+            options.seed,
+            kinds_word(options.kinds),
+            mode_word(options.mode),
+            place.volume
+        )
     }
 
     /// A list of calls can leave a root that the original will not parse, but
@@ -453,15 +571,8 @@ impl Run<'_> {
         if self.tally.unexplained > 20 {
             return;
         }
-        let options = self.options;
         println!("DIFFERENCE: {wrong}");
-        println!(
-            "  repeat: --seed {} --kinds {} --mode {} --only {}",
-            options.seed,
-            kinds_word(options.kinds),
-            mode_word(options.mode),
-            place.volume
-        );
+        println!("  {}", self.repeat(place));
         println!(
             "  step {} of volume {}, {:?}",
             place.step, place.volume, pair.volume.health
@@ -482,6 +593,23 @@ fn live_cause(pair: &Pair, step: &Step, fresh: &Outcome) -> Option<Difference> {
     let known = || explain(pair.view(), pair.volume, step, &fresh.ours, &fresh.theirs);
     let agrees = fresh.wrong.is_none() || known().is_some();
     agrees.then_some(Difference::LiveCaches)
+}
+
+/// The same for a read. The list goes on with the mount that it has.
+fn live_read_cause(pair: &mut Pair, reading: &Reading, rng: &mut Rng) -> Option<Difference> {
+    let (mount, map) = (pair.mount.take(), pair.map.clone());
+    let fresh = pair.read(reading.slot, reading.zeros, rng);
+    let known = || reads::explain(pair.view(), pair.volume, &fresh);
+    let cause = if matches!(fresh.found, Found::NotMounted(_)) {
+        Some(Difference::LiveMount)
+    } else {
+        let agrees = fresh.wrong.is_none() || known().is_some();
+        agrees.then_some(Difference::LiveCaches)
+    };
+    pair.mount = mount;
+    pair.map = map;
+    pair.device.roll_back();
+    cause
 }
 
 /// The same step on a fresh mount; both sides are put back after it.
@@ -577,20 +705,36 @@ fn differing_places(ours: &[u8], theirs: &[u8]) -> String {
     places.join(", ")
 }
 
+/// How often a call was made, and how often with each number.
+fn print_numbers(kind: &str, numbers: &[u64; 16]) {
+    let total: u64 = numbers.iter().sum();
+    if total == 0 {
+        return;
+    }
+    let by_number: Vec<String> = (0..16)
+        .filter(|number| numbers[*number] > 0)
+        .map(|number| format!("{number}: {}", numbers[number]))
+        .collect();
+    println!("  {kind:10} {total:8}   {}", by_number.join(", "));
+}
+
 impl Tally {
     pub fn print(&self) {
         println!("{} calls on {} volumes", self.calls, self.volumes);
         for (kind, numbers) in KINDS.iter().zip(&self.numbers) {
-            let total: u64 = numbers.iter().sum();
-            if total == 0 {
-                continue;
-            }
-            let by_number: Vec<String> = (0..16)
-                .filter(|number| numbers[*number] > 0)
-                .map(|number| format!("{number}: {}", numbers[number]))
-                .collect();
-            println!("  {kind:10} {total:8}   {}", by_number.join(", "));
+            print_numbers(kind, numbers);
         }
+        print_numbers("read", &self.reads);
+        let Parts {
+            of_volume,
+            of_zeros,
+            whole,
+        } = self.parts;
+        println!(
+            "  {:10} {:8}   of the volume: {of_volume}, of the zeros: {of_zeros}; files read whole: {whole}",
+            "parts",
+            of_volume + of_zeros
+        );
         println!("volumes by shape:");
         for (shape, count) in &self.shapes {
             println!("  {count:6} {shape}");
@@ -606,6 +750,12 @@ impl Tally {
         );
         for (cause, (count, first)) in &self.differences {
             println!("  explained, {}: {count}\n    first: {first}", cause.text());
+        }
+        for (cause, (count, first)) in &self.read_differences {
+            println!(
+                "  explained in reads, {}: {count}\n    first: {first}",
+                cause.text()
+            );
         }
         println!("unexplained differences: {}", self.unexplained);
     }

@@ -20,6 +20,8 @@ mod entries;
 #[cfg(rust_sources)]
 mod maker;
 #[cfg(rust_sources)]
+mod reads;
+#[cfg(rust_sources)]
 mod rng;
 #[cfg(rust_sources)]
 mod sample;

@@ -27,6 +27,18 @@ pub trait Subject {
         -> (u32, u32);
     fn set_length(&self, lent: Lent, at: (u32, u64), stamp: Stamp, hint: u32) -> (u32, u32);
     fn remove(&self, lent: Lent, slot: u32, hint: u32) -> (u32, u32);
+    fn read_number(&self, lent: Lent, zeros: &[u8], slot: u32) -> u32;
+    /// The part, if `out` is set as the boundary says.
+    fn read(&self, lent: Lent, zeros: &[u8], at: (u32, u64)) -> Option<Part>;
+}
+
+/// A part of a file: whether it is of the zeros, else of the volume; its first
+/// byte there, and how many it has.
+#[derive(Clone, Copy, Debug, Default, PartialEq, Eq)]
+pub struct Part {
+    pub of_zeros: bool,
+    pub start: u64,
+    pub length: u64,
 }
 
 /// What a new file is given.
@@ -205,5 +217,22 @@ impl Subject for Library {
         let (words, mut out) = (lent.geometry.words(), OUT);
         let number = exfat::remove(lent.volume, setting(lent.map, &words), slot, hint, &mut out);
         (checked(number, &out, 1), out[0])
+    }
+
+    fn read_number(&self, lent: Lent, zeros: &[u8], slot: u32) -> u32 {
+        let words = lent.geometry.words();
+        exfat::read_number(lent.volume, setting(lent.map, &words), zeros, slot)
+    }
+
+    fn read(&self, lent: Lent, zeros: &[u8], at: (u32, u64)) -> Option<Part> {
+        let (words, mut out) = (lent.geometry.words(), OUT);
+        exfat::read(lent.volume, setting(lent.map, &words), zeros, at, &mut out);
+        let part = Part {
+            of_zeros: out[0] != 0,
+            start: out[1].into(),
+            length: out[2].into(),
+        };
+        let as_told = out[0] <= 1 && checked(0, &out, 3) == 0;
+        as_told.then_some(part)
     }
 }

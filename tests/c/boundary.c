@@ -1,11 +1,12 @@
 /*
  * The library through its header, as a C program sees it: each call once with good arguments and once with bad ones. A line
- * for each check. The volume is that of 01's trials; the good calls are T2, T8 and T9, and a file that is made, written, made
- * longer and shorter, and removed.
+ * for each check. The volume is that of 01's trials; the good calls are T2, T8 and T9, a file that is made, written, made
+ * longer and shorter, and removed, and files that are read back where they lie. It is valid C++ as well (tests/boundary).
  */
 #include <stdio.h>
 #include <string.h>
 
+#include "boundary.h"
 #include "exfat.h"
 
 #define SECTOR 512
@@ -272,6 +273,112 @@ static void files(void)
     check("remove again: 10", number == 10 && out_is(9, 0, 0, 0, 0) && volume_is_expected());
 }
 
+/* ---- reading back: a file at slot 0, its bytes where they lie */
+
+#define CLUSTER_AT(k) (HEAP_AT + ((k) - 2) * SECTOR)
+#define ZEROS 16
+#define READ volume, VOLUME_BYTES, map, MAP_BYTES, geometry, zeros, ZEROS
+
+static uint8_t zeros[ZEROS];
+
+/* A volume with file "a"; no byte of clusters 4 and up is 0, and no two neighbours are alike. */
+static void make_file(uint8_t marks, uint8_t flags, uint32_t first, uint32_t length, uint32_t valid)
+{
+    make_volume(marks);
+    put_set(0, flags, first, length, valid);
+    for (int i = CLUSTER_AT(4); i < VOLUME_BYTES; i++)
+        expected[i] = (uint8_t)(1 + i % 251);
+    memcpy(volume, expected, VOLUME_BYTES);
+    memset(zeros, 0, ZEROS);
+}
+
+static int all_kept(void)
+{
+    for (int i = 0; i < ZEROS; i++)
+        if (zeros[i])
+            return 0;
+    return volume_is_expected();
+}
+
+/* The part at an offset: its words, and the same from the helper as a pointer, here and in the program's other file. */
+static int part_is(uint64_t offset, uint32_t of_zeros, uint32_t start, uint32_t length)
+{
+    spoil_out();
+    exfat_read(READ, 0, offset, out);
+    int words = out_is(of_zeros, start, length, 0, 0);
+    const struct exfat_part part = exfat_read_part(READ, 0, offset);
+    const struct exfat_part other = part_elsewhere(READ, 0, offset);
+    const uint8_t *from = of_zeros ? zeros : volume + start;
+    return words && part.start == from && part.length == length && other.start == from && other.length == length && all_kept();
+}
+
+/* What a slot other than 0, or other zeros, are refused with; the part is empty then. */
+static int refused_with(uint32_t number, const uint8_t *some, size_t some_len, uint32_t slot)
+{
+    spoil_out();
+    exfat_read(volume, VOLUME_BYTES, map, MAP_BYTES, geometry, some, some_len, slot, 0, out);
+    return exfat_read_number(volume, VOLUME_BYTES, map, MAP_BYTES, geometry, some, some_len, slot) == number &&
+           out_is(0, 0, 0, 0, 0) && all_kept();
+}
+
+static void reading(void)
+{
+    static uint8_t tape[1300], fetched[sizeof tape];
+    uint8_t other[3] = {0, 0, 1};
+    uint32_t bad[EXFAT_GEOMETRY_WORDS];
+    size_t taken = 0;
+
+    make_file(0x1F, 3, 4, 1300, 1300);
+    check("read number of a run: 0", exfat_read_number(READ, 0) == 0 && all_kept());
+    check("read a run at 100: its 1,200 bytes, over two borders", part_is(100, 0, CLUSTER_AT(4) + 100, 1200));
+    check("read its last byte", part_is(1299, 0, CLUSTER_AT(6) + 275, 1));
+    check("read at the length: an empty part", part_is(1300, 0, 0, 0));
+    check("read at 2^32 and 2^64 - 1: an empty part", part_is((uint64_t)1 << 32, 0, 0, 0) && part_is(UINT64_MAX, 0, 0, 0));
+
+    make_file(0x8F, 1, 4, 1400, 1400);
+    put_fat(volume, 4, 5);
+    put_fat(volume, 5, 9);
+    put_fat(volume, 9, END);
+    memcpy(expected, volume, VOLUME_BYTES);
+    check("read the chain 4, 5, 9 at 100: 924 bytes", part_is(100, 0, CLUSTER_AT(4) + 100, 924));
+    check("read it at 1,024: 376 bytes of cluster 9", part_is(1024, 0, CLUSTER_AT(9), 376));
+
+    make_file(0xE3, 1, 9, 1300, 700);
+    put_fat(volume, 9, 8);
+    put_fat(volume, 8, 7);
+    put_fat(volume, 7, END);
+    memcpy(expected, volume, VOLUME_BYTES);
+    check("read the chain 9, 8, 7 at 0: its first cluster", part_is(0, 0, CLUSTER_AT(9), 512));
+    check("read below the valid length 700: up to it", part_is(512, 0, CLUSTER_AT(8), 188));
+    check("read at the valid length: all zeros that were lent", part_is(700, 1, 0, ZEROS));
+    check("read 5 bytes before the length: 5 zeros", part_is(1295, 1, 0, 5));
+    memcpy(tape, volume + CLUSTER_AT(9), 512);
+    memcpy(tape + 512, volume + CLUSTER_AT(8), 188);
+    struct exfat_part part = exfat_read_part(READ, 0, 0);
+    while (part.length && part.length <= sizeof tape - taken) {
+        memcpy(fetched + taken, part.start, part.length);
+        taken += part.length;
+        part = exfat_read_part(READ, 0, taken);
+    }
+    check("parts one after another, until one is empty, are the file",
+          part.length == 0 && taken == sizeof tape && memcmp(fetched, tape, sizeof tape) == 0 && all_kept());
+
+    /* what is only read may overlap: the boot region of this volume is all 0 */
+    part = exfat_read_part(volume, VOLUME_BYTES, map, MAP_BYTES, geometry, volume, SECTOR, 0, 700);
+    check("read with zeros that are a part of the volume", part.start == volume && part.length == SECTOR && all_kept());
+
+    check("read with no zeros: 15, and no part", refused_with(EXFAT_ZEROS_REFUSED, zeros, 0, 0));
+    check("read with a last byte of 1 in the zeros: 15", refused_with(EXFAT_ZEROS_REFUSED, other, 3, 0) && other[2] == 1);
+    check("read at a slot with no file entry: 10", refused_with(EXFAT_NO_FILE, zeros, ZEROS, 1));
+    check("15 before 10", refused_with(EXFAT_ZEROS_REFUSED, other, 3, 1));
+
+    memcpy(bad, geometry, sizeof bad);
+    bad[0] = 8;
+    spoil_out();
+    exfat_read(volume, VOLUME_BYTES, map, MAP_BYTES, bad, zeros, 0, 0, 0, out);
+    check("1 before 15", exfat_read_number(volume, VOLUME_BYTES, map, MAP_BYTES, bad, zeros, 0, 0) == 1 && out_is(0, 0, 0, 0, 0));
+}
+
 int main(void)
 {
     free_count();
@@ -280,6 +387,7 @@ int main(void)
     extend();
     shrink();
     files();
+    reading();
     if (failed)
         printf("boundary: FAILED, %d checks\n", failed);
     return failed != 0;

@@ -152,7 +152,7 @@ pub fn replay(mut args: Args, out: &mut Vec<u8>) -> Outcome<()> {
         out.extend(done.lines.as_bytes());
     }
     if let Some(path) = csv {
-        files::write(&path, done.csv.as_bytes())?;
+        files::write(&path, [done.csv.as_bytes()])?;
     }
     if let Some(words) = done.inconsistent {
         return refused(words);

@@ -70,7 +70,7 @@ may be DATA, and never fits either.",
         words: "IMAGE FILE [TO] [--force]",
         does: "show a file's contents",
         help: "To the standard output, or into the file TO. A file that is there already is replaced only with --force, and the
-image never. Bytes from the valid length on are zeros.",
+image never. The library reads it, part by part from where it lies; bytes from the valid length on are zeros.",
         run: views::cat,
     },
     Command {

@@ -56,18 +56,26 @@ pub fn may_write(path: &str, image: &str, replace: bool) -> Outcome<()> {
     Ok(())
 }
 
-pub fn write(path: &str, bytes: &[u8]) -> Outcome<()> {
-    fs::write(path, bytes).map_err(|error| Failure::Output(format!("{path}: cannot write: {error}")))
+/// Writes parts into a file, one behind the other.
+pub fn write<'a>(path: &str, parts: impl IntoIterator<Item = &'a [u8]>) -> Outcome<()> {
+    let written = File::create(path).and_then(|mut file| write_parts(&mut file, parts));
+    written.map_err(|error| Failure::Output(format!("{path}: cannot write: {error}")))
 }
 
-/// Shows what a command says. A reader that has gone away wants no more;
-/// every other error loses what was said.
-pub fn show(bytes: &[u8]) -> Outcome<()> {
-    let mut output = io::stdout();
-    match output.write_all(bytes).and_then(|()| output.flush()) {
+/// Shows what a command says, in parts. A reader that has gone away wants no
+/// more; every other error loses what was said.
+pub fn show<'a>(parts: impl IntoIterator<Item = &'a [u8]>) -> Outcome<()> {
+    match write_parts(&mut io::stdout(), parts) {
         Err(error) if error.kind() != io::ErrorKind::BrokenPipe => {
             Err(Failure::Output(format!("the standard output: cannot write: {error}")))
         }
         _ => Ok(()),
     }
+}
+
+fn write_parts<'a>(output: &mut impl Write, parts: impl IntoIterator<Item = &'a [u8]>) -> io::Result<()> {
+    for part in parts {
+        output.write_all(part)?;
+    }
+    output.flush()
 }

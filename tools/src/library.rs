@@ -27,6 +27,7 @@ impl Number {
             12 => "the name is refused",
             13 => "an attribute outside 0x27",
             14 => "the list is shorter than the stream",
+            15 => "the zero slice is empty or holds another byte",
             _ => "unknown",
         }
     }
@@ -61,6 +62,30 @@ pub fn clusters(vol: &[u8], setting: Setting, stream: Allocation) -> Result<Vec<
     let mut list = vec![0; stream.count as usize];
     match Number(exfat::clusters(vol, setting, &record, &mut list)) {
         Number::DONE => Ok(list),
+        number => Err(number),
+    }
+}
+
+/// A cluster of the usual size: from the valid length on a file's parts are of
+/// these.
+static ZEROS: [u8; 4096] = [0; 4096];
+
+/// A file's contents as they lie in the volume, part by part; or what refuses
+/// the read.
+pub fn contents<'a>(
+    vol: &'a [u8],
+    setting: Setting<'a>,
+    slot: u32,
+) -> Result<impl Iterator<Item = &'a [u8]> + 'a, Number> {
+    match Number(exfat::read_number(vol, setting, &ZEROS, slot)) {
+        Number::DONE => {
+            let mut offset = 0;
+            Ok(std::iter::from_fn(move || {
+                let part = exfat::read(vol, setting, &ZEROS, (slot, offset), &mut [0; 8]);
+                offset += part.len() as u64;
+                (!part.is_empty()).then_some(part)
+            }))
+        }
         number => Err(number),
     }
 }

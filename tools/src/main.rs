@@ -42,7 +42,7 @@ fn main() -> ExitCode {
     let mut out = Vec::new();
     let result = run(&mut out);
     // Output that is lost outweighs what the command came to.
-    match files::show(&out).and(result) {
+    match files::show([&out[..]]).and(result) {
         Ok(()) => ExitCode::SUCCESS,
         Err(failure) => {
             // The status tells it too, where nobody can be told in words.

@@ -90,7 +90,8 @@ fn attributes(bits: u16) -> String {
     shown.iter().collect()
 }
 
-pub fn cat(mut args: Args, out: &mut Vec<u8>) -> Outcome<()> {
+/// Its output is not collected: each part goes out as the volume holds it.
+pub fn cat(mut args: Args, _: &mut Vec<u8>) -> Outcome<()> {
     let force = args.flag("--force");
     let words = args.words(&["IMAGE", "FILE", "[TO]"])?;
     let volume = Volume::open(&words[0])?;
@@ -100,20 +101,11 @@ pub fn cat(mut args: Args, out: &mut Vec<u8>) -> Outcome<()> {
     let target = Target::parse(&words[1]);
     let slot = target.slot(&volume).map_err(Failure::Usage)?;
     let told = |number: Number| Failure::Refused(format!("cat {target}: {number}"));
-    let mut files = volume.sound_files().into_iter();
-    let file = files.find(|file| file.slot == slot).ok_or_else(|| told(Number(10)))?;
-    if file.is_directory() {
-        return Err(told(Number(11)));
-    }
-    let clusters = volume.clusters(&file).map_err(told)?;
-    let mut contents = volume.contents(&clusters);
-    contents.truncate(file.length as usize);
-    contents[file.valid as usize..].fill(0);
+    let parts = library::contents(&volume.bytes, volume.setting(), slot).map_err(told)?;
     match words.get(2) {
-        None => out.extend(contents),
-        Some(path) => files::write(path, &contents)?,
+        None => files::show(parts),
+        Some(path) => files::write(path, parts),
     }
-    Ok(())
 }
 
 pub fn free(args: Args, out: &mut Vec<u8>) -> Outcome<()> {

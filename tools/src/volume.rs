@@ -140,7 +140,7 @@ impl Volume {
 
     /// Bitmaps, up-case table and root share no cluster: a call that stores in
     /// one would destroy the other. A root that meets a bitmap can be looked
-    /// at, since the library refuses it (9) in every call that stores.
+    /// at, since the library refuses it (9) in every call on a file.
     fn areas_lie_apart(&self) -> Outcome<()> {
         let g = &self.geometry;
         let bitmap = |fat| (format!("the allocation bitmap of FAT {fat}"), g.bitmap(fat).collect());

@@ -1,6 +1,7 @@
 //! What the oracle uses: a device in memory that can take back its writes, a
 //! mount on it, and the clock. Nothing here looks into a volume.
 
+use crate::directory;
 use crate::timestamp::{Timestamp, Timestamps};
 use crate::write::{Allocation, NewEntry, WriteVolume};
 use crate::{Error, Result};
@@ -96,6 +97,15 @@ impl BlockDevice for Device {
     }
 }
 
+/// A file as the original's reader of volumes opens it: its clusters in stream
+/// order and its two lengths.
+#[derive(Clone, Debug, PartialEq, Eq)]
+pub struct Opened {
+    pub clusters: Vec<u32>,
+    pub valid: u64,
+    pub length: u64,
+}
+
 /// A volume mounted by the original.
 pub struct Mount {
     volume: WriteVolume<Device>,
@@ -188,6 +198,39 @@ impl Mount {
         let name = self.volume.name_at(offset).ok_or(Error::NotFound)?;
         WriteVolume::<Device>::check_name(&name).map_err(|_| Error::NotFound)?;
         Ok(name)
+    }
+
+    /// The file at a slot, for reading: its set as the strict parse of the root
+    /// gives it, and its stream's clusters as the reader of volumes gives them.
+    /// That walk of a chain is a shim's, so the writer's own has to agree.
+    pub fn open(&self, slot: u32) -> Answer<Opened> {
+        let volume = self.volume.reader();
+        let root = volume.root_bytes();
+        let sets = directory::parse_located(root, volume.boot(), volume.upcase(), true)?;
+        let at = |set: &directory::Located| set.offset / 32 == slot as usize;
+        let set = sets.into_iter().find(at).ok_or(Error::NotFound)?;
+        if set.entry.is_directory() {
+            return Err(Error::IsDirectory);
+        }
+        let stream = set.entry.stream();
+        let read = volume.stream_clusters(stream)?;
+        let clusters: Vec<u32> = (0..).map_while(|index| read.get(index)).collect();
+        if let (Some(first), Some(last)) = (clusters.first(), clusters.last()) {
+            let record = (*first, *last, clusters.len() as u32, stream.no_fat_chain());
+            if self.clusters(record)? != clusters {
+                return Err(Error::Invalid("reader and writer walk differently"));
+            }
+        }
+        Ok(Opened {
+            clusters,
+            valid: stream.valid_data_length(),
+            length: stream.data_length(),
+        })
+    }
+
+    /// Where a cluster's first byte lies.
+    pub fn place(&self, cluster: u32) -> Answer<u64> {
+        self.volume.reader().boot().cluster_offset(cluster)
     }
 
     pub fn write(&mut self, slot: u32, offset: u64, data: &[u8]) -> Answer<()> {

@@ -10,7 +10,7 @@ mod driver;
 include!(concat!(env!("OUT_DIR"), "/modules.rs"));
 
 #[cfg(rust_sources)]
-pub use driver::{clock_is_ours, set_clock, Answer, Device, Mount, Record, Stamp};
+pub use driver::{clock_is_ours, set_clock, Answer, Device, Mount, Opened, Record, Stamp};
 
 /// The error type of the original. Which cases there are is read from the
 /// places that make them.
