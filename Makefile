@@ -3,9 +3,9 @@
 # vectors  make the vectors anew and compare them with the stored ones
 # lib      the static library and its header, into dist/
 # tool     the host tool, tools/target/release/bittsalak
-# readers  volumes after random calls, read by fsck.exfat, exfat-fuse, fls and icat
+# readers  volumes after random calls, read by fsck.exfat, exfat-fuse, fls and icat, and by bittsalak cat
 # oracle   compare the library with the original Rust: CALLS= SEED= KINDS= MODE= (see tests/oracle)
-# model    compare the library with 01 computed in plain Python: CALLS= SEED= (see tests/model)
+# model    compare the library with 01 and what has landed of 02, computed in plain Python: CALLS= SEED= (see tests/model)
 # bench    what the calls cost, beside the original Rust and limits in C (docs/BENCHMARKS.md)
 .PHONY: test demo vectors write-vectors lib tool readers oracle model bench
 MAKEFLAGS += --no-print-directory
