@@ -1,8 +1,8 @@
 #!/usr/bin/env python3
-"""What 01 says of its marked trials, as the program of crates/trials_run prints it.
+"""What 01 says of its marked trials, and 02 of reads (2027-01), as the program of crates/trials_run prints it.
 
 Without arguments: print the lines. With --check FILE: compare them with FILE.
-Every number here is 01's or follows from a sentence of it; nothing is computed by the writer's rules.
+Every number here is 01's or 02's or follows from a sentence of them; nothing is computed by the writer's rules.
 """
 
 import sys
@@ -52,13 +52,30 @@ LENGTHS = [
 ]
 
 
-def entry_set(attributes, stamp, length):
-    """The set of file "a": valid length 700, run from cluster 4, created at the earlier stamp."""
+# a file's chain, its length and valid length, and how many zeros are lent
+CHAIN, LENGTH, VALID, ZEROS = (4, 5, 9), 1400, 1100, 100
+EMPTY_PART = ("volume", 0, 0)
+# name; number; part: of the volume or of the zeros, its first byte there, its length. Cluster k begins at byte 16,384 + 512 (k - 2).
+READS = [
+    ("R1", 0, ("volume", 16384 + 512 * 2 + 100, 2 * 512 - 100)),
+    ("R2", 0, ("volume", 16384 + 512 * 7, VALID - 1024)),
+    ("R3", 0, ("zeros", 0, ZEROS)),
+    ("R4", 0, ("zeros", 0, LENGTH - 1350)),
+    ("R5", 0, EMPTY_PART),
+    ("R6", 0, EMPTY_PART),
+    ("R7", 15, EMPTY_PART),
+    ("R8", 15, EMPTY_PART),
+    ("R9", 10, EMPTY_PART),
+]
+
+
+def entry_set(attributes, stamp, length, valid=700, flags=3):
+    """The set of file "a": by default valid length 700 and a run, from cluster 4, created at the earlier stamp."""
     value, increment, offset = stamp
     head = bytes([0x85, 2, 0, 0, attributes, 0, 0, 0])
     times = b"".join(v.to_bytes(4, "little") for v in (EARLIER[0], value, value))
     small = bytes([EARLIER[1], increment, EARLIER[2], offset, offset])
-    stream = bytes([0xC0, 3, 0, 1, 0x34, 0x12, 0, 0]) + (700).to_bytes(8, "little") + bytes(4)
+    stream = bytes([0xC0, flags, 0, 1, 0x34, 0x12, 0, 0]) + valid.to_bytes(8, "little") + bytes(4)
     stream += (4).to_bytes(4, "little") + length.to_bytes(8, "little")
     whole = bytearray((head + times + small).ljust(32, b"\0") + stream + bytes([0xC1, 0, 0x61]).ljust(32, b"\0"))
     whole[2:4] = checksum(whole).to_bytes(2, "little")
@@ -121,11 +138,26 @@ def length_lines():
             yield f"  {label} " + " ".join(f"{b:02x}" for b in vol[at : at + n])
 
 
+def read_lines():
+    links = chain(*CHAIN)
+    mark = sum(1 << k - 2 for k in (2, 3) + CHAIN)
+    vol = volume((mark, 0), links)
+    vol[16896:16992] = entry_set(0x01, EARLIER, LENGTH, VALID, 1)
+    yield "reads"
+    yield f"  free 0 {16 - bin(mark).count('1')}"
+    yield f"  marks {mark:02x} 00"
+    yield "  fat " + " ".join(f"{({3: END} | links).get(k, 0):08x}" for k in range(18))
+    yield f"  sum {sum_of(vol):016x}"
+    for name, number, (kind, start, length) in READS:
+        yield name
+        yield f"  read {number} {kind} {start} {length}"
+
+
 def all_lines():
-    """In the program's order: T11 and T12 behind T10."""
+    """In the program's order: T11 and T12 behind T10, the reads behind all."""
     first = list(lines())
     cut = first.index("old entries stay")
-    return first[:cut] + list(length_lines()) + first[cut:]
+    return first[:cut] + list(length_lines()) + first[cut:] + list(read_lines())
 
 
 def main():
@@ -134,7 +166,7 @@ def main():
         with open(sys.argv[2], encoding="utf-8") as f:
             if f.read() != text:
                 sys.exit(f"trials: {sys.argv[2]} does not hold the lines of tests/trials.py")
-        print(f"trials: {len(TRIALS) + len(LENGTHS)} trials, as stored")
+        print(f"trials: {len(TRIALS) + len(LENGTHS)} trials and {len(READS)} reads, as stored")
     else:
         sys.stdout.write(text)
 

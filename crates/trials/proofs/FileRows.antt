@@ -29,7 +29,7 @@ use Rattle.directory.specs.Open.{fileRecord, entryCause, directoryAttributeCaus
 use Rattle.file.specs.Outcome.{carried}
 use Rattle.file.specs.Refresh.{entriesOf, recorded, stored, missing, lengthCause, openCause}
 use Rattle.write_length.specs.SetLength.{setLengthCause, zeroEnd, longerFile, resized, setLengthIn, setLength}
-use Rattle.trials.specs.File.{earlier, given, entries}
+use Rattle.trials.specs.File.{earlier, given, trialSet, entries}
 use Rattle.trials.specs.Table.{file700, after11, after12, T11, T12}
 use Rattle.trials.specs.Trial.{Trial, resultOf, sameList, sameFileAnswer, sameResult, said, agrees}
 use Rattle.trials.specs.Volume as volume
@@ -37,7 +37,7 @@ use Rattle.trials.specs.Volume.{geometry, system, linkAt, trialEntry, wo
 
 -- a trial with everything open that has to compute
 unfoldable opened : Trial → Bool
-unfolding bitOf setBit clearBit putBit bitAt countBits addByte checksum splice getLe putLe count every lastOr consec firstCause limitsCause admitCause heapCause geometryOf sectorSize clusterSize bitmapClusters fatStart clusterStart bitmapFirst layoutOf clusterAt inRun inHeap isBitmapCluster shapeTests roomTests inMap allInMap runInMap apart secondBitmap mapTests limits putBytes fatEntry markByte marked putByte setMark allocatedCount freeCount isFree isUsable clusterBytes bytesOf storeAt nextOf chainFrom readChain numberOf runCause readRun checkChain readStream streamOf entryType secondaryCount setChecksum isDirectory allocationPossible noFatChain nameLength validLength firstCluster dataLength clustersFor nameEntries putModified putAccessed putStream archived sealed refreshed headOk streamEntryOk namesOk lengthsOk wellFormed allFrom moreCause inPlace longerRun longer extendIn wrap spaceCause systemCause markRun chainRecord rootRecord bitmapCause directoryCause clustersIn bytesIn entryCount typeAt beforeEnd isFile entriesAt setAt isSound fileRecord entryCause directoryAttributeCause streamCause setIn fileCause carried entriesOf recorded stored missing lengthCause openCause setLengthCause zeroEnd longerFile resized setLengthIn setLength earlier given entries file700 after11 after12 T11 T12 resultOf sameList sameFileAnswer sameResult said agrees geometry system linkAt trialEntry wordBytes fatBytes padded volume.trialBytes
+unfolding bitOf setBit clearBit putBit bitAt countBits addByte checksum splice getLe putLe count every lastOr consec firstCause limitsCause admitCause heapCause geometryOf sectorSize clusterSize bitmapClusters fatStart clusterStart bitmapFirst layoutOf clusterAt inRun inHeap isBitmapCluster shapeTests roomTests inMap allInMap runInMap apart secondBitmap mapTests limits putBytes fatEntry markByte marked putByte setMark allocatedCount freeCount isFree isUsable clusterBytes bytesOf storeAt nextOf chainFrom readChain numberOf runCause readRun checkChain readStream streamOf entryType secondaryCount setChecksum isDirectory allocationPossible noFatChain nameLength validLength firstCluster dataLength clustersFor nameEntries putModified putAccessed putStream archived sealed refreshed headOk streamEntryOk namesOk lengthsOk wellFormed allFrom moreCause inPlace longerRun longer extendIn wrap spaceCause systemCause markRun chainRecord rootRecord bitmapCause directoryCause clustersIn bytesIn entryCount typeAt beforeEnd isFile entriesAt setAt isSound fileRecord entryCause directoryAttributeCause streamCause setIn fileCause carried entriesOf recorded stored missing lengthCause openCause setLengthCause zeroEnd longerFile resized setLengthIn setLength earlier given trialSet entries file700 after11 after12 T11 T12 resultOf sameList sameFileAnswer sameResult said agrees geometry system linkAt trialEntry wordBytes fatBytes padded volume.trialBytes
 opened t = agrees t
 
 pub row-T11 : agrees T11 ≡ true

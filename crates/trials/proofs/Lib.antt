@@ -1,3 +1,4 @@
 pub mod Same
 pub mod FileRows
 pub mod Agree
+pub mod ReadRows

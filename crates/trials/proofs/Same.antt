@@ -9,7 +9,9 @@ use Rattle.tables.proofs.Cases.{and-left, and-right}
 use Rattle.stream.specs.declared.allocation.Allocation.{Allocation}
 use Rattle.write_alloc.specs.declared.answer.Answer.{Answer}
 use Rattle.file.specs.declared.answer.FileAnswer.{FileAnswer}
+use Rattle.read_file.specs.declared.part.Part.{Part}
 use Rattle.trials.specs.Trial.{Result, answered, listed, carried, Trial, sameFlag, sameList, sameRecord, sameAnswer, sameFileAnswer, sameResult, said, wanted, agrees, allAgree}
+use Rattle.trials.specs.ReadTable.{Read, saidOf, wantedOf, samePart, sameRead, readAgrees, allReadsAgree}
 
 -- both of two tests are passed
 both : (a b : Bool) → (a && b) ≡ true → (a ≡ true) × (b ≡ true)
@@ -92,3 +94,28 @@ all-same [] e = refl
 all-same (t ∷ ts) e =
     let p = both (sameResult (said t) (wanted t)) (allAgree ts) e in
     cc (same-result (said t) (wanted t) (p .0), all-same ts (p .1))
+
+same-part : (p q : Part) → samePart p q ≡ true → p ≡ q
+unfolding samePart
+same-part p q e =
+    let z = both (sameFlag (p .zeros) (q .zeros)) (eqb (p .start) (q .start) && eqb (p .len) (q .len)) e in
+    let s = both (eqb (p .start) (q .start)) (eqb (p .len) (q .len)) (z .1) in
+    λ i. record {
+      zeros = same-flag (p .zeros) (q .zeros) (z .0) i;
+      start = eqb-true (p .start) (q .start) (s .0) i;
+      len = eqb-true (p .len) (q .len) (s .1) i;
+    }
+
+same-read : (a b : ℕ × Part) → sameRead a b ≡ true → a ≡ b
+unfolding sameRead
+same-read a b e =
+    let p = both (eqb (a .0) (b .0)) (samePart (a .1) (b .1)) e in
+    λ i. (eqb-true (a .0) (b .0) (p .0) i, same-part (a .1) (b .1) (p .1) i)
+
+-- the same of the reads
+pub all-reads-same : (rs : List Read) → allReadsAgree rs ≡ true → map saidOf rs ≡ map wantedOf rs
+unfolding allReadsAgree readAgrees
+all-reads-same [] e = refl
+all-reads-same (r ∷ rs) e =
+    let p = both (sameRead (saidOf r) (wantedOf r)) (allReadsAgree rs) e in
+    cc (same-read (saidOf r) (wantedOf r) (p .0), all-reads-same rs (p .1))

@@ -1,6 +1,7 @@
 // Lines on standard output. No contract can say what is written: the lines are compared with the file stdout.
 use file::answer::FileAnswer;
 use libc::STDOUT_FILENO;
+use read_file::part::Part;
 use stream::allocation::Allocation;
 use write_alloc::answer::Answer;
 
@@ -126,5 +127,19 @@ pub fn list(n: u32, list: &[u32]) {
         cluster(list[i]);
         i += 1;
     }
+    end();
+}
+
+// The line of a read: number, and the part: of the volume or of the zeros, its first byte there, its length.
+pub fn part(n: u32, p: Part) {
+    text(b"  read");
+    number(n as u64);
+    if p.zeros {
+        text(b" zeros");
+    } else {
+        text(b" volume");
+    }
+    number(p.start as u64);
+    number(p.len as u64);
     end();
 }

@@ -21,7 +21,7 @@ enum Call {
 }
 
 // The geometry of the trials.
-fn volume() -> Geometry
+pub fn volume() -> Geometry
     ensures { λ r. ⌜ r ≡ geometry ⌝ }
 {
     let w = [9, 0, 24, 1, 1, 0, 32, 16, 3, 2, 0];
@@ -60,7 +60,7 @@ fn listing(vol: &[u8], a: Allocation) {
 }
 
 // What the volume holds: the free count, the bitmap's bytes, the FAT, a checksum.
-fn state(vol: &[u8]) {
+pub fn state(vol: &[u8]) {
     let r = metadata::free::free_clusters(vol, b"\x03\x00", volume());
     out::text(b"  free");
     out::number(r.number as u64);
