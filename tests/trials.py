@@ -52,10 +52,10 @@ LENGTHS = [
 ]
 
 
-# a file's chain, its length and valid length, and how many zeros are lent
-CHAIN, LENGTH, VALID, ZEROS = (4, 5, 9), 1400, 1100, 100
+# reads of a file on the chain 4, 5, 9 with so many lent zeros: name; number; part: of the volume or of the zeros, its first byte there,
+# its length. Cluster k begins at byte 16,384 + 512 (k - 2).
+LENGTH, VALID, ZEROS = 1400, 1100, 100
 EMPTY_PART = ("volume", 0, 0)
-# name; number; part: of the volume or of the zeros, its first byte there, its length. Cluster k begins at byte 16,384 + 512 (k - 2).
 READS = [
     ("R1", 0, ("volume", 16384 + 512 * 2 + 100, 2 * 512 - 100)),
     ("R2", 0, ("volume", 16384 + 512 * 7, VALID - 1024)),
@@ -69,13 +69,13 @@ READS = [
 ]
 
 
-def entry_set(attributes, stamp, length, valid=700, flags=3):
-    """The set of file "a": by default valid length 700 and a run, from cluster 4, created at the earlier stamp."""
+def entry_set(attributes, stamp, length):
+    """The set of file "a": valid length 700, run from cluster 4, created at the earlier stamp."""
     value, increment, offset = stamp
     head = bytes([0x85, 2, 0, 0, attributes, 0, 0, 0])
     times = b"".join(v.to_bytes(4, "little") for v in (EARLIER[0], value, value))
     small = bytes([EARLIER[1], increment, EARLIER[2], offset, offset])
-    stream = bytes([0xC0, flags, 0, 1, 0x34, 0x12, 0, 0]) + valid.to_bytes(8, "little") + bytes(4)
+    stream = bytes([0xC0, 3, 0, 1, 0x34, 0x12, 0, 0]) + (700).to_bytes(8, "little") + bytes(4)
     stream += (4).to_bytes(4, "little") + length.to_bytes(8, "little")
     whole = bytearray((head + times + small).ljust(32, b"\0") + stream + bytes([0xC1, 0, 0x61]).ljust(32, b"\0"))
     whole[2:4] = checksum(whole).to_bytes(2, "little")
@@ -139,15 +139,6 @@ def length_lines():
 
 
 def read_lines():
-    links = chain(*CHAIN)
-    mark = sum(1 << k - 2 for k in (2, 3) + CHAIN)
-    vol = volume((mark, 0), links)
-    vol[16896:16992] = entry_set(0x01, EARLIER, LENGTH, VALID, 1)
-    yield "reads"
-    yield f"  free 0 {16 - bin(mark).count('1')}"
-    yield f"  marks {mark:02x} 00"
-    yield "  fat " + " ".join(f"{({3: END} | links).get(k, 0):08x}" for k in range(18))
-    yield f"  sum {sum_of(vol):016x}"
     for name, number, (kind, start, length) in READS:
         yield name
         yield f"  read {number} {kind} {start} {length}"

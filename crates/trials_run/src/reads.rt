@@ -40,9 +40,6 @@ pub fn all() {
     vol[16384] = 0x8F;
     primitives::slices::copy_in(&mut vol, 12300, fat, 0, fat.len());
     primitives::slices::copy_in(&mut vol, 16896, set, 0, set.len());
-    out::text(b"reads");
-    out::end();
-    crate::trial::state(&vol);
     parts(&vol, &zeros);
     refusals(&vol, &zeros);
 }

@@ -60,7 +60,7 @@ fn listing(vol: &[u8], a: Allocation) {
 }
 
 // What the volume holds: the free count, the bitmap's bytes, the FAT, a checksum.
-pub fn state(vol: &[u8]) {
+fn state(vol: &[u8]) {
     let r = metadata::free::free_clusters(vol, b"\x03\x00", volume());
     out::text(b"  free");
     out::number(r.number as u64);
