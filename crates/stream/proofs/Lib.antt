@@ -1,8 +1,8 @@
 pub mod ChainLaws
 pub mod StreamLaws
 pub mod ListingLaws
-pub mod PieceSteps
 pub mod PieceLaws
+pub mod PieceSteps
 pub mod Distinct
 pub mod BytesSteps
 pub mod BytesLaws

@@ -59,6 +59,10 @@ chainClear y d m first = walked (marked y d) (λ k. not (barred y m false k)) 0 
 unfoldable pub streamClear : (y : Layout) (d m : List ℕ) (a : Allocation) → Bool
 streamClear y d m a = not (eqb (a .count) 0) && (not (a .«no_fat_chain») && chainClear y d m (a .first))
 
+-- each of the four FAT entries from k's on names the next number
+unfoldable pub fourFollow : (fat : ℕ → ℕ) (k : ℕ) → Bool
+fourFollow fat k = (eqb (fat k) (k + 1) && eqb (fat (k + 1)) (k + 2)) && (eqb (fat (k + 2)) (k + 3) && eqb (fat (k + 3)) (k + 4))
+
 -- how many pieces of consecutive clusters begin behind k
 unfoldable pub breaks : ℕ → List ℕ → ℕ
 breaks k [] = 0
