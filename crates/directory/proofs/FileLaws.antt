@@ -22,7 +22,7 @@ use Rattle.directory.specs.Open.{fileRecord, entryCause, directoryAttrib
 use Rattle.directory.proofs.DirectoryLaws.{clusters-length}
 use Rattle.directory.specs.Internal.{setRead}
 use Rattle.directory.proofs.EntryLaws.{sound-file, sound-few, sound-room, sound-formed}
-use Rattle.directory.proofs.OpenLaws.{whole-yes, entries-low, read-some}
+use Rattle.directory.proofs.OpenLaws.{whole-yes, entries-low, read-some, cause-is}
 
 -- the record of a set's stream has the clusters that its length takes
 pub record-count : (y : Layout) (d s : List ℕ) → fileRecord y d s .count ≡ clustersFor (y .size) (dataLength s)
@@ -45,21 +45,17 @@ module _ (y : Layout) (d m : List ℕ) (a : Allocation) (slot : ℕ) where
   abbrev b : Allocation
   b = fileRecord y d s
 
-  cause-is : fileCause y d m a slot ≡ firstCause (entryCause y bs slot ∷ directoryAttributeCause s ∷ streamCause y d m b ∷ [])
-  unfolding fileCause
-  cause-is = refl
-
   -- a sound entry that is no directory's, with a stream that nothing refuses
   pub file-opens : isSound (y .count) (y .size) (bytesIn y d a) slot ≡ true → isDirectory (setIn y d a slot) ≡ false
       → streamCause y d m (fileRecord y d (setIn y d a slot)) ≡ 0 → fileCause y d m a slot ≡ 0
   file-opens e f r =
-      cause-is ∙ cause-skip (entryCause y bs slot) (directoryAttributeCause s ∷ streamCause y d m b ∷ []) (unfold entryCause in (rw e refl))
+      cause-is y d m a slot ∙ cause-skip (entryCause y bs slot) (directoryAttributeCause s ∷ streamCause y d m b ∷ []) (unfold entryCause in (rw e refl))
       ∙ cause-skip (directoryAttributeCause s) (streamCause y d m b ∷ []) (unfold directoryAttributeCause in (rw f refl))
       ∙ cause-skip (streamCause y d m b) [] r ∙ (unfold firstCause in refl)
 
   module _ (z : fileCause y d m a slot ≡ 0) where
     after-entry : (entryCause y bs slot ≡ 0) × (firstCause (directoryAttributeCause s ∷ streamCause y d m b ∷ []) ≡ 0)
-    after-entry = cause-none (entryCause y bs slot) (directoryAttributeCause s ∷ streamCause y d m b ∷ []) (sym cause-is ∙ z)
+    after-entry = cause-none (entryCause y bs slot) (directoryAttributeCause s ∷ streamCause y d m b ∷ []) (sym (cause-is y d m a slot) ∙ z)
 
     after-attribute : (directoryAttributeCause s ≡ 0) × (firstCause (streamCause y d m b ∷ []) ≡ 0)
     after-attribute = cause-none (directoryAttributeCause s) (streamCause y d m b ∷ []) (after-entry .1)

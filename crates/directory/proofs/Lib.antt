@@ -9,5 +9,6 @@ pub mod EndLaws
 pub mod RoomLaws
 pub mod WindowLaws
 pub mod SpotLaws
+pub mod StartLaws
 pub mod OpenLaws
 pub mod FileLaws

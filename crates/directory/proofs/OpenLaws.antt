@@ -11,7 +11,7 @@ use lib.Dec.{leb}
 use lib.ListN.{getD, take, drop, replicate}
 use borrow.Author.Tests.{eq-eqb, ne-eqb, leb-true, le-leb}
 use Rattle.primitives.specs.Splice.{splice}
-use Rattle.tables.specs.Lists.{every, lastOr, consec}
+use Rattle.tables.specs.Lists.{every, lastOr}
 use Rattle.tables.proofs.Cases.{not-so, and-left, and-right, and-both}
 use Rattle.boot.specs.declared.layout.Layout.{Layout}
 use Rattle.boot.specs.Limits.{inMap}
@@ -24,20 +24,21 @@ use Rattle.metadata.specs.Marks.{marked}
 use Rattle.metadata.specs.Cluster.{clusterByte}
 use Rattle.metadata.proofs.Frame.{Fits}
 use Rattle.stream.specs.declared.allocation.Allocation.{Allocation}
+use Rattle.stream.specs.declared.bytes.Place.{Place}
 use Rattle.stream.specs.declared.walk.Walked.{Walked}
-use Rattle.stream.specs.Internal.{along, reached, barred, walked, walkCause, Known}
+use Rattle.stream.specs.Internal.{along, reached, placeAt, barred, walked, walkCause, Known}
 use Rattle.stream.specs.Bytes.{bytesOf, bytesIn}
 use Rattle.stream.specs.Chain.{Clusters, listed, readChain}
 use Rattle.stream.specs.Stream.{numberOf, streamOf, checkChain, clustersOf, empty, systemCause, clustersIn}
-use Rattle.stream.proofs.StreamLaws.{length-along, along-head, consec-along}
+use Rattle.stream.proofs.StreamLaws.{length-along, along-head}
 use Rattle.stream.proofs.ChainLaws.{chain-number, chain-last, chain-clear, chain-seen, stream-empty, stream-chain}
 use Rattle.stream.proofs.ListingLaws.{stream-read}
 use Rattle.stream.proofs.BytesSteps.{some-left, Sought, sought}
 use Rattle.stream.proofs.BytesLaws.{byte-of}
-use Rattle.entry_set.specs.Fields.{noFatChain, firstCluster, dataLength, clustersFor, isDirectory}
+use Rattle.entry_set.specs.Fields.{noFatChain, firstCluster, validLength, dataLength, clustersFor, isDirectory}
 use Rattle.entry_set.specs.Sound.{wellFormed}
 use Rattle.directory.specs.Entries.{entryCount, typeAt, beforeEnd, isFile, entriesAt, setAt, isSound}
-use Rattle.directory.specs.Internal.{entryPlace, slotEntry, wholeSet, setRead, spotOf, opened, openedStream, noFile, foundFile, openFile}
+use Rattle.directory.specs.Internal.{entryPlace, slotEntry, wholeSet, setRead, spotOf, noPlace, opened, openedStream, startSteps, noFile, foundFile, openFile}
 use Rattle.directory.proofs.EntryLaws.{sound-file, sound-few, sound-room, sound-formed, sound-of}
 use Rattle.directory.proofs.CursorLaws.{bytes-along, dir-heap, slot-bytes, along-at}
 use Rattle.directory.proofs.EndLaws.{slot-ends, slot-stands}
@@ -189,8 +190,8 @@ module _ (y : Layout) (d : List ℕ) (w : Fits y d) (dir : Allocation) (reads : 
     unfolding entriesAt
     slot-count n q = q ∙ ap (λ (x : ℕ). 1 + x) (slot-byte 1 (omega arith))
 
-    pub slot-known : Known y d dir (record { cluster = p .cluster; steps = 32 * i / y .size })
-    slot-known = record { reaches = sym cluster-is; inside = omega (arith, inside) }
+    pub slot-known : Known y d dir (record { cluster = p .cluster; steps = 32 * i / y .size }) (32 * i)
+    slot-known = record { reaches = sym cluster-is; inside = omega (arith, inside); before = omega (arith, split) }
 
   -- what the answer of a slot's entry says
   pub slot-none : slotEntry y d dir i .cluster ≡ 0 → beforeEnd (bytesIn y d dir) i ≡ false
@@ -257,16 +258,16 @@ module _ (y : Layout) (d s : List ℕ) where
 
 -- ---- what opens
 
-module _ (n : ℕ) (a : Allocation) (k : ℕ) where
-  pub opened-not : n ≢ 0 → record { number = n; allocation = empty; seen = 0 } ≡ opened n a k
+module _ (n : ℕ) (a : Allocation) (p : Place) where
+  pub opened-not : n ≢ 0 → record { number = n; allocation = empty; place = noPlace } ≡ opened n a p
   unfolding opened
   opened-not z = rw (ne-eqb n 0 z) refl
 
-  pub opened-yes : n ≡ 0 → record { number = 0; allocation = a; seen = k } ≡ opened n a k
+  pub opened-yes : n ≡ 0 → record { number = 0; allocation = a; place = p } ≡ opened n a p
   unfolding opened
   opened-yes z = rw (eq-eqb n 0 z) refl
 
-  pub opened-number : opened n a k .number ≡ n
+  pub opened-number : opened n a p .number ≡ n
   unfolding opened
   opened-number =
       elim (decLe 1 n) [
@@ -276,23 +277,22 @@ module _ (n : ℕ) (a : Allocation) (k : ℕ) where
             rw (eq-eqb n 0 z) (sym z)
       ]
 
-no-clusters : (m : List ℕ) (c : Clusters) (goal : ℕ) → c ≡ listed []
-    → (numberOf c ≡ 0) × ((systemCause m (clustersOf c) ≡ 0) × (getD (clustersOf c) goal 0 ≡ 0))
+no-clusters : (m : List ℕ) (c : Clusters) → c ≡ listed [] → (numberOf c ≡ 0) × (systemCause m (clustersOf c) ≡ 0)
 unfolding numberOf systemCause every
-no-clusters m c goal e = (rw e refl, (rw e refl, rw e refl))
+no-clusters m c e = (rw e refl, rw e refl)
 
 module _ (y : Layout) (d m : List ℕ) (a : Allocation) (goal : ℕ) where
-  abbrev seen-there : ℕ
-  seen-there = getD (clustersIn y d a) goal 0
+  abbrev there-at : Place
+  there-at = placeAt y d a goal
 
   stream-cause-is : streamCause y d m a ≡ firstCause (numberOf (streamOf y d a) ∷ systemCause m (clustersIn y d a) ∷ [])
   unfolding streamCause
   stream-cause-is = refl
 
-  pub stream-not : (n : ℕ) → n ≡ numberOf (streamOf y d a) → n ≢ 0 → record { number = n; allocation = empty; seen = 0 } ≡ openedStream y d m a goal
+  pub stream-not : (n : ℕ) → n ≡ numberOf (streamOf y d a) → n ≢ 0 → record { number = n; allocation = empty; place = noPlace } ≡ openedStream y d m a goal
   stream-not n e z =
       let q : n ≡ streamCause y d m a = e ∙ sym (stream-cause-is ∙ cause-met (numberOf (streamOf y d a)) (systemCause m (clustersIn y d a) ∷ []) (λ t. z (e ∙ t))) in
-      opened-not n a seen-there z ∙ ap (λ (x : ℕ). opened x a seen-there) q
+      opened-not n a there-at z ∙ ap (λ (x : ℕ). opened x a there-at) q
 
   module _ (reads : numberOf (streamOf y d a) ≡ 0) (c : ℕ) (e : c ≡ systemCause m (along (fatEntry y d) (a .«no_fat_chain») (a .first) (a .count))) where
     system-is : c ≡ streamCause y d m a
@@ -301,28 +301,30 @@ module _ (y : Layout) (d m : List ℕ) (a : Allocation) (goal : ℕ) where
         e ∙ ap (systemCause m) (sym (stream-read y d a reads .goes))
         ∙ sym (stream-cause-is ∙ cause-skip (numberOf (streamOf y d a)) (systemCause m (clustersIn y d a) ∷ []) reads ∙ cause-last (systemCause m (clustersIn y d a)))
 
-    pub stream-system : c ≢ 0 → record { number = c; allocation = empty; seen = 0 } ≡ openedStream y d m a goal
-    stream-system z = opened-not c a seen-there z ∙ ap (λ (x : ℕ). opened x a seen-there) system-is
+    pub stream-system : c ≢ 0 → record { number = c; allocation = empty; place = noPlace } ≡ openedStream y d m a goal
+    stream-system z = opened-not c a there-at z ∙ ap (λ (x : ℕ). opened x a there-at) system-is
 
-    pub stream-done : c ≡ 0 → (k : ℕ) → k ≡ getD (clustersIn y d a) goal 0 → record { number = 0; allocation = a; seen = k } ≡ openedStream y d m a goal
+    pub stream-done : c ≡ 0 → (k : ℕ) → k ≡ reached (fatEntry y d) (a .«no_fat_chain») (a .first) goal
+        → record { number = 0; allocation = a; place = record { cluster = k; steps = goal } } ≡ openedStream y d m a goal
     stream-done z k q =
-        ap (λ (x : ℕ). record { number = 0; allocation = a; seen = x }) q ∙ opened-yes c a seen-there z ∙ ap (λ (x : ℕ). opened x a seen-there) system-is
+        ap (λ (x : ℕ). record { number = 0; allocation = a; place = record { cluster = x; steps = goal } }) q
+        ∙ opened-yes c a there-at z ∙ ap (λ (x : ℕ). opened x a there-at) system-is
 
   -- a record with no clusters
-  pub stream-none : empty ≡ a → record { number = 0; allocation = empty; seen = 0 } ≡ openedStream y d m a goal
-  stream-none e =
+  pub stream-none : empty ≡ a → goal ≡ 0 → record { number = 0; allocation = empty; place = noPlace } ≡ openedStream y d m a goal
+  stream-none e z =
       let s : streamOf y d a ≡ listed [] = unfold streamOf in (stream-empty (y .count) (fatEntry y d) (marked y d) a (ap (λ (x : Allocation). x .count) (sym e))) in
-      let n = no-clusters m (streamOf y d a) goal s in
-      let z : systemCause m (clustersIn y d a) ≡ 0 = unfold clustersIn in (n .1 .0) in
-      let k : seen-there ≡ 0 = unfold clustersIn in (n .1 .1) in
-      ap₂ (λ (x : Allocation) (u : ℕ). record { number = 0; allocation = x; seen = u }) e (sym k)
-      ∙ opened-yes (streamCause y d m a) a seen-there
-      (stream-cause-is ∙ cause-skip (numberOf (streamOf y d a)) (systemCause m (clustersIn y d a) ∷ []) (n .0) ∙ cause-last (systemCause m (clustersIn y d a)) ∙ z)
+      let n = no-clusters m (streamOf y d a) s in
+      let c : systemCause m (clustersIn y d a) ≡ 0 = unfold clustersIn in (n .1) in
+      let p : noPlace ≡ there-at = unfold reached in (ap₂ (λ (x : Allocation) (u : ℕ). placeAt y d x u) e (sym z)) in
+      ap₂ (λ (x : Allocation) (u : Place). record { number = 0; allocation = x; place = u }) e p
+      ∙ opened-yes (streamCause y d m a) a there-at
+      (stream-cause-is ∙ cause-skip (numberOf (streamOf y d a)) (systemCause m (clustersIn y d a) ∷ []) (n .0) ∙ cause-last (systemCause m (clustersIn y d a)) ∙ c)
 
 -- ---- a chain opened by its walk
 
 module _ (y : Layout) (d m : List ℕ) (first n goal : ℕ) (w : Walked)
-    (e : w ≡ walked (marked y d) (λ k. not (barred y m false k)) goal (readChain (y .count) (fatEntry y d) first)) (h : inHeap (y .count) first ≡ true) (l : 1 ≤ n)
+    (e : w ≡ walked (marked y d) (λ k. not (barred y m false k)) goal (readChain (y .count) (fatEntry y d) first)) (h : inHeap (y .count) first ≡ true) (l : goal < n)
     (c : ℕ) (q : c ≡ walkCause w (w .last) n) where
   abbrev rec : ℕ → Allocation
   rec last = record { first = first; last = last; count = n; «no_fat_chain» = false }
@@ -342,12 +344,15 @@ module _ (y : Layout) (d m : List ℕ) (first n goal : ℕ) (w : Walked)
   chain-read =
       q ∙ chain-number (y .count) (fatEntry y d) (marked y d) (λ k. not (barred y m false k)) goal first (w .last) n w h e ∙ ap numberOf (sym chain-stream)
 
-  pub chain-not : c ≢ 0 → record { number = c; allocation = empty; seen = 0 } ≡ openedStream y d m (rec end) goal
+  pub chain-not : c ≢ 0 → record { number = c; allocation = empty; place = noPlace } ≡ openedStream y d m (rec end) goal
   chain-not z = stream-not y d m (rec (w .last)) goal c chain-read z ∙ last-is
 
   module _ (z : c ≡ 0) where
     reads : numberOf (streamOf y d (rec (w .last))) ≡ 0
     reads = sym chain-read ∙ z
+
+    chain-goes : clustersOf (checkChain (marked y d) (w .last) n (readChain (y .count) (fatEntry y d) first)) ≡ along (fatEntry y d) false first n
+    chain-goes = ap clustersOf (sym chain-stream) ∙ stream-read y d (rec (w .last)) reads .goes
 
     -- 9 by the flag that the walk gives
     by-flag : (f : Bool) → w .clear ≡ f → cond f 0 9 ≡ systemCause m (along (fatEntry y d) false first n)
@@ -356,44 +361,20 @@ module _ (y : Layout) (d m : List ℕ) (first n goal : ℕ) (w : Walked)
         ap (λ (x : Bool). cond x 0 9)
         (sym b
         ∙ chain-clear (y .count) (fatEntry y d) (marked y d) (λ k. not (barred y m false k)) goal first (w .last) n w h e (ap numberOf (sym chain-stream) ∙ reads)
-        ∙ ap (every (λ k. not (inMap m k))) (ap clustersOf (sym chain-stream) ∙ stream-read y d (rec (w .last)) reads .goes))
+        ∙ ap (every (λ k. not (inMap m k))) chain-goes)
 
     -- the cluster that the walk saw is the stream's
-    seen-is : w .seen ≡ getD (clustersIn y d (rec (w .last))) goal 0
-    unfolding clustersIn
+    seen-is : w .seen ≡ reached (fatEntry y d) false first goal
     seen-is =
         chain-seen (y .count) (fatEntry y d) (marked y d) (λ k. not (barred y m false k)) goal first (w .last) n w h e (ap numberOf (sym chain-stream) ∙ reads)
-        ∙ ap (λ (x : Clusters). getD (clustersOf x) goal 0) (sym chain-stream)
+        ∙ ap (λ (ks : List ℕ). getD ks goal 0) chain-goes ∙ along-at (fatEntry y d) false first n goal l
 
-    pub chain-nine : w .clear ≡ false → record { number = 9; allocation = empty; seen = 0 } ≡ openedStream y d m (rec end) goal
+    pub chain-nine : w .clear ≡ false → record { number = 9; allocation = empty; place = noPlace } ≡ openedStream y d m (rec end) goal
     chain-nine b = stream-system y d m (rec (w .last)) goal reads 9 (by-flag false b) (λ t. omega arith) ∙ last-is
 
-    pub chain-done : w .clear ≡ true → record { number = 0; allocation = rec (w .last); seen = w .seen } ≡ openedStream y d m (rec end) goal
+    pub chain-done : w .clear ≡ true
+        → record { number = 0; allocation = rec (w .last); place = record { cluster = w .seen; steps = goal } } ≡ openedStream y d m (rec end) goal
     chain-done b = stream-done y d m (rec (w .last)) goal reads 0 (by-flag true b) refl (w .seen) seen-is ∙ last-is
-
--- ---- the cluster of a run
-
-pub run-seen : (y : Layout) (d : List ℕ) (a : Allocation) (goal k : ℕ) → numberOf (streamOf y d a) ≡ 0 → a .«no_fat_chain» ≡ true
-    → k ≡ getD (consec (a .first) (a .count)) goal 0 → k ≡ getD (clustersIn y d a) goal 0
-unfolding clustersIn
-run-seen y d a goal k reads r e =
-    let q : clustersOf (streamOf y d a) ≡ consec (a .first) (a .count) =
-    stream-read y d a reads .goes ∙ ap (λ (b : Bool). along (fatEntry y d) b (a .first) (a .count)) r ∙ sym (consec-along (fatEntry y d) (a .first) (a .count)) in
-    e ∙ ap (λ (l : List ℕ). getD l goal 0) (sym q)
-
-pub consec-at : (k n i : ℕ) → i < n → k + i ≡ getD (consec k n) i 0
-unfolding consec
-consec-at k zero i h = absurd (omega arith)
-consec-at k (suc n) zero h = omega arith
-consec-at k (suc n) (suc i) h =
-    let z : k + suc i ≡ k + 1 + i = omega arith in
-    z ∙ consec-at (k + 1) n i (omega arith)
-
-pub consec-past : (k n i : ℕ) → n ≤ i → 0 ≡ getD (consec k n) i 0
-unfolding consec
-consec-past k zero i h = refl
-consec-past k (suc n) zero h = absurd (omega arith)
-consec-past k (suc n) (suc i) h = consec-past (k + 1) n i (omega arith)
 
 -- ---- the bytes of a set
 
@@ -418,7 +399,14 @@ module _ (C size : ℕ) (s : List ℕ) where
 
 -- ---- the file at a slot
 
-module _ (y : Layout) (d m : List ℕ) (dir : Allocation) (i goal : ℕ) where
+-- what refuses it, in order
+pub cause-is : (y : Layout) (d m : List ℕ) (dir : Allocation) (i : ℕ)
+    → fileCause y d m dir i
+    ≡ firstCause (entryCause y (bytesIn y d dir) i ∷ directoryAttributeCause (setIn y d dir i) ∷ streamCause y d m (fileRecord y d (setIn y d dir i)) ∷ [])
+unfolding fileCause
+cause-is y d m dir i = refl
+
+module _ (y : Layout) (d m : List ℕ) (dir : Allocation) (i offset : ℕ) where
   abbrev bs : List ℕ
   bs = bytesIn y d dir
 
@@ -428,20 +416,19 @@ module _ (y : Layout) (d m : List ℕ) (dir : Allocation) (i goal : ℕ) where
   abbrev a : Allocation
   a = fileRecord y d s
 
-  cause-is : fileCause y d m dir i ≡ firstCause (entryCause y bs i ∷ directoryAttributeCause s ∷ streamCause y d m a ∷ [])
-  unfolding fileCause
-  cause-is = refl
+  abbrev begin : ℕ
+  begin = startSteps (y .size) (validLength s) offset (a .count)
 
-  open-no : (n : ℕ) → fileCause y d m dir i ≡ n → n ≢ 0 → noFile n ≡ openFile y d m dir i goal
+  open-no : (n : ℕ) → fileCause y d m dir i ≡ n → n ≢ 0 → noFile n ≡ openFile y d m dir i offset
   unfolding openFile
   open-no n e z = rw (e, ne-eqb n 0 z) refl
 
-  unsound : isSound (y .count) (y .size) bs i ≡ false → noFile 10 ≡ openFile y d m dir i goal
+  unsound : isSound (y .count) (y .size) bs i ≡ false → noFile 10 ≡ openFile y d m dir i offset
   unsound e =
       let q : entryCause y bs i ≡ 10 = unfold entryCause in (rw e refl) in
-      open-no 10 (cause-is ∙ cause-met (entryCause y bs i) (directoryAttributeCause s ∷ streamCause y d m a ∷ []) (λ z. omega arith) ∙ q) (λ z. omega arith)
+      open-no 10 (cause-is y d m dir i ∙ cause-met (entryCause y bs i) (directoryAttributeCause s ∷ streamCause y d m a ∷ []) (λ z. omega arith) ∙ q) (λ z. omega arith)
 
-  pub file-none : wholeSet (bytesIn y d dir) i ≡ 0 → noFile 10 ≡ openFile y d m dir i goal
+  pub file-none : wholeSet (bytesIn y d dir) i ≡ 0 → noFile 10 ≡ openFile y d m dir i offset
   file-none e = unsound (sound-none bs i (y .count) (y .size) e)
 
   module _ (some : wholeSet (bytesIn y d dir) i ≢ 0) (c : ℕ) (e : c ≡ cond (wellFormed (y .count) (y .size) (setIn y d dir i)) (directoryAttributeCause (setIn y d dir i)) 10) where
@@ -449,15 +436,17 @@ module _ (y : Layout) (d m : List ℕ) (dir : Allocation) (i goal : ℕ) where
     sound-is = sym (sound-set y d dir i some)
 
     skip : wellFormed (y .count) (y .size) s ≡ true → fileCause y d m dir i ≡ firstCause (directoryAttributeCause s ∷ streamCause y d m a ∷ [])
-    skip f = cause-is ∙ cause-skip (entryCause y bs i) (directoryAttributeCause s ∷ streamCause y d m a ∷ []) (unfold entryCause in (rw (sound-is ∙ f) refl))
+    skip f =
+        cause-is y d m dir i
+        ∙ cause-skip (entryCause y bs i) (directoryAttributeCause s ∷ streamCause y d m a ∷ []) (unfold entryCause in (rw (sound-is ∙ f) refl))
 
     attribute-is : wellFormed (y .count) (y .size) s ≡ true → c ≡ directoryAttributeCause s
     attribute-is f = e ∙ cond-yes (wellFormed (y .count) (y .size) s) (directoryAttributeCause s) 10 f
 
-    pub file-not : c ≢ 0 → noFile c ≡ openFile y d m dir i goal
+    pub file-not : c ≢ 0 → noFile c ≡ openFile y d m dir i offset
     file-not z = by (wellFormed (y .count) (y .size) s) refl
       where
-        by : (b : Bool) → wellFormed (y .count) (y .size) s ≡ b → noFile c ≡ openFile y d m dir i goal
+        by : (b : Bool) → wellFormed (y .count) (y .size) s ≡ b → noFile c ≡ openFile y d m dir i offset
         by true f =
             let t = attribute-is f in
             open-no c (skip f ∙ cause-met (directoryAttributeCause s) (streamCause y d m a ∷ []) (λ q. z (t ∙ q)) ∙ sym t) z
@@ -469,9 +458,10 @@ module _ (y : Layout) (d m : List ℕ) (dir : Allocation) (i goal : ℕ) where
     file-formed z = cause-formed (y .count) (y .size) s (sym e ∙ z)
 
     -- the stream's number is the file's
-    module _ (z : c ≡ 0) (o : Opened) (q : o ≡ openedStream y d m (fileRecord y d (setIn y d dir i)) goal) where
+    module _ (z : c ≡ 0) (o : Opened)
+        (q : o ≡ openedStream y d m (fileRecord y d (setIn y d dir i)) (startSteps (y .size) (validLength (setIn y d dir i)) offset (fileRecord y d (setIn y d dir i) .count))) where
       stream-number : o .number ≡ streamCause y d m a
-      stream-number = ap (λ (x : Opened). x .number) q ∙ opened-number (streamCause y d m a) a (getD (clustersIn y d a) goal 0)
+      stream-number = ap (λ (x : Opened). x .number) q ∙ opened-number (streamCause y d m a) a (placeAt y d a begin)
 
       number-is : fileCause y d m dir i ≡ o .number
       number-is =
@@ -479,13 +469,13 @@ module _ (y : Layout) (d m : List ℕ) (dir : Allocation) (i goal : ℕ) where
           skip f ∙ cause-skip (directoryAttributeCause s) (streamCause y d m a ∷ []) (sym (attribute-is f) ∙ z) ∙ cause-last (streamCause y d m a)
           ∙ sym stream-number
 
-      pub file-refused : o .number ≢ 0 → noFile (o .number) ≡ openFile y d m dir i goal
+      pub file-refused : o .number ≢ 0 → noFile (o .number) ≡ openFile y d m dir i offset
       file-refused t = open-no (o .number) number-is t
 
       pub file-done : o .number ≡ 0 → (p : Spot) → p ≡ spotOf y d dir i
-          → record { number = 0; spot = p; stream = o .allocation; seen = o .seen } ≡ openFile y d m dir i goal
+          → record { number = 0; spot = p; stream = o .allocation; place = o .place } ≡ openFile y d m dir i offset
       unfolding openFile foundFile
       file-done t p u =
-          let v : o ≡ record { number = 0; allocation = a; seen = getD (clustersIn y d a) goal 0 } =
-          q ∙ sym (opened-yes (streamCause y d m a) a (getD (clustersIn y d a) goal 0) (sym stream-number ∙ t)) in
-          ap₂ (λ (x : Spot) (z : Opened). record { number = 0; spot = x; stream = z .allocation; seen = z .seen }) u v ∙ (rw (number-is ∙ t) refl)
+          let v : o ≡ record { number = 0; allocation = a; place = placeAt y d a begin } =
+          q ∙ sym (opened-yes (streamCause y d m a) a (placeAt y d a begin) (sym stream-number ∙ t)) in
+          ap₂ (λ (x : Spot) (z : Opened). record { number = 0; spot = x; stream = z .allocation; place = z .place }) u v ∙ (rw (number-is ∙ t) refl)

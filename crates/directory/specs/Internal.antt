@@ -3,16 +3,18 @@ use mathlib.Core.Path.{_≡_}
 use mathlib.Core.Bool.{Bool, true, cond, _&&_}
 use mathlib.Core.List.{List, [], _∷_}
 use mathlib.Core.Option.{Option, none, some}
-use Prim.Native.Nat.{ℕ, zero, suc, _+_, _-_, _*_, _/_, _%_, _≤_, _<_}
+use Prim.Native.Nat.{ℕ, zero, suc, _+_, _-_, _*_, _/_, _%_, _≤_, _<_, min}
 use lib.Dec.{ltb, eqb, leb}
 use lib.ListN.{length, getD, drop, replicate}
 use Rattle.boot.specs.declared.layout.Layout.{Layout}
 use Rattle.boot.specs.Layout.{inHeap}
 use Rattle.metadata.specs.Fat.{fatEntry}
 use Rattle.stream.specs.declared.allocation.Allocation.{Allocation}
-use Rattle.stream.specs.Internal.{after, reached}
+use Rattle.stream.specs.declared.bytes.Place.{Place}
+use Rattle.stream.specs.Internal.{after, reached, placeAt}
 use Rattle.stream.specs.Bytes.{bytesIn}
 use Rattle.stream.specs.Stream.{empty, clustersIn}
+use Rattle.entry_set.specs.Fields.{validLength}
 use Rattle.directory.specs.declared.directory.Directory.{Directory}
 use Rattle.directory.specs.declared.entries.Cursor.{Cursor}
 use Rattle.directory.specs.declared.entries.Room.{Room}
@@ -79,14 +81,23 @@ setRead bs i = cond (eqb (wholeSet bs i) 0) (replicate 608 0) (setAt bs i)
 unfoldable pub sets : List ℕ → ℕ → Option (List ℕ)
 sets bs i = cond (isFile bs i) (some (setAt bs i)) none
 
--- a number with a record and a cluster, which are empty and 0 beside a refusal
-unfoldable pub opened : ℕ → Allocation → ℕ → Opened
-opened n a k =
-    cond (eqb n 0) (record { number = 0; allocation = a; seen = k }) (record { number = n; allocation = empty; seen = 0 })
+-- no place
+abbrev pub noPlace : Place
+noPlace = record { cluster = 0; steps = 0 }
 
--- a stream's record and its cluster `goal` steps from the first, 0 where it ends before; or the number of what refuses it
+-- a number with a record and a place, which are empty and none beside a refusal
+unfoldable pub opened : ℕ → Allocation → Place → Opened
+opened n a p =
+    cond (eqb n 0) (record { number = 0; allocation = a; place = p }) (record { number = n; allocation = empty; place = noPlace })
+
+-- a stream's record and the place `goal` steps along it; or the number of what refuses it
 abbrev pub openedStream : (y : Layout) (d m : List ℕ) (a : Allocation) (goal : ℕ) → Opened
-openedStream y d m a goal = opened (streamCause y d m a) a (getD (clustersIn y d a) goal 0)
+openedStream y d m a goal = opened (streamCause y d m a) a (placeAt y d a goal)
+
+-- how many steps lead to where a call on the bytes from an offset on begins, in a stream of so many clusters: to the cluster of the lesser
+-- of valid length and offset, or to the last one
+unfoldable pub startSteps : (size valid offset count : ℕ) → ℕ
+startSteps size valid offset count = min (min valid offset / size) (count - 1)
 
 -- the clusters from that of a slot on, three of them, 0 where the directory ends, and the slot's byte in the first
 unfoldable pub spotOf : Layout → List ℕ → Allocation → ℕ → Spot
@@ -107,14 +118,19 @@ pub record Reaches (y : Layout) (s : Spot) (n : ℕ) : Type 0 where
 
 -- no file: a number with no spot and the empty record
 abbrev pub noFile : ℕ → OpenFile
-noFile n = record { number = n; spot = record { first = 0; second = 0; third = 0; at = 0 }; stream = empty; seen = 0 }
+noFile n = record { number = n; spot = record { first = 0; second = 0; third = 0; at = 0 }; stream = empty; place = noPlace }
 
--- the file at a slot of directory a: where its set stands, its stream's record, and its cluster `goal` steps from the first
-unfoldable pub foundFile : (y : Layout) (d : List ℕ) (a : Allocation) (slot goal : ℕ) → OpenFile
-foundFile y d a slot goal =
-    let b = fileRecord y d (setIn y d a slot) in
-    record { number = 0; spot = spotOf y d a slot; stream = b; seen = getD (clustersIn y d b) goal 0 }
+-- where a call on the bytes from an offset on begins in stream b of the file of set s
+abbrev pub startPlace : (y : Layout) (d : List ℕ) (b : Allocation) (s : List ℕ) (offset : ℕ) → Place
+startPlace y d b s offset = placeAt y d b (startSteps (y .size) (validLength s) offset (b .count))
+
+-- the file at a slot of directory a: where its set stands, its stream's record, and where a call on the bytes from an offset on begins
+unfoldable pub foundFile : (y : Layout) (d : List ℕ) (a : Allocation) (slot offset : ℕ) → OpenFile
+foundFile y d a slot offset =
+    let s = setIn y d a slot in
+    let b = fileRecord y d s in
+    record { number = 0; spot = spotOf y d a slot; stream = b; place = startPlace y d b s offset }
 
 -- the same opened, or the number of what refuses it
-unfoldable pub openFile : (y : Layout) (d m : List ℕ) (a : Allocation) (slot goal : ℕ) → OpenFile
-openFile y d m a slot goal = let n = fileCause y d m a slot in cond (eqb n 0) (foundFile y d a slot goal) (noFile n)
+unfoldable pub openFile : (y : Layout) (d m : List ℕ) (a : Allocation) (slot offset : ℕ) → OpenFile
+openFile y d m a slot offset = let n = fileCause y d m a slot in cond (eqb n 0) (foundFile y d a slot offset) (noFile n)

@@ -2,17 +2,18 @@
 ghost use mathlib.Core.Path.{_≡_};
 ghost use mathlib.Core.Bool.{true, false, cond};
 ghost use Prim.Native.Nat.{_+_, _-_, _*_, _≤_, _<_};
-ghost use lib.ListN.{length, getD, replicate};
-ghost use Rattle.tables.specs.Lists.{lastOr, consec};
+ghost use lib.ListN.{length, replicate};
+ghost use Rattle.tables.specs.Lists.{lastOr};
 ghost use Rattle.boot.specs.Internal.{Laid, Apart};
 ghost use Rattle.boot.specs.Layout.{inHeap};
 ghost use Rattle.metadata.specs.Fat.{fatEntry};
 ghost use Rattle.stream.specs.Chain.{readChain};
 ghost use Rattle.stream.specs.Stream.{numberOf, streamOf, clustersOf, empty};
+ghost use Rattle.entry_set.specs.Fields.{validLength};
 ghost use Rattle.entry_set.specs.Sound.{wellFormed};
 ghost use Rattle.stream.specs.Bytes.{bytesIn};
 ghost use Rattle.directory.specs.Entries.{entryCount, beforeEnd, entriesAt};
-ghost use Rattle.directory.specs.Internal.{entryPlace, wholeSet, setRead, openedStream, noFile, openFile};
+ghost use Rattle.directory.specs.Internal.{entryPlace, wholeSet, setRead, noPlace, openedStream, startSteps, noFile, openFile};
 ghost use Rattle.directory.specs.Open.{fileRecord, directoryAttributeCause, setIn};
 use crate::entries::Cursor;
 use crate::spot::Spot;
@@ -20,20 +21,20 @@ use boot::layout::Layout;
 use stream::allocation::Allocation;
 use stream::bytes::Place;
 
-// A stream's record and the cluster that the caller looks for, 0 where the stream ends before it; or the number of what refuses it.
+// A stream's record and the place where the call begins in it; or the number of what refuses it.
 struct Opened {
     number: u32,
     allocation: Allocation,
-    seen: u32,
+    place: Place,
 }
 
-// A file opened (Rust: `OpenFile`): where its set stands, its stream's record and the stream's cluster that the caller looks for, 0
-// where the stream ends before it; or the number of what refuses it.
+// A file opened (Rust: `OpenFile`): where its set stands, its stream's record and the place where the call begins in it, which the walk
+// that tested the stream took down; or the number of what refuses it.
 pub struct OpenFile {
     pub number: u32,
     pub spot: Spot,
     pub stream: Allocation,
-    pub seen: u32,
+    pub place: Place,
 }
 
 // How many entries the set has whose first entry e is, at a slot with no type 0 before it: 0 where that is no file entry or the set does
@@ -77,20 +78,30 @@ fn copy_set(
     stream::bytes::read(vol, y, dir, known, at, set, 32 * n);
 }
 
+// No place.
+fn no_place() -> Place
+    ensures { λ r. ⌜ r ≡ noPlace ⌝ }
+{
+    Place {
+        cluster: 0,
+        steps: 0,
+    }
+}
+
 // A number with the empty record.
 fn not_opened(number: u32) -> Opened
-    ensures { λ r. ⌜ r ≡ record { number = number; allocation = empty; seen = 0 } ⌝ }
+    ensures { λ r. ⌜ r ≡ record { number = number; allocation = empty; place = noPlace } ⌝ }
 {
     Opened {
         number: number,
         allocation: stream::allocation::empty_record(),
-        seen: 0,
+        place: no_place(),
     }
 }
 
-// A chain of n clusters opened: one walk gives its record, its cluster `goal` steps from the first, and what refuses it.
+// A chain of n clusters opened: one walk gives its record, the place `goal` steps along it, and what refuses it.
 fn open_chain(vol: &[u8], map: &[u8], y: Layout, first: u32, n: u32, goal: u32) -> Opened
-    requires { ⌜ Laid y × ((length (now vol) ≡ y .len) × ((y .count ≤ 8 * length (now map)) × ((inHeap (y .count) first ≡ true) × (1 ≤ n)))) ⌝ }
+    requires { ⌜ Laid y × ((length (now vol) ≡ y .len) × ((y .count ≤ 8 * length (now map)) × ((inHeap (y .count) first ≡ true) × (goal < n)))) ⌝ }
     ensures { λ r. ⌜ r ≡ openedStream y (now (vol .entry)) (now (map .entry)) (record { first = first; last = lastOr 0 (clustersOf (readChain (y .count) (fatEntry y (now (vol .entry))) first)); count = n; «no_fat_chain» = false }) goal ⌝ }
 {
     let w = stream::walk::fat_chain(vol, map, y, false, first, goal);
@@ -105,29 +116,22 @@ fn open_chain(vol: &[u8], map: &[u8], y: Layout, first: u32, n: u32, goal: u32) 
             count: n,
             no_fat_chain: false,
         };
+        let place = Place {
+            cluster: w.seen,
+            steps: goal,
+        };
         return Opened {
             number: 0,
             allocation: a,
-            seen: w.seen,
+            place: place,
         };
     }
     not_opened(9)
 }
 
-// The cluster `goal` steps from first in a run of n clusters, 0 where it ends before.
-fn run_cluster(first: u32, n: u32, goal: u32) -> u32
-    requires { ⌜ first + n ≤ 65536 ⌝ }
-    ensures { λ r. ⌜ r ≡ getD (consec first n) goal 0 ⌝ }
-{
-    if goal < n {
-        return first + goal;
-    }
-    0
-}
-
 // A run of n clusters opened: its marks, then the system map; no FAT entry is read.
 fn open_run(vol: &[u8], map: &[u8], y: Layout, first: u32, n: u32, goal: u32) -> Opened
-    requires { ⌜ Laid y × ((length (now vol) ≡ y .len) × ((y .count ≤ 8 * length (now map)) × ((first + n ≤ y .count + 2) × (1 ≤ n)))) ⌝ }
+    requires { ⌜ Laid y × ((length (now vol) ≡ y .len) × ((y .count ≤ 8 * length (now map)) × ((first + n ≤ y .count + 2) × (goal < n)))) ⌝ }
     ensures { λ r. ⌜ r ≡ openedStream y (now (vol .entry)) (now (map .entry)) (record { first = first; last = first + n - 1; count = n; «no_fat_chain» = true }) goal ⌝ }
 {
     let a = Allocation {
@@ -144,17 +148,38 @@ fn open_run(vol: &[u8], map: &[u8], y: Layout, first: u32, n: u32, goal: u32) ->
     if system != 0 {
         return not_opened(system);
     }
+    let place = Place {
+        cluster: first + goal,
+        steps: goal,
+    };
     Opened {
         number: 0,
         allocation: a,
-        seen: run_cluster(first, n, goal),
+        place: place,
     }
 }
 
-// The record of a set's stream and its cluster `goal` steps from the first, or what refuses it: its clusters' number, then 9.
-fn open_stream(vol: &[u8], map: &[u8], y: Layout, set: &[u8; 608], goal: u32) -> Opened
+// How many steps lead to where a call on the bytes from an offset on begins, in the stream of n clusters that a set has.
+fn start_steps(y: Layout, set: &[u8; 608], offset: u64, n: u32) -> u32
+    requires { ⌜ Laid y × (1 ≤ n) ⌝ }
+    ensures { λ r. ⌜ r ≡ startSteps (y .size) (validLength (now (set .entry))) offset n ⌝ }
+{
+    let mut at = entry_set::entry::valid_length(set);
+    if offset < at {
+        at = offset;
+    }
+    let steps = at / (y.size as u64);
+    if steps < n as u64 {
+        return steps as u32;
+    }
+    n - 1
+}
+
+// The record of a set's stream and where a call on the bytes from an offset on begins in it; or what refuses it: its clusters' number,
+// then 9.
+fn open_stream(vol: &[u8], map: &[u8], y: Layout, set: &[u8; 608], offset: u64) -> Opened
     requires { ⌜ Laid y × ((length (now vol) ≡ y .len) × ((y .count ≤ 8 * length (now map)) × (wellFormed (y .count) (y .size) (now set) ≡ true))) ⌝ }
-    ensures { λ r. ⌜ r ≡ openedStream y (now (vol .entry)) (now (map .entry)) (fileRecord y (now (vol .entry)) (now (set .entry))) goal ⌝ }
+    ensures { λ r. ⌜ (let b = fileRecord y (now (vol .entry)) (now (set .entry)) in r ≡ openedStream y (now (vol .entry)) (now (map .entry)) b (startSteps (y .size) (validLength (now (set .entry))) offset (b .count))) ⌝ }
 {
     let len = entry_set::entry::data_length(set);
     if len == 0 {
@@ -162,6 +187,7 @@ fn open_stream(vol: &[u8], map: &[u8], y: Layout, set: &[u8; 608], goal: u32) ->
     }
     let n = entry_set::entry::clusters_for(y.size, len) as u32;
     let first = entry_set::entry::first_cluster(set);
+    let goal = start_steps(y, set, offset, n);
     if entry_set::entry::no_fat_chain(set) {
         return open_run(vol, map, y, first, n, goal);
     }
@@ -197,7 +223,7 @@ pub fn no_file(number: u32) -> OpenFile
         number: number,
         spot: spot,
         stream: a,
-        seen: 0,
+        place: no_place(),
     }
 }
 
@@ -210,26 +236,27 @@ fn open_copied(
     slot: u32,
     e: Cursor,
     set: &[u8; 608],
-    goal: u32,
+    offset: u64,
 ) -> OpenFile
     requires { ⌜ Laid y × ((length (now vol) ≡ y .len) × ((y .count ≤ 8 * length (now map)) × (Apart y × ((numberOf (streamOf y (now vol) dir) ≡ 0) × ((slot < entryCount (bytesIn y (now vol) dir)) × ((e ≡ entryPlace y (now vol) dir slot) × ((1 ≤ wholeSet (bytesIn y (now vol) dir) slot) × (now set ≡ setIn y (now vol) dir slot)))))))) ⌝ }
-    ensures { λ r. ⌜ r ≡ openFile y (now (vol .entry)) (now (map .entry)) dir slot goal ⌝ }
+    ensures { λ r. ⌜ r ≡ openFile y (now (vol .entry)) (now (map .entry)) dir slot offset ⌝ }
 {
     let cause = set_cause(set, y.count, y.size);
     if cause != 0 {
         return no_file(cause);
     }
-    let s = open_stream(vol, map, y, set, goal);
+    let s = open_stream(vol, map, y, set, offset);
     if s.number != 0 {
         return no_file(s.number);
     }
     let spot = crate::spot::spot_from(vol, y, dir, slot, e);
     let a = s.allocation;
+    let place = s.place;
     OpenFile {
         number: 0,
         spot: spot,
         stream: a,
-        seen: s.seen,
+        place: place,
     }
 }
 
@@ -242,33 +269,33 @@ fn open_at(
     slot: u32,
     e: Cursor,
     total: u32,
-    goal: u32,
+    offset: u64,
     set: &mut [u8; 608],
 ) -> OpenFile
     requires { ⌜ Laid y × ((length (now vol) ≡ y .len) × ((y .count ≤ 8 * length (now map)) × (Apart y × ((numberOf (streamOf y (now vol) dir) ≡ 0) × ((slot < entryCount (bytesIn y (now vol) dir)) × ((e ≡ entryPlace y (now vol) dir slot) × ((total ≡ entryCount (bytesIn y (now vol) dir)) × ((total ≤ 524288) × ((beforeEnd (bytesIn y (now vol) dir) slot ≡ true) × (now set ≡ replicate 608 0)))))))))) ⌝ }
-    ensures { λ r. ⌜ (r ≡ openFile y (now (vol .entry)) (now (map .entry)) dir slot goal) × (now (set .exit) ≡ setRead (bytesIn y (now (vol .entry)) dir) slot) ⌝ }
+    ensures { λ r. ⌜ (r ≡ openFile y (now (vol .entry)) (now (map .entry)) dir slot offset) × (now (set .exit) ≡ setRead (bytesIn y (now (vol .entry)) dir) slot) ⌝ }
 {
     let n = entries_here(vol, y, dir, slot, e, total);
     if n == 0 {
         return no_file(10);
     }
     copy_set(vol, y, dir, slot, e, n, set);
-    open_copied(vol, map, y, dir, slot, e, set, goal)
+    open_copied(vol, map, y, dir, slot, e, set, offset)
 }
 
-// Opens the file at a slot, and copies its set (Rust: `open_for_write`); the cluster of its stream `goal` steps from the first is noted
-// on the way.
+// Opens the file at a slot for a call on its bytes from an offset on, and copies its set (Rust: `open_for_write`); the place where the
+// call begins is taken down on the way.
 pub fn open_file(
     vol: &[u8],
     map: &[u8],
     y: Layout,
     dir: Allocation,
     slot: u32,
-    goal: u32,
+    offset: u64,
     set: &mut [u8; 608],
 ) -> OpenFile
     requires { ⌜ Laid y × ((length (now vol) ≡ y .len) × ((y .count ≤ 8 * length (now map)) × (Apart y × ((numberOf (streamOf y (now vol) dir) ≡ 0) × (now set ≡ replicate 608 0))))) ⌝ }
-    ensures { λ r. ⌜ (r ≡ openFile y (now (vol .entry)) (now (map .entry)) dir slot goal) × (now (set .exit) ≡ setRead (bytesIn y (now (vol .entry)) dir) slot) ⌝ }
+    ensures { λ r. ⌜ (r ≡ openFile y (now (vol .entry)) (now (map .entry)) dir slot offset) × (now (set .exit) ≡ setRead (bytesIn y (now (vol .entry)) dir) slot) ⌝ }
 {
     let total = crate::entries::entry_count(vol, y, dir);
     if total <= slot {
@@ -278,5 +305,5 @@ pub fn open_file(
     if e.cluster == 0 {
         return no_file(10);
     }
-    open_at(vol, map, y, dir, slot, e, total, goal, set)
+    open_at(vol, map, y, dir, slot, e, total, offset, set)
 }

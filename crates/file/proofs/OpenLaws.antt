@@ -2,7 +2,7 @@
 use mathlib.Core.Path.{_≡_, refl, sym, _∙_, ap, subst}
 use mathlib.Core.Bool.{Bool, true, false, not, cond}
 use mathlib.Core.List.{List, [], _∷_}
-use Prim.Native.Nat.{ℕ, _+_, _-_, _*_, _/_, _≤_, _<_}
+use Prim.Native.Nat.{ℕ, _+_, _-_, _*_, _/_, _≤_, _<_, min}
 use native.Mathlib.Nat.{mul-le-mul-right}
 use native.Mathlib.Omega.{arith}
 use lib.Dec.{eqb}
@@ -20,6 +20,7 @@ use Rattle.metadata.specs.Fat.{fatEntry}
 use Rattle.metadata.proofs.Frame.{Fits}
 use Rattle.stream.specs.Bytes.{storeAt, bytesIn}
 use Rattle.stream.specs.declared.allocation.Allocation.{Allocation}
+use Rattle.stream.specs.Internal.{Known}
 use Rattle.stream.specs.Stream.{numberOf, streamOf, clustersOf, systemCause, clustersIn}
 use Rattle.stream.proofs.ListingLaws.{stream-read}
 use Rattle.stream.proofs.BytesSteps.{every-drop}
@@ -33,11 +34,12 @@ use Rattle.file.specs.declared.answer.FileAnswer.{FileAnswer}
 use Rattle.file.specs.Outcome.{Outcome, refuse, carried}
 use Rattle.directory.specs.declared.directory.Directory.{Directory}
 use Rattle.directory.specs.Directory.{rootRecord, bitmapCause, directoryCause}
-use Rattle.directory.specs.Internal.{openRoot, spotOf, spotClusters, Reaches, noFile, foundFile, openFile, setRead}
+use Rattle.directory.specs.Internal.{openRoot, spotOf, spotClusters, Reaches, noFile, startPlace, foundFile, openFile, setRead}
 use Rattle.directory.proofs.DirectoryLaws.{clusters-length}
 use Rattle.directory.specs.Entries.{entryCount, entriesAt, setAt, isSound}
 use Rattle.directory.proofs.EntryLaws.{sound-file, sound-few, sound-room, sound-formed, set-count}
 use Rattle.directory.proofs.FileLaws.{record-count, file-sound, file-read}
+use Rattle.directory.proofs.StartLaws.{start-known}
 use Rattle.directory.specs.declared.open_file.OpenFile.{OpenFile}
 use Rattle.directory.proofs.CursorLaws.{length-in, count-few}
 use Rattle.directory.specs.declared.spot.Spot.{Spot}
@@ -240,8 +242,8 @@ refuse-shown n hint d r e = (e, refl)
 
 -- ---- the target of a call
 
-module _ (y : Layout) (d m : List ℕ) (a : Allocation) (slot hint : ℕ) where
-  target-refused : (n : ℕ) → n ≡ openCause y d m a slot hint → (n ≡ 0 → ⊥) → noFile n ≡ target y d m a slot hint
+module _ (y : Layout) (d m : List ℕ) (a : Allocation) (slot offset hint : ℕ) where
+  target-refused : (n : ℕ) → n ≡ openCause y d m a slot hint → (n ≡ 0 → ⊥) → noFile n ≡ target y d m a slot offset hint
   unfolding target
   target-refused n e z = rw (← e, ne-eqb n 0 z) refl
 
@@ -249,7 +251,7 @@ module _ (y : Layout) (d m : List ℕ) (a : Allocation) (slot hint : ℕ) where
   unfolding targetSet
   set-refused z = rw (ne-eqb (firstCause (heapCause (y .count) hint ∷ directoryCause y d a ∷ [])) 0 z) refl
 
-  pub target-hint : inHeap (y .count) hint ≡ false → (noFile 2 ≡ target y d m a slot hint) × (replicate 608 0 ≡ targetSet y d a slot hint)
+  pub target-hint : inHeap (y .count) hint ≡ false → (noFile 2 ≡ target y d m a slot offset hint) × (replicate 608 0 ≡ targetSet y d a slot hint)
   target-hint h =
       let q = heap-met (y .count) hint h in (
         target-refused 2 (sym (open-hint y d m a slot hint h)) (λ z. omega arith),
@@ -261,7 +263,7 @@ module _ (y : Layout) (d m : List ℕ) (a : Allocation) (slot hint : ℕ) where
     set-cause = cause-skip (heapCause (y .count) hint) (directoryCause y d a ∷ []) (heap-kept (y .count) hint h) ∙ cause-last (directoryCause y d a)
 
     pub target-directory : (n : ℕ) → n ≡ directoryCause y d a → (n ≡ 0 → ⊥)
-        → (noFile n ≡ target y d m a slot hint) × (replicate 608 0 ≡ targetSet y d a slot hint)
+        → (noFile n ≡ target y d m a slot offset hint) × (replicate 608 0 ≡ targetSet y d a slot hint)
     target-directory n e z = (
       target-refused n (e ∙ sym (open-not-read y d m a slot hint h (λ q. z (e ∙ q)))) z,
       set-refused (λ q. z (e ∙ sym set-cause ∙ q)),
@@ -271,29 +273,33 @@ module _ (y : Layout) (d m : List ℕ) (a : Allocation) (slot hint : ℕ) where
     unfolding targetSet
     set-read q = rw (set-cause ∙ q) refl
 
-    pub target-file : directoryCause y d a ≡ 0 → (openFile y d m a slot 0 ≡ target y d m a slot hint) × (setRead (bytesIn y d a) slot ≡ targetSet y d a slot hint)
+    pub target-file : directoryCause y d a ≡ 0 → (openFile y d m a slot offset ≡ target y d m a slot offset hint) × (setRead (bytesIn y d a) slot ≡ targetSet y d a slot hint)
     unfolding target openFile
     target-file q = (rw (open-is y d m a slot hint h q) refl, set-read q)
 
   -- its number, and the file where that is 0
-  pub target-number : target y d m a slot hint .number ≡ openCause y d m a slot hint
+  pub target-number : target y d m a slot offset hint .number ≡ openCause y d m a slot hint
   unfolding target
   target-number = by (eqb (openCause y d m a slot hint) 0) refl
     where
       by : (t : Bool) → eqb (openCause y d m a slot hint) 0 ≡ t
-          → cond t (foundFile y d a slot 0) (noFile (openCause y d m a slot hint)) .number ≡ openCause y d m a slot hint
+          → cond t (foundFile y d a slot offset) (noFile (openCause y d m a slot hint)) .number ≡ openCause y d m a slot hint
       by true e = unfold foundFile in (sym (eqb-true (openCause y d m a slot hint) 0 e))
       by false e = refl
 
-  found-spot : foundFile y d a slot 0 .spot ≡ spotOf y d a slot
+  found-spot : foundFile y d a slot offset .spot ≡ spotOf y d a slot
   unfolding foundFile
   found-spot = refl
 
-  found-stream : foundFile y d a slot 0 .stream ≡ fileRecord y d (setIn y d a slot)
+  found-stream : foundFile y d a slot offset .stream ≡ fileRecord y d (setIn y d a slot)
   unfolding foundFile
   found-stream = refl
 
-  target-is : openCause y d m a slot hint ≡ 0 → target y d m a slot hint ≡ foundFile y d a slot 0
+  found-place : foundFile y d a slot offset .place ≡ startPlace y d (fileRecord y d (setIn y d a slot)) (setIn y d a slot) offset
+  unfolding foundFile
+  found-place = refl
+
+  target-is : openCause y d m a slot hint ≡ 0 → target y d m a slot offset hint ≡ foundFile y d a slot offset
   unfolding target
   target-is e = rw e refl
 
@@ -304,7 +310,7 @@ module _ (y : Layout) (d m : List ℕ) (a : Allocation) (slot hint : ℕ) where
       by true q = q
       by false q = absurd (let z = heap-met (y .count) hint q in omega arith)
 
-  module _ (w : Fits y d) (k : y .count ≤ 8 * length m) (f : OpenFile) (e : f ≡ target y d m a slot hint) (s : List ℕ) (q : s ≡ targetSet y d a slot hint)
+  module _ (w : Fits y d) (k : y .count ≤ 8 * length m) (f : OpenFile) (e : f ≡ target y d m a slot offset hint) (s : List ℕ) (q : s ≡ targetSet y d a slot hint)
       (z : f .number ≡ 0) where
     open-none : openCause y d m a slot hint ≡ 0
     open-none = sym target-number ∙ ap (λ (x : OpenFile). x .number) (sym e) ∙ z
@@ -327,3 +333,12 @@ module _ (y : Layout) (d m : List ℕ) (a : Allocation) (slot hint : ℕ) where
           stream = ap (λ (x : OpenFile). x .stream) (e ∙ target-is open-none) ∙ found-stream ∙ ap (fileRecord y d) (sym i);
           hint-in = hint-of (c .0);
         }
+
+    -- and where the call begins in its stream
+    pub found-known : Known y d (f .stream) (f .place) (min (validLength s) offset)
+    found-known =
+        let o = found-opens in
+        let i : f .place ≡ startPlace y d (f .stream) s offset =
+        ap (λ (x : OpenFile). x .place) (e ∙ target-is open-none) ∙ found-place ∙ ap (λ (x : List ℕ). startPlace y d (fileRecord y d x) x offset) (sym (o .set))
+        ∙ ap (λ (x : Allocation). startPlace y d x s offset) (sym (o .stream)) in
+        rw i (start-known y d (f .stream) s offset)

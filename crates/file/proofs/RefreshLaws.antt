@@ -1,14 +1,14 @@
 -- The clusters that a length needs, and a stream's clusters as code goes along them. Assumes nothing.
 use mathlib.Core.Path.{_≡_, refl, sym, _∙_, ap, ap₂}
-use mathlib.Core.Bool.{true}
+use mathlib.Core.Bool.{Bool, true}
 use mathlib.Core.List.{List, _++_}
-use Prim.Native.Nat.{ℕ, suc, _+_, _-_, _*_, _≤_, _<_}
+use Prim.Native.Nat.{ℕ, suc, _+_, _-_, _*_, _/_, _≤_, _<_, min}
 use native.Mathlib.Decide.{ℕ-discrete, decLt}
-use native.Mathlib.Nat.{mul-le-mul-right}
+use native.Mathlib.Nat.{mul-le-mul-right, div-lt-iff-lt-mul, div-mul-le-self}
 use native.Mathlib.Omega.{arith}
 use lib.ListN.{length, take, replicate, length-append}
 use lib.Seq.{take-at}
-use borrow.Author.Tests.{eq-eqb, ne-eqb}
+use borrow.Author.Tests.{eq-eqb, ne-eqb, lt-ltb, le-ltb}
 use Rattle.tables.specs.Lists.{every, lastOr}
 use Rattle.tables.specs.Count.{count}
 use Rattle.tables.proofs.CountLaws.{count-le}
@@ -23,9 +23,9 @@ use Rattle.stream.specs.declared.allocation.Allocation.{Allocation}
 use Rattle.stream.specs.declared.bytes.Place.{Place}
 use Rattle.stream.specs.Chain.{listed}
 use Rattle.stream.specs.Stream.{clustersOf, numberOf, streamOf, clustersIn}
-use Rattle.stream.specs.Internal.{along, Known}
+use Rattle.stream.specs.Internal.{along, reached, placeAt, Known}
 use Rattle.stream.specs.Bytes.{storeAt}
-use Rattle.stream.proofs.BytesSteps.{store-nothing, reach-last, take-along, known-first, known-same}
+use Rattle.stream.proofs.BytesSteps.{store-nothing, reach-last, take-along, known-at, known-first, known-same, known-later}
 use Rattle.stream.proofs.ListingLaws.{stream-read, along-heap}
 use Rattle.stream.proofs.ChainLaws.{stream-listed}
 use Rattle.stream.proofs.Distinct.{read-length}
@@ -39,7 +39,7 @@ use Rattle.write_extend.proofs.EnoughLaws.{Extended, extend-done}
 use Rattle.write_alloc.proofs.AllocateLaws.{space-met, space-kept}
 use Rattle.directory.proofs.DirectoryLaws.{clusters-along}
 use Rattle.file.specs.Refresh.{missing, lengthCause}
-use Rattle.file.specs.Internal.{knownPlace}
+use Rattle.file.specs.Internal.{grownPlace, zeroedPlace}
 
 module _ (y : Layout) (b : Allocation) (len : ℕ) where
   pub missing-is : missing y b len ≡ clustersFor (y .size) len - b .count
@@ -85,19 +85,44 @@ module _ (y : Layout) (d : List ℕ) (w : Fits y d) (b : Allocation) (e : number
   pub stored-heap : every (inHeap (y .count)) (along (fatEntry y d′) (b .«no_fat_chain») (b .first) (b .count)) ≡ true
   stored-heap = ap (every (inHeap (y .count))) stored-along ∙ heap-in
 
-  pub stored-known : (p : Place) → Known y d b p → Known y d′ b p
-  stored-known p k = known-same y d b p k d′ (sym (clusters-along y d b e) ∙ sym stored-along)
+  pub stored-known : (p : Place) (i : ℕ) → Known y d b p i → Known y d′ b p i
+  stored-known p i k = known-same y d b p i k d′ (sym (clusters-along y d b e) ∙ sym stored-along)
+
+-- ---- the place that zeros reach
+
+module _ (y : Layout) (d : List ℕ) (b : Allocation) (p : Place) (from to : ℕ) where
+  pub zeroed-some : from < to → zeroedPlace y d b p from to ≡ placeAt y d b ((to - 1) / y .size)
+  unfolding zeroedPlace
+  zeroed-some h = rw (lt-ltb from to h) refl
+
+  pub zeroed-none : to ≤ from → zeroedPlace y d b p from to ≡ p
+  unfolding zeroedPlace
+  zeroed-none h = rw (le-ltb from to h) refl
+
+  -- what follows the zeros goes on from there
+  pub zeroed-known : 1 ≤ y .size → to ≤ b .count * y .size → Known y d b p (min from to) → Known y d b (zeroedPlace y d b p from to) to
+  zeroed-known l h k =
+      elim (decLt from to) [
+        | yes f ↦
+            let i = div-lt-iff-lt-mul {k = y .size} {x = to - 1} {y = b .count} (omega arith) .1 (omega arith) in
+            rw (zeroed-some f) (known-at y d b ((to - 1) / y .size) to (omega arith) (omega (arith, div-mul-le-self (to - 1) (y .size))))
+        | no f ↦ rw (zeroed-none (omega arith)) (known-later y d b p (min from to) k to (omega arith))
+      ]
 
 -- ---- a stream that grew
 
-module _ (b a : Allocation) where
-  pub known-none : b .count ≡ 0 → knownPlace b a ≡ record { cluster = a .first; steps = 0 }
-  unfolding knownPlace
-  known-none e = rw (eq-eqb (b .count) 0 e) refl
+module _ (b : Allocation) (p : Place) (a : Allocation) where
+  pub place-first : b .count ≡ 0 → grownPlace b p a ≡ record { cluster = a .first; steps = 0 }
+  unfolding grownPlace
+  place-first e = rw (eq-eqb (b .count) 0 e) refl
 
-  pub known-last : (b .count ≡ 0 → ⊥) → knownPlace b a ≡ record { cluster = b .last; steps = b .count - 1 }
-  unfolding knownPlace
-  known-last e = rw (ne-eqb (b .count) 0 e) refl
+  pub place-same : (b .count ≡ 0 → ⊥) → grownPlace b p a ≡ p
+  unfolding grownPlace
+  place-same e = rw (ne-eqb (b .count) 0 e) refl
+
+-- the cluster so many steps along a stream, as one of its list
+reach-of : (f : ℕ → ℕ) (run : Bool) (k m n : ℕ) → suc m ≤ n → reached f run k m ≡ lastOr 0 (take (suc m) (along f run k n))
+reach-of f run k m n h = sym (reach-last f run 0 k m) ∙ ap (lastOr 0) (sym (take-along f run (suc m) k n h))
 
 pub stream-is : (y : Layout) (d : List ℕ) (b : Allocation) → numberOf (streamOf y d b) ≡ 0 → streamOf y d b ≡ listed (clustersOf (streamOf y d b))
 unfolding streamOf
@@ -143,19 +168,20 @@ module _ (y : Layout) (d m : List ℕ) (w : Fits y d) (b : Allocation) (n hint :
       ∙ ap (take (b .count)) (sym (stream-read y (out .volume) grown grown-reads .goes) ∙ grown-clusters)
       ∙ take-at (clustersOf (streamOf y d b)) (took .new) (b .count) old-length
 
-  -- so its known place is right
-  pub grown-known : Known y (out .volume) grown (knownPlace b grown)
-  grown-known =
+  -- so a place that was known is known
+  pub grown-known : (p : Place) (i : ℕ) → Known y d b p i → Known y (out .volume) grown (grownPlace b p grown) i
+  grown-known p i k =
       elim (ℕ-discrete (b .count) 0) [
-        | yes z ↦ rw (known-none b grown z) (known-first y (out .volume) grown)
+        | yes z ↦ rw (place-first b p grown z) (known-first y (out .volume) grown i)
         | no z ↦
-            let n : suc (b .count - 1) ≡ b .count = omega arith in
-            rw (known-last b grown z)
+            let h : suc (p .steps) ≤ b .count = omega (arith, k .inside) in
+            rw (place-same b p grown z)
             (record {
-              reaches = sym (reach-last (fatEntry y (out .volume)) (grown .«no_fat_chain») 0 (grown .first) (b .count - 1))
-                  ∙ ap (λ (i : ℕ). lastOr 0 (along (fatEntry y (out .volume)) (grown .«no_fat_chain») (grown .first) i)) n ∙ ap (lastOr 0) grown-front
-                  ∙ stream-read y d b reads .last z 0;
-              inside = omega (arith, grown-count);
+              reaches = reach-of (fatEntry y (out .volume)) (grown .«no_fat_chain») (grown .first) (p .steps) (b .count) h
+                  ∙ ap (λ (l : List ℕ). lastOr 0 (take (suc (p .steps)) l)) (grown-front ∙ stream-read y d b reads .goes)
+                  ∙ sym (reach-of (fatEntry y d) (b .«no_fat_chain») (b .first) (p .steps) (b .count) h) ∙ k .reaches;
+              inside = omega (arith, k .inside, grown-count);
+              before = k .before;
             })
       ]
 
@@ -172,15 +198,15 @@ pub usable-few : (y : Layout) (d m : List ℕ) → count (isUsable y d m) 2 (y .
 usable-few y d m = count-le (isUsable y d m) 2 (y .count)
 
 -- what growing to a length answers and leaves
-module _ (y : Layout) (d m : List ℕ) (w : Fits y d) (b : Allocation) (len n hint : ℕ) (reads : numberOf (streamOf y d b) ≡ 0)
-    (hint-in : inHeap (y .count) hint ≡ true) (enough : lengthCause y d m b len ≡ 0) (z : n ≡ missing y b len) where
+module _ (y : Layout) (d m : List ℕ) (w : Fits y d) (b : Allocation) (len hint : ℕ) (reads : numberOf (streamOf y d b) ≡ 0)
+    (hint-in : inHeap (y .count) hint ≡ true) (enough : lengthCause y d m b len ≡ 0) where
   abbrev there : Outcome
   there = extendIn y d m b (missing y b len) hint
 
-  pub grow-shown : (r : Answer) (e : List ℕ) → (r ≡ extendIn y d m b n hint .answer) × (e ≡ extendIn y d m b n hint .volume)
+  pub grow-shown : (n : ℕ) → n ≡ missing y b len → (r : Answer) (e : List ℕ) → (r ≡ extendIn y d m b n hint .answer) × (e ≡ extendIn y d m b n hint .volume)
       → (r ≡ there .answer) × ((e ≡ there .volume) × ((numberOf (streamOf y e (r .allocation)) ≡ 0)
-      × ((len ≤ r .allocation .count * y .size) × Known y e (r .allocation) (knownPlace b (r .allocation)))))
-  grow-shown r e p =
+      × (len ≤ r .allocation .count * y .size)))
+  grow-shown n z r e p =
       let f = length-enough y b len d m enough in
       let q : r ≡ there .answer = p .0 ∙ ap (λ (x : ℕ). extendIn y d m b x hint .answer) z in
       let v : e ≡ there .volume = p .1 ∙ ap (λ (x : ℕ). extendIn y d m b x hint .volume) z in
@@ -191,10 +217,12 @@ module _ (y : Layout) (d m : List ℕ) (w : Fits y d) (b : Allocation) (len n hi
           v,
           (
             ap₂ (λ (u : List ℕ) (x : Answer). numberOf (streamOf y u (x .allocation))) v q ∙ grown-reads y d m w b (missing y b len) hint reads hint-in f,
-            (
-              grown-holds y b len (r .allocation .count) (w .laid) c,
-              rw (v, q) (grown-known y d m w b (missing y b len) hint reads hint-in f),
-            ),
+            grown-holds y b len (r .allocation .count) (w .laid) c,
           ),
         ),
       )
+
+  -- and a place of it that was known
+  pub grow-known : (r : Answer) (e : List ℕ) → r ≡ there .answer → e ≡ there .volume → (p : Place) (i : ℕ) → Known y d b p i
+      → Known y e (r .allocation) (grownPlace b p (r .allocation)) i
+  grow-known r e q v p i k = rw (v, q) (grown-known y d m w b (missing y b len) hint reads hint-in (length-enough y b len d m enough) p i k)

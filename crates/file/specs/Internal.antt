@@ -2,8 +2,8 @@
 use mathlib.Core.Path.{_≡_}
 use mathlib.Core.Bool.{true, cond}
 use mathlib.Core.List.{List, [], _∷_}
-use Prim.Native.Nat.{ℕ, _+_, _*_, _≤_, _-_, _%_, _^_}
-use lib.Dec.{eqb}
+use Prim.Native.Nat.{ℕ, _+_, _*_, _≤_, _-_, _/_, _%_, _^_}
+use lib.Dec.{eqb, ltb}
 use lib.ListN.{length, replicate}
 use Rattle.boot.specs.declared.layout.Layout.{Layout}
 use Rattle.boot.specs.Internal.{Laid, Apart}
@@ -12,6 +12,7 @@ use Rattle.boot.specs.Causes.{firstCause, heapCause}
 use Rattle.stream.specs.declared.allocation.Allocation.{Allocation}
 use Rattle.stream.specs.declared.bytes.Place.{Place}
 use Rattle.stream.specs.Bytes.{bytesIn}
+use Rattle.stream.specs.Internal.{placeAt}
 use Rattle.stream.specs.Stream.{numberOf, streamOf}
 use Rattle.directory.specs.declared.open_file.OpenFile.{OpenFile}
 use Rattle.directory.specs.Directory.{directoryCause}
@@ -42,18 +43,22 @@ pub record Opens (y : Layout) (d m : List ℕ) (a : Allocation) (slot : ℕ) (s 
   pub stream : f .stream ≡ fileRecord y d s
   pub hint-in : inHeap (y .count) hint ≡ true
 
--- the file at a slot of directory a as a call finds it: where its set stands and its stream's record, or the number of what refuses it
-unfoldable pub target : (y : Layout) (d m : List ℕ) (a : Allocation) (slot hint : ℕ) → OpenFile
-target y d m a slot hint =
+-- the file at a slot of directory a as a call on its bytes from an offset on finds it: where its set stands, its stream's record and where
+-- the call begins in it, or the number of what refuses it
+unfoldable pub target : (y : Layout) (d m : List ℕ) (a : Allocation) (slot offset hint : ℕ) → OpenFile
+target y d m a slot offset hint =
     let n = openCause y d m a slot hint in
-    cond (eqb n 0) (foundFile y d a slot 0) (noFile n)
+    cond (eqb n 0) (foundFile y d a slot offset) (noFile n)
 
 -- the 608 bytes that this fills: the set where hint and directory are not refused and there is one, else zeros
 unfoldable pub targetSet : (y : Layout) (d : List ℕ) (a : Allocation) (slot hint : ℕ) → List ℕ
 targetSet y d a slot hint =
     cond (eqb (firstCause (heapCause (y .count) hint ∷ directoryCause y d a ∷ [])) 0) (setRead (bytesIn y d a) slot) (replicate 608 0)
 
--- the place that is known in stream a, grown from stream b: b's last cluster, or a's first one where b is empty
-unfoldable pub knownPlace : (b a : Allocation) → Place
-knownPlace b a =
-    cond (eqb (b .count) 0) (record { cluster = a .first; steps = 0 }) (record { cluster = b .last; steps = b .count - 1 })
+-- the place of stream b that is known, in the stream a that b grew to: the same, or a's first cluster where b was empty
+unfoldable pub grownPlace : (b : Allocation) (p : Place) (a : Allocation) → Place
+grownPlace b p a = cond (eqb (b .count) 0) (record { cluster = a .first; steps = 0 }) p
+
+-- the place of stream b that zeros from one byte up to another lead to: that of the last one, or where none are stored the place before them
+unfoldable pub zeroedPlace : (y : Layout) (d : List ℕ) (b : Allocation) (p : Place) (from to : ℕ) → Place
+zeroedPlace y d b p from to = cond (ltb from to) (placeAt y d b ((to - 1) / y .size)) p

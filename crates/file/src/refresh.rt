@@ -11,7 +11,7 @@ ghost use Rattle.stream.specs.Internal.{Known};
 ghost use Rattle.write_extend.specs.Extend.{extendIn};
 ghost use Rattle.directory.specs.Internal.{spotClusters, Reaches};
 ghost use Rattle.file.specs.Refresh.{entriesOf, recorded, missing, lengthCause};
-ghost use Rattle.file.specs.Internal.{knownPlace, nearOf};
+ghost use Rattle.file.specs.Internal.{grownPlace, zeroedPlace, nearOf};
 use boot::layout::Layout;
 use directory::spot::Spot;
 use entry_set::stamp::Stamp;
@@ -66,19 +66,28 @@ fn missing(y: Layout, b: Allocation, len: u64) -> u32
     (needed - there) as u32
 }
 
-// Fills a stream with zeros from one byte up to another; nothing where that is not above it (Rust: `zero_range`).
-pub fn zero_range(vol: &mut [u8], y: Layout, b: Allocation, known: Place, from: u64, to: u64)
-    requires { ⌜ Laid y × ((length (now vol) ≡ y .len) × (Apart y × ((numberOf (streamOf y (now vol) b) ≡ 0) × ((to ≤ b .count * y .size) × Known y (now vol) b known)))) ⌝ }
-    ensures { λ _. ⌜ now (vol .exit) ≡ storeAt y (now (vol .entry)) (clustersIn y (now (vol .entry)) b) from (replicate (to - from) 0) ⌝ }
+// Fills a stream with zeros from one byte up to another; nothing where that is not above it (Rust: `zero_range`). Answers the place that
+// the zeros reached, or the known one where there are none.
+pub fn zero_range(
+    vol: &mut [u8],
+    y: Layout,
+    b: Allocation,
+    known: Place,
+    from: u64,
+    to: u64,
+) -> Place
+    requires { ⌜ Laid y × ((length (now vol) ≡ y .len) × (Apart y × ((numberOf (streamOf y (now vol) b) ≡ 0) × ((to ≤ b .count * y .size) × Known y (now vol) b known from)))) ⌝ }
+    ensures { λ r. ⌜ (now (vol .exit) ≡ storeAt y (now (vol .entry)) (clustersIn y (now (vol .entry)) b) from (replicate (to - from) 0)) × (r ≡ zeroedPlace y (now (vol .entry)) b known from to) ⌝ }
 {
     if from < to {
-        stream::bytes::fill(vol, y, b, known, from as usize, (to - from) as usize);
+        return stream::bytes::fill(vol, y, b, known, from as usize, (to - from) as usize);
     }
+    known
 }
 
-// The place that is known in stream a, grown from stream b: b's last cluster, or a's first one where b is empty.
-pub fn known_place(b: Allocation, a: Allocation) -> Place
-    ensures { λ r. ⌜ r ≡ knownPlace b a ⌝ }
+// A place of stream b that is known, in the stream a that b grew to: the same, or a's first cluster where b was empty.
+pub fn grown_place(b: Allocation, known: Place, a: Allocation) -> Place
+    ensures { λ r. ⌜ r ≡ grownPlace b known a ⌝ }
 {
     if b.count == 0 {
         return Place {
@@ -86,16 +95,13 @@ pub fn known_place(b: Allocation, a: Allocation) -> Place
             steps: 0,
         };
     }
-    Place {
-        cluster: b.last,
-        steps: b.count - 1,
-    }
+    known
 }
 
-// Adds the clusters that a stream misses for a length; then it reads, holds the length, and has the known place.
+// Adds the clusters that a stream misses for a length; then it reads, and holds the length.
 pub fn grow_to(vol: &mut [u8], map: &[u8], y: Layout, b: Allocation, len: u64, hint: u32) -> Answer
     requires { ⌜ Laid y × ((length (now vol) ≡ y .len) × ((y .count ≤ 8 * length (now map)) × (Apart y × ((inHeap (y .count) hint ≡ true) × ((numberOf (streamOf y (now vol) b) ≡ 0) × (lengthCause y (now vol) (now map) b len ≡ 0)))))) ⌝ }
-    ensures { λ r. ⌜ (let o = extendIn y (now (vol .entry)) (now (map .entry)) b (missing y b len) hint in (r ≡ o .answer) × ((now (vol .exit) ≡ o .volume) × ((numberOf (streamOf y (now (vol .exit)) (r .allocation)) ≡ 0) × ((len ≤ r .allocation .count * y .size) × Known y (now (vol .exit)) (r .allocation) (knownPlace b (r .allocation)))))) ⌝ }
+    ensures { λ r. ⌜ (let o = extendIn y (now (vol .entry)) (now (map .entry)) b (missing y b len) hint in (r ≡ o .answer) × ((now (vol .exit) ≡ o .volume) × ((numberOf (streamOf y (now (vol .exit)) (r .allocation)) ≡ 0) × (len ≤ r .allocation .count * y .size)))) ⌝ }
 {
     let n = missing(y, b, len);
     write_extend::extend::grow_in(vol, map, y, b, n, hint)

@@ -3,12 +3,11 @@ use mathlib.Core.Path.{_≡_, refl, sym, _∙_, ap, ap₂}
 use mathlib.Core.Bool.{Bool, true, false}
 use mathlib.Core.List.{List}
 use Prim.Native.Nat.{ℕ, suc, _+_, _-_, _*_, _/_, _%_, _≤_, _<_, min}
-use native.Mathlib.Nat.{suc-mul, add-mul, mul-le-mul-right, mul-le-mul-left, mul-one, div-add-mod', mod-lt}
+use native.Mathlib.Nat.{suc-mul, add-mul, mul-le-mul-right, div-add-mod', mod-lt}
 use native.Mathlib.Decide.{decLe, ℕ-discrete}
 use native.Mathlib.Omega.{arith}
 use lib.ListN.{length, getD, take, drop}
 use lib.Seq.{getD-drop}
-use borrow.Author.Tests.{lt-ltb, le-ltb}
 use Rattle.tables.specs.Lists.{every}
 use Rattle.boot.specs.declared.layout.Layout.{Layout}
 use Rattle.boot.specs.Internal.{Laid}
@@ -34,7 +33,7 @@ use Rattle.directory.specs.Open.{fileRecord}
 use Rattle.directory.proofs.FileLaws.{record-count}
 use Rattle.read_file.specs.Part.{noPart, storedPart, zeroPart}
 use Rattle.read_file.specs.Read.{filePart}
-use Rattle.read_file.specs.Internal.{goalOf, Readable}
+use Rattle.read_file.specs.Internal.{Readable}
 use Rattle.read_file.proofs.PartLaws.{stored-len, part-stored, part-zeros, part-none}
 
 module _ (y : Layout) (d : List ℕ) (l : Laid y) (a : Allocation) (reads : numberOf (streamOf y d a) ≡ 0) (valid offset : ℕ) (low : offset < valid)
@@ -157,28 +156,13 @@ module _ (y : Layout) (d : List ℕ) (l : Laid y) (a : Allocation) (reads : numb
           v ∙ ap (λ (x : ℕ). min (valid - offset) (x * size - at)) c ∙ stored-len (drop s ks) n size at (valid - offset) reach-holds in
           ap₂ (λ (j x : ℕ). record { zeros = false; start = clusterAt y j + at; len = x }) b f
 
--- ---- the cluster of an offset
-
-pub goal-in : (y : Layout) (offset : ℕ) → offset < y .len → offset / y .size ≡ goalOf y offset
-unfolding goalOf
-goal-in y offset h = rw (lt-ltb offset (y .len) h) refl
-
-pub goal-out : (y : Layout) (offset : ℕ) → y .len ≤ offset → 0 ≡ goalOf y offset
-unfolding goalOf
-goal-out y offset h = rw (le-ltb offset (y .len) h) refl
-
--- a quotient by 1 or more is no larger
-pub goal-small : (offset size : ℕ) → 1 ≤ size → offset / size ≤ offset
-goal-small offset size h =
-    omega (arith, div-add-mod' offset size, mul-le-mul-left {m = 1} {n = size} (offset / size) h, mul-one (offset / size))
-
 -- ---- what is known of a file that is read
 
 module _ (y : Layout) (d s : List ℕ) (b : Allocation) (k offset : ℕ) (r : Readable y d s b k offset) where
   lengths : Lengths (y .count) (y .size) s
   lengths = formed-lengths (y .count) (y .size) s (r .formed)
 
-  pub valid-low : validLength s ≤ dataLength s
+  valid-low : validLength s ≤ dataLength s
   valid-low = lengths .valid
 
   holds : dataLength s ≤ clustersFor (y .size) (dataLength s) * y .size
@@ -196,9 +180,6 @@ module _ (y : Layout) (d s : List ℕ) (b : Allocation) (k offset : ℕ) (r : Re
         | no e ↦
             omega (arith, holds, r .laid .heap-in, mul-le-mul-right {m = clustersFor (y .size) (dataLength s)} {n = y .count} (y .size) (lengths .room e))
       ]
-
-  pub seen-is : offset < validLength s → k ≡ getD (clustersIn y d b) (offset / y .size) 0
-  seen-is h = r .seen ∙ ap (λ (i : ℕ). getD (clustersIn y d b) i 0) (sym (goal-in y offset (omega (arith, valid-low, length-high))))
 
   module _ (zeros : ℕ) where
     clusters-are : clustersIn y d b ≡ clustersIn y d (fileRecord y d s)

@@ -3,7 +3,8 @@ use mathlib.Core.Path.{_≡_, refl, sym, _∙_, ap}
 use mathlib.Core.Logic.{_≢_}
 use mathlib.Core.Bool.{Bool, true, false, not, _&&_, cond}
 use mathlib.Core.List.{List, [], _∷_}
-use Prim.Native.Nat.{ℕ, suc, _+_, _/_, _≤_, _<_}
+use Prim.Native.Nat.{ℕ, suc, _+_, _*_, _/_, _≤_, _<_}
+use native.Mathlib.Nat.{div-lt-iff-lt-mul}
 use native.Mathlib.Omega.{arith}
 use lib.Dec.{eqb}
 use lib.ListN.{length, getD, drop, replicate, drop-of-length-le}
@@ -18,21 +19,28 @@ use Rattle.boot.specs.Layout.{layoutOf}
 use Rattle.boot.specs.Causes.{firstCause, admitCause}
 use Rattle.boot.proofs.CauseLaws.{cause-skip, cause-met, cause-last, cause-none}
 use Rattle.boot.proofs.Admission.{Admits}
+use Rattle.metadata.specs.Fat.{fatEntry}
 use Rattle.metadata.proofs.Frame.{Fits}
 use Rattle.stream.specs.declared.allocation.Allocation.{Allocation}
+use Rattle.stream.specs.declared.bytes.Place.{Place}
+use Rattle.stream.specs.Internal.{reached}
 use Rattle.stream.specs.Stream.{numberOf, streamOf, clustersIn}
 use Rattle.stream.specs.Bytes.{bytesIn}
+use Rattle.entry_set.specs.Fields.{validLength}
 use Rattle.entry_set.specs.Sound.{wellFormed}
 use Rattle.directory.specs.declared.open_file.OpenFile.{OpenFile}
 use Rattle.directory.specs.Directory.{rootRecord, directoryCause}
 use Rattle.directory.specs.Open.{fileRecord, setIn, fileCause}
-use Rattle.directory.specs.Internal.{setRead, foundFile, noFile, openFile}
+use Rattle.directory.specs.Internal.{setRead, noFile, startPlace, foundFile, openFile}
+use Rattle.directory.proofs.DirectoryLaws.{clusters-along, clusters-length}
+use Rattle.directory.proofs.CursorLaws.{along-at}
 use Rattle.directory.proofs.EntryLaws.{sound-formed}
-use Rattle.directory.proofs.FileLaws.{file-sound, file-reads, file-read}
+use Rattle.directory.proofs.StartLaws.{start-read}
+use Rattle.directory.proofs.FileLaws.{file-sound, file-reads, file-valid, file-holds, file-read}
 use Rattle.read_file.specs.declared.part.Part.{Part}
 use Rattle.read_file.specs.Part.{noPart}
 use Rattle.read_file.specs.Read.{zeroCause, readCause, filePart, readIn, readNumber, readPart}
-use Rattle.read_file.specs.Internal.{goalOf, Readable, rootFile, rootFileSet}
+use Rattle.read_file.specs.Internal.{Readable, rootFile, rootFileSet}
 
 -- ---- the zeros
 
@@ -58,23 +66,23 @@ zero-tested z t n e = rw (ne-eqb (length z) 0 n, e) refl
 
 -- ---- the file at a slot of the root
 
-module _ (y : Layout) (d m : List ℕ) (a : Allocation) (slot goal : ℕ) where
+module _ (y : Layout) (d m : List ℕ) (a : Allocation) (slot offset : ℕ) where
   abbrev causes : ℕ
   causes = firstCause (directoryCause y d a ∷ fileCause y d m a slot ∷ [])
 
-  refused-is : (n : ℕ) → n ≡ causes → (n ≡ 0 → ⊥) → noFile n ≡ rootFile y d m a slot goal
+  refused-is : (n : ℕ) → n ≡ causes → (n ≡ 0 → ⊥) → noFile n ≡ rootFile y d m a slot offset
   unfolding rootFile
   refused-is n e z = rw (← e, ne-eqb n 0 z) refl
 
   pub root-refused : (n : ℕ) → n ≡ directoryCause y d a → (n ≡ 0 → ⊥)
-      → (noFile n ≡ rootFile y d m a slot goal) × (replicate 608 0 ≡ rootFileSet y d a slot)
+      → (noFile n ≡ rootFile y d m a slot offset) × (replicate 608 0 ≡ rootFileSet y d a slot)
   root-refused n e z = (
     refused-is n (e ∙ sym (cause-met (directoryCause y d a) (fileCause y d m a slot ∷ []) (λ q. z (e ∙ q)))) z,
     unfold rootFileSet in (rw (ne-eqb (directoryCause y d a) 0 (λ q. z (e ∙ q))) refl),
   )
 
   pub root-opens : directoryCause y d a ≡ 0
-      → (openFile y d m a slot goal ≡ rootFile y d m a slot goal) × (setRead (bytesIn y d a) slot ≡ rootFileSet y d a slot)
+      → (openFile y d m a slot offset ≡ rootFile y d m a slot offset) × (setRead (bytesIn y d a) slot ≡ rootFileSet y d a slot)
   root-opens e = (
     unfold openFile rootFile in
         (rw (cause-skip (directoryCause y d a) (fileCause y d m a slot ∷ []) e ∙ cause-last (fileCause y d m a slot)) refl),
@@ -82,19 +90,19 @@ module _ (y : Layout) (d m : List ℕ) (a : Allocation) (slot goal : ℕ) where
   )
 
   -- its number
-  pub root-file-number : (f : OpenFile) → f ≡ rootFile y d m a slot goal → f .number ≡ firstCause (directoryCause y d a ∷ fileCause y d m a slot ∷ [])
+  pub root-file-number : (f : OpenFile) → f ≡ rootFile y d m a slot offset → f .number ≡ firstCause (directoryCause y d a ∷ fileCause y d m a slot ∷ [])
   root-file-number f e = ap (λ (x : OpenFile). x .number) e ∙ by (eqb causes 0) refl
     where
-      by : (t : Bool) → eqb causes 0 ≡ t → rootFile y d m a slot goal .number ≡ causes
+      by : (t : Bool) → eqb causes 0 ≡ t → rootFile y d m a slot offset .number ≡ causes
       by true q = unfold rootFile foundFile in (rw q (sym (eqb-true causes 0 q)))
       by false q = unfold rootFile in (rw q refl)
 
-  found-is : causes ≡ 0 → rootFile y d m a slot goal ≡ foundFile y d a slot goal
+  found-is : causes ≡ 0 → rootFile y d m a slot offset ≡ foundFile y d a slot offset
   unfolding rootFile
   found-is e = rw (eq-eqb causes 0 e) refl
 
   -- the file that is found where nothing refuses it
-  module _ (w : Fits y d) (f : OpenFile) (e : f ≡ rootFile y d m a slot goal) (s : List ℕ) (q : s ≡ rootFileSet y d a slot) (z : f .number ≡ 0) where
+  module _ (w : Fits y d) (f : OpenFile) (e : f ≡ rootFile y d m a slot offset) (s : List ℕ) (q : s ≡ rootFileSet y d a slot) (z : f .number ≡ 0) where
     none : causes ≡ 0
     none = sym (root-file-number f e) ∙ z
 
@@ -110,22 +118,37 @@ module _ (y : Layout) (d m : List ℕ) (a : Allocation) (slot goal : ℕ) where
     stream-is : f .stream ≡ fileRecord y d (setIn y d a slot)
     stream-is = ap (λ (x : OpenFile). x .stream) (e ∙ found-is none) ∙ (unfold foundFile in refl)
 
-    seen-is : f .seen ≡ getD (clustersIn y d (fileRecord y d (setIn y d a slot))) goal 0
-    seen-is = ap (λ (x : OpenFile). x .seen) (e ∙ found-is none) ∙ (unfold foundFile in refl)
+    place-is : f .place ≡ startPlace y d (fileRecord y d (setIn y d a slot)) (setIn y d a slot) offset
+    place-is = ap (λ (x : OpenFile). x .place) (e ∙ found-is none) ∙ (unfold foundFile in refl)
 
     formed : wellFormed (y .count) (y .size) s ≡ true
     formed =
         ap (wellFormed (y .count) (y .size)) found-set
         ∙ (unfold setIn in (sound-formed (y .count) (y .size) (bytesIn y d a) slot (file-sound y d m a slot file-none)))
 
-    pub found-readable : (offset : ℕ) → goal ≡ goalOf y offset → Readable y d s (f .stream) (f .seen) offset
-    found-readable offset g = record {
+    -- its cluster at an offset that is read
+    seen-is : offset < validLength s → f .place .cluster ≡ getD (clustersIn y d (f .stream)) (offset / y .size) 0
+    seen-is h =
+        let b = fileRecord y d (setIn y d a slot) in
+        let r = file-reads y d m a slot file-none in
+        let v : offset < validLength (setIn y d a slot) = omega (arith, h, ap validLength found-set) in
+        let c : validLength (setIn y d a slot) ≤ b .count * y .size =
+        omega (arith, file-valid y d m a slot file-none, file-holds y d m a slot file-none (w .laid), ap (λ (n : ℕ). n * y .size) (clusters-length y d b r)) in
+        let l : 1 ≤ y .size = omega (arith, w .laid .size-low) in
+        ap (λ (p : Place). p .cluster) place-is
+        ∙ ap (reached (fatEntry y d) (b .«no_fat_chain») (b .first)) (start-read (y .size) (validLength (setIn y d a slot)) offset (b .count) v c l)
+        ∙ sym
+        (ap (λ (x : Allocation). getD (clustersIn y d x) (offset / y .size) 0) stream-is ∙ ap (λ (ks : List ℕ). getD ks (offset / y .size) 0) (clusters-along y d b r)
+        ∙ along-at (fatEntry y d) (b .«no_fat_chain») (b .first) (b .count) (offset / y .size) (div-lt-iff-lt-mul {k = y .size} {x = offset} {y = b .count} l .1 (omega (arith, v, c))))
+
+    pub found-readable : Readable y d s (f .stream) (f .place .cluster) offset
+    found-readable = record {
       laid = w .laid;
       long = w .long;
       formed = formed;
       stream = stream-is ∙ ap (fileRecord y d) (sym found-set);
       reads = ap (λ (x : Allocation). numberOf (streamOf y d x)) stream-is ∙ file-reads y d m a slot file-none;
-      seen = seen-is ∙ ap (λ (x : Allocation). getD (clustersIn y d x) goal 0) (sym stream-is) ∙ ap (λ (i : ℕ). getD (clustersIn y d (f .stream)) i 0) g;
+      seen = seen-is;
     }
 
 -- ---- number and part in the root

@@ -9,7 +9,7 @@ ghost use Rattle.boot.specs.Internal.{Laid, Apart};
 ghost use Rattle.directory.specs.Directory.{rootRecord};
 ghost use Rattle.read_file.specs.Part.{partBytes, partPlace};
 ghost use Rattle.read_file.specs.Read.{zeroCause, readCause, readIn, readNumber, readPart};
-ghost use Rattle.read_file.specs.Internal.{goalOf, rootFile, rootFileSet};
+ghost use Rattle.read_file.specs.Internal.{rootFile, rootFileSet};
 use crate::part::Part;
 use boot::geometry::Geometry;
 use boot::layout::Layout;
@@ -42,17 +42,6 @@ fn zero_cause(zeros: &[u8]) -> u32
     15
 }
 
-// How many steps lead to the cluster of an offset; no stream reaches one past the volume.
-fn goal_of(y: Layout, offset: u64) -> u32
-    requires { ⌜ Laid y ⌝ }
-    ensures { λ r. ⌜ r ≡ goalOf y offset ⌝ }
-{
-    if offset < y.len as u64 {
-        return (offset as usize / y.size) as u32;
-    }
-    0
-}
-
 // Opens the root and the file at a slot of it, and copies the file's set.
 fn open_in_root(
     vol: &[u8],
@@ -60,18 +49,18 @@ fn open_in_root(
     y: Layout,
     root: u32,
     slot: u32,
-    goal: u32,
+    offset: u64,
     set: &mut [u8; 608],
 ) -> OpenFile
     requires { ⌜ Laid y × ((length (now vol) ≡ y .len) × ((y .count ≤ 8 * length (now map)) × (Apart y × (now set ≡ replicate 608 0)))) ⌝ }
-    ensures { λ r. ⌜ (let d = now (vol .entry) in (r ≡ rootFile y d (now (map .entry)) (rootRecord y d root) slot goal) × (now (set .exit) ≡ rootFileSet y d (rootRecord y d root) slot)) ⌝ }
+    ensures { λ r. ⌜ (let d = now (vol .entry) in (r ≡ rootFile y d (now (map .entry)) (rootRecord y d root) slot offset) × (now (set .exit) ≡ rootFileSet y d (rootRecord y d root) slot)) ⌝ }
 {
     let dir = directory::directory::root_dir(vol, map, y, root);
     if dir.number != 0 {
         return directory::open_file::no_file(dir.number);
     }
     let a = dir.allocation;
-    directory::open_file::open_file(vol, map, y, a, slot, goal, set)
+    directory::open_file::open_file(vol, map, y, a, slot, offset, set)
 }
 
 // The number once the limits are known to hold. It takes no offset, so that none can change it.
@@ -105,13 +94,13 @@ fn part_in(
         return crate::part::no_part();
     }
     let mut set = [0u8; 608];
-    let goal = goal_of(y, offset);
-    let f = open_in_root(vol, map, y, root, slot, goal, &mut set);
+    let f = open_in_root(vol, map, y, root, slot, offset, &mut set);
     if f.number != 0 {
         return crate::part::no_part();
     }
     let b = f.stream;
-    crate::part::file_part(vol, y, b, f.seen, &set, zeros.len(), offset)
+    let k = f.place.cluster;
+    crate::part::file_part(vol, y, b, k, &set, zeros.len(), offset)
 }
 
 // The number of a read of the file at a slot of the root.

@@ -4,8 +4,8 @@ use mathlib.Core.Bool.{Bool, true, cond}
 use mathlib.Core.List.{List, [], _∷_, _++_, append-nil}
 use Prim.Native.Nat.{ℕ, zero, suc, _+_, _-_, _*_, _/_, _%_, _≤_, _<_, min}
 use native.Mathlib.Decide.{decLe}
-use native.Mathlib.Nat.{sub-zero, zero-sub, suc-mul, add-mul, mul-le-mul-right, div-add-mod', mod-lt}
-use native.Mathlib.Numerals.{sub-one}
+use native.Mathlib.Nat.{sub-zero, zero-sub, suc-mul, add-mul, mul-le-mul-right, div-add-mod', mod-lt, le-div-iff-mul-le, div-lt-iff-lt-mul, div-eq-of-lt, div-eq-sub-div, mul-add-div-right}
+use native.Mathlib.Numerals.{add-one, sub-one}
 use native.Mathlib.Omega.{arith}
 use lib.Dec.{leb}
 use lib.ListN.{length, take, drop, replicate, length-drop, drop-of-length-le}
@@ -26,7 +26,7 @@ use Rattle.metadata.specs.Cluster.{putBytes}
 use Rattle.metadata.proofs.Frame.{Fits, fat-bytes}
 use Rattle.stream.specs.declared.allocation.Allocation.{Allocation}
 use Rattle.stream.specs.declared.bytes.Place.{Place}
-use Rattle.stream.specs.Internal.{after, along, reached, Known}
+use Rattle.stream.specs.Internal.{after, along, reached, placeAt, Known}
 use Rattle.stream.specs.Bytes.{clusterBytes, bytesOf, storeAt}
 use Rattle.stream.proofs.StreamLaws.{along-step, along-head, along-rest, length-along}
 
@@ -181,31 +181,42 @@ reach-same f g run k m n h e =
 -- ---- a place that is known
 
 module _ (y : Layout) (d : List ℕ) (a : Allocation) where
-  pub known-first : Known y d a (record { cluster = a .first; steps = 0 })
-  known-first = record { reaches = reach-none (fatEntry y d) (a .«no_fat_chain») (a .first) 0 (omega arith); inside = omega arith }
+  pub known-at : (n i : ℕ) → n ≤ a .count - 1 → n * y .size ≤ i → Known y d a (placeAt y d a n) i
+  known-at n i h b = record { reaches = refl; inside = h; before = b }
 
-  module _ (p : Place) (w : Known y d a p) where
+  pub known-first : (i : ℕ) → Known y d a (record { cluster = a .first; steps = 0 }) i
+  known-first i = record { reaches = reach-none (fatEntry y d) (a .«no_fat_chain») (a .first) 0 (omega arith); inside = omega arith; before = omega arith }
+
+  module _ (p : Place) (i : ℕ) (w : Known y d a p i) where
     -- it stays where the clusters are the same
     pub known-same : (e : List ℕ)
         → along (fatEntry y d) (a .«no_fat_chain») (a .first) (a .count) ≡ along (fatEntry y e) (a .«no_fat_chain») (a .first) (a .count)
-        → Known y e a p
+        → Known y e a p i
     known-same e q = record {
       reaches = sym (reach-same (fatEntry y d) (fatEntry y e) (a .«no_fat_chain») (a .first) (p .steps) (a .count) (w .inside) q) ∙ w .reaches;
       inside = w .inside;
+      before = w .before;
     }
 
-    -- from there on
-    module _ (n : ℕ) (h : p .steps ≤ n) where
-      pub known-reach : reached (fatEntry y d) (a .«no_fat_chain») (p .cluster) (n - p .steps) ≡ reached (fatEntry y d) (a .«no_fat_chain») (a .first) n
-      known-reach =
-          ap (λ (k : ℕ). reached (fatEntry y d) (a .«no_fat_chain») k (n - p .steps)) (sym (w .reaches))
-          ∙ reach-sum (fatEntry y d) (a .«no_fat_chain») (p .steps) (a .first) n h
+    -- and for any byte behind
+    pub known-later : (j : ℕ) → i ≤ j → Known y d a p j
+    known-later j h = record { reaches = w .reaches; inside = w .inside; before = omega (arith, w .before) }
 
-      pub known-heap : every (inHeap (y .count)) (along (fatEntry y d) (a .«no_fat_chain») (a .first) n) ≡ true
-          → every (inHeap (y .count)) (along (fatEntry y d) (a .«no_fat_chain») (p .cluster) (n - p .steps)) ≡ true
-      known-heap e =
-          ap (λ (k : ℕ). every (inHeap (y .count)) (along (fatEntry y d) (a .«no_fat_chain») k (n - p .steps))) (sym (w .reaches))
-          ∙ every-from (fatEntry y d) (a .«no_fat_chain») (inHeap (y .count)) (p .steps) (a .first) n h e
+    pub known-steps : 1 ≤ y .size → p .steps ≤ i / y .size
+    known-steps h = le-div-iff-mul-le {k = y .size} {x = p .steps} {y = i} (omega arith) .1 (w .before)
+
+  -- from there on
+  module _ (p : Place) (q : reached (fatEntry y d) (a .«no_fat_chain») (a .first) (p .steps) ≡ p .cluster) (n : ℕ) (h : p .steps ≤ n) where
+    pub known-reach : reached (fatEntry y d) (a .«no_fat_chain») (p .cluster) (n - p .steps) ≡ reached (fatEntry y d) (a .«no_fat_chain») (a .first) n
+    known-reach =
+        ap (λ (k : ℕ). reached (fatEntry y d) (a .«no_fat_chain») k (n - p .steps)) (sym q)
+        ∙ reach-sum (fatEntry y d) (a .«no_fat_chain») (p .steps) (a .first) n h
+
+    pub known-heap : every (inHeap (y .count)) (along (fatEntry y d) (a .«no_fat_chain») (a .first) n) ≡ true
+        → every (inHeap (y .count)) (along (fatEntry y d) (a .«no_fat_chain») (p .cluster) (n - p .steps)) ≡ true
+    known-heap e =
+        ap (λ (k : ℕ). every (inHeap (y .count)) (along (fatEntry y d) (a .«no_fat_chain») k (n - p .steps))) (sym q)
+        ∙ every-from (fatEntry y d) (a .«no_fat_chain») (inHeap (y .count)) (p .steps) (a .first) n h e
 
 -- ---- places in a stream
 
@@ -246,6 +257,25 @@ module _ (at n count s : ℕ) (low : 1 ≤ s) (h : at + n ≤ count * s) where
       let c = place-count in
       let e : count - at / s + at / s ≡ count = omega arith in
       omega (arith, place-is, sym (add-mul (count - at / s) (at / s) s) ∙ ap (λ (x : ℕ). x * s) e)
+
+-- the cluster of the last of m bytes from byte p of a cluster on: that cluster, or one step further on than from the next cluster
+module _ (s p m : ℕ) (low : p < s) where
+  pub last-here : m ≤ s - p → 1 ≤ m → (p + m - 1) / s ≡ 0
+  last-here h i = div-eq-of-lt {n = p + m - 1} {m = s} (omega arith)
+
+  pub last-next : s - p < m → (p + m - 1) / s ≡ suc ((0 + (m - (s - p)) - 1) / s)
+  last-next h =
+      let e : p + m - 1 - s ≡ 0 + (m - (s - p)) - 1 = omega arith in
+      div-eq-sub-div {m = s} {n = p + m - 1} (omega arith) (omega arith) ∙ ap (λ (x : ℕ). x / s + 1) e ∙ add-one _
+
+  pub last-inside : (n : ℕ) → p + m ≤ n * s → 1 ≤ m → (p + m - 1) / s ≤ n - 1
+  last-inside n h i = let q = div-lt-iff-lt-mul {k = s} {x = p + m - 1} {y = n} (omega arith) .1 (omega arith) in omega arith
+
+-- the cluster of the last of n bytes from byte `at` on, from that of the first of them
+pub last-from : (s at n : ℕ) → 1 ≤ s → 1 ≤ n → (at + n - 1) / s ≡ at / s + (at % s + n - 1) / s
+last-from s at n h i =
+    let e : at + n - 1 ≡ at / s * s + (at % s + n - 1) = omega (arith, div-add-mod' at s) in
+    ap (λ (x : ℕ). x / s) e ∙ mul-add-div-right {m = s} (omega arith) (at / s) (at % s + n - 1)
 
 -- ---- stores
 
@@ -318,6 +348,15 @@ module _ (y : Layout) (d : List ℕ) (w : Fits y d) (run : Bool) (k n : ℕ) (so
   store-next bs d′ m next e p q =
       let f : length (take m bs) ≡ m = length-take-le m bs (omega arith) in
       rw (p, q) (heap-turn (take m bs) (omega arith), sym (store-turn bs m e))
+
+  -- and the clusters reached are the same
+  pub reach-next : (bs d′ : List ℕ) (next j : ℕ) → at + length bs ≤ y .size → d′ ≡ putBytes y d k at bs → next ≡ after (fatEntry y d) run k → suc j ≤ n - 1
+      → reached (fatEntry y d′) run next j ≡ reached (fatEntry y d) run k (suc j)
+  unfolding reached
+  reach-next bs d′ next j f p q h =
+      let t : along (fatEntry y d) run (after (fatEntry y d) run k) (n - 1) ≡ along (fatEntry y d′) run (after (fatEntry y d) run k) (n - 1) =
+      turn-along bs f ∙ ap (λ (x : List ℕ). along (fatEntry y x) run (after (fatEntry y d) run k) (n - 1)) (sym p) in
+      ap (λ (x : ℕ). reached (fatEntry y d′) run x j) q ∙ sym (reach-same (fatEntry y d) (fatEntry y d′) run (after (fatEntry y d) run k) j (n - 1) (omega arith) t)
 
 -- ---- readings
 

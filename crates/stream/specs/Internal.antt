@@ -1,7 +1,7 @@
 -- What only contracts of inner functions, and proofs, speak of: no promise of a public call and no clause of the claim needs it.
 use mathlib.Core.Bool.{Bool, cond, false, not, _&&_}
 use mathlib.Core.List.{List, [], _∷_}
-use Prim.Native.Nat.{ℕ, zero, suc, _+_, _-_, _≤_}
+use Prim.Native.Nat.{ℕ, zero, suc, _+_, _-_, _*_, _≤_}
 use mathlib.Core.Path.{_≡_}
 use lib.Dec.{eqb}
 use lib.ListN.{length, getD}
@@ -30,10 +30,15 @@ unfoldable pub reached : (ℕ → ℕ) → Bool → ℕ → ℕ → ℕ
 reached fat run k zero = k
 reached fat run k (suc n) = reached fat run (after fat run k) n
 
--- place p is one of stream a: its steps lead to its cluster, and not past the last one
-pub record Known (y : Layout) (d : List ℕ) (a : Allocation) (p : Place) : Type 0 where
+-- the place so many steps along stream a
+abbrev pub placeAt : (y : Layout) (d : List ℕ) (a : Allocation) (steps : ℕ) → Place
+placeAt y d a steps = record { cluster = reached (fatEntry y d) (a .«no_fat_chain») (a .first) steps; steps = steps }
+
+-- place p is one of stream a, at byte i or before it: its steps lead to its cluster, and neither past the last one nor past that byte's
+pub record Known (y : Layout) (d : List ℕ) (a : Allocation) (p : Place) (i : ℕ) : Type 0 where
   pub reaches : reached (fatEntry y d) (a .«no_fat_chain») (a .first) (p .steps) ≡ p .cluster
   pub inside : p .steps ≤ a .count - 1
+  pub before : p .steps * y .size ≤ i
 
 -- cluster k may not be in a stream (number 9): a bitmap's cluster in the root directory, a system cluster in any other stream
 unfoldable pub barred : (y : Layout) (m : List ℕ) (root : Bool) (k : ℕ) → Bool

@@ -1,7 +1,7 @@
 // The bytes of a stream: a part of them read, stored, or filled with zeros. Each cluster is gone through once.
 ghost use mathlib.Core.Path.{_≡_};
 ghost use mathlib.Core.Bool.{true, false};
-ghost use Prim.Native.Nat.{_+_, _*_, _≤_, _<_, min};
+ghost use Prim.Native.Nat.{_+_, _-_, _*_, _/_, _≤_, _<_, min};
 ghost use lib.ListN.{length, take, drop, replicate};
 ghost use Rattle.primitives.specs.Splice.{splice};
 ghost use Rattle.tables.specs.Lists.{every};
@@ -9,7 +9,7 @@ ghost use Rattle.boot.specs.Internal.{Laid, Apart};
 ghost use Rattle.boot.specs.Layout.{clusterAt, inHeap};
 ghost use Rattle.metadata.specs.Fat.{fatEntry};
 ghost use Rattle.metadata.specs.Cluster.{putBytes};
-ghost use Rattle.stream.specs.Internal.{along, reached, Known};
+ghost use Rattle.stream.specs.Internal.{along, reached, placeAt, Known};
 ghost use Rattle.stream.specs.Bytes.{clusterBytes, bytesOf, storeAt};
 use crate::allocation::Allocation;
 use boot::layout::Layout;
@@ -47,15 +47,12 @@ pub fn seek(vol: &[u8], y: Layout, run: bool, first: u32, steps: u32) -> u32
     k
 }
 
-// The same from a place that is known, where that is not past the goal.
+// The same from a place that is known, so that nothing before it is gone through again.
 fn seek_from(vol: &[u8], y: Layout, a: Allocation, known: Place, steps: u32) -> u32
-    requires { ⌜ Laid y × ((length (now vol) ≡ y .len) × ((every (inHeap (y .count)) (along (fatEntry y (now vol)) (a .«no_fat_chain») (a .first) steps) ≡ true) × Known y (now vol) a known)) ⌝ }
+    requires { ⌜ Laid y × ((length (now vol) ≡ y .len) × ((every (inHeap (y .count)) (along (fatEntry y (now vol)) (a .«no_fat_chain») (a .first) steps) ≡ true) × ((reached (fatEntry y (now vol)) (a .«no_fat_chain») (a .first) (known .steps) ≡ known .cluster) × (known .steps ≤ steps)))) ⌝ }
     ensures { λ r. ⌜ r ≡ reached (fatEntry y (now (vol .entry))) (a .«no_fat_chain») (a .first) steps ⌝ }
 {
-    if known.steps <= steps {
-        return seek(vol, y, a.no_fat_chain, known.cluster, steps - known.steps);
-    }
-    seek(vol, y, a.no_fat_chain, a.first, steps)
+    seek(vol, y, a.no_fat_chain, known.cluster, steps - known.steps)
 }
 
 // Stores n bytes of src, from `from` on, in cluster k, from its byte `at` on, and past its end in those that follow it in the heap.
@@ -120,18 +117,18 @@ fn store_from(vol: &mut [u8], y: Layout, run: bool, first: u32, count: u32, at: 
     }
 }
 
-// Fills n bytes of count clusters of a chain with zeros, from byte `at` of the first one on.
-fn fill_chain(vol: &mut [u8], y: Layout, first: u32, count: u32, at: usize, n: usize)
-    requires { ⌜ Laid y × ((length (now vol) ≡ y .len) × ((every (inHeap (y .count)) (along (fatEntry y (now vol)) false first count) ≡ true) × ((at < y .size) × ((at + n ≤ count * y .size) × Apart y)))) ⌝ }
-    ensures { λ _. ⌜ now (vol .exit) ≡ storeAt y (now (vol .entry)) (along (fatEntry y (now (vol .entry))) false first count) at (replicate n 0) ⌝ }
+// Fills n bytes of count clusters of a chain with zeros, from byte `at` of the first one on, and answers the cluster of the last one.
+fn fill_chain(vol: &mut [u8], y: Layout, first: u32, count: u32, at: usize, n: usize) -> u32
+    requires { ⌜ Laid y × ((length (now vol) ≡ y .len) × ((every (inHeap (y .count)) (along (fatEntry y (now vol)) false first count) ≡ true) × ((at < y .size) × ((at + n ≤ count * y .size) × (Apart y × (1 ≤ n)))))) ⌝ }
+    ensures { λ r. ⌜ (now (vol .exit) ≡ storeAt y (now (vol .entry)) (along (fatEntry y (now (vol .entry))) false first count) at (replicate n 0)) × (r ≡ reached (fatEntry y (now (vol .entry))) false first ((at + n - 1) / y .size)) ⌝ }
 {
     let mut k = first;
     // The clusters from k on: only the proof needs their number.
     let mut left = count;
     let mut place = at;
     let mut more = n;
-    while 0 < more {
-        let m = lesser(y.size - place, more);
+    while y.size - place < more {
+        let m = y.size - place;
         let next = crate::walk::next_cluster(vol, y, false, k);
         put_zeros(vol, y, k, place, m);
         k = next;
@@ -139,18 +136,29 @@ fn fill_chain(vol: &mut [u8], y: Layout, first: u32, count: u32, at: usize, n: u
         place = 0;
         more -= m;
     }
+    put_zeros(vol, y, k, place, more);
+    k
 }
 
-// Fills n bytes of count clusters with zeros, from byte `at` of the first one on. A run's clusters are one piece of the volume, and take one fill.
-fn fill_from(vol: &mut [u8], y: Layout, run: bool, first: u32, count: u32, at: usize, n: usize)
+// Fills n bytes of count clusters with zeros, from byte `at` of the first one on, and answers the cluster of the last one. A run's
+// clusters are one piece of the volume, and take one fill.
+fn fill_from(
+    vol: &mut [u8],
+    y: Layout,
+    run: bool,
+    first: u32,
+    count: u32,
+    at: usize,
+    n: usize,
+) -> u32
     requires { ⌜ Laid y × ((length (now vol) ≡ y .len) × ((every (inHeap (y .count)) (along (fatEntry y (now vol)) run first count) ≡ true) × ((at < y .size) × ((at + n ≤ count * y .size) × (Apart y × (1 ≤ n)))))) ⌝ }
-    ensures { λ _. ⌜ now (vol .exit) ≡ storeAt y (now (vol .entry)) (along (fatEntry y (now (vol .entry))) run first count) at (replicate n 0) ⌝ }
+    ensures { λ r. ⌜ (now (vol .exit) ≡ storeAt y (now (vol .entry)) (along (fatEntry y (now (vol .entry))) run first count) at (replicate n 0)) × (r ≡ reached (fatEntry y (now (vol .entry))) run first ((at + n - 1) / y .size)) ⌝ }
 {
     if run {
         put_zeros(vol, y, first, at, n);
-    } else {
-        fill_chain(vol, y, first, count, at, n);
+        return first + ((at + n - 1) / y.size) as u32;
     }
+    fill_chain(vol, y, first, count, at, n)
 }
 
 // Reads n bytes of count clusters, from byte `at` of the first one on, into dst.
@@ -186,7 +194,7 @@ fn read_from(
 
 // Stores src in a stream, from its byte `at` on.
 pub fn store(vol: &mut [u8], y: Layout, a: Allocation, known: Place, at: usize, src: &[u8])
-    requires { ⌜ Laid y × ((length (now vol) ≡ y .len) × ((every (inHeap (y .count)) (along (fatEntry y (now vol)) (a .«no_fat_chain») (a .first) (a .count)) ≡ true) × ((at + length (now src) ≤ a .count * y .size) × (Apart y × (Known y (now vol) a known × (1 ≤ length (now src))))))) ⌝ }
+    requires { ⌜ Laid y × ((length (now vol) ≡ y .len) × ((every (inHeap (y .count)) (along (fatEntry y (now vol)) (a .«no_fat_chain») (a .first) (a .count)) ≡ true) × ((at + length (now src) ≤ a .count * y .size) × (Apart y × (Known y (now vol) a known at × (1 ≤ length (now src))))))) ⌝ }
     ensures { λ _. ⌜ now (vol .exit) ≡ storeAt y (now (vol .entry)) (along (fatEntry y (now (vol .entry))) (a .«no_fat_chain») (a .first) (a .count)) at (now (src .entry)) ⌝ }
 {
     let steps = (at / y.size) as u32;
@@ -194,19 +202,23 @@ pub fn store(vol: &mut [u8], y: Layout, a: Allocation, known: Place, at: usize, 
     store_from(vol, y, a.no_fat_chain, k, a.count - steps, at % y.size, src);
 }
 
-// Fills n bytes of a stream with zeros, from its byte `at` on.
-pub fn fill(vol: &mut [u8], y: Layout, a: Allocation, known: Place, at: usize, n: usize)
-    requires { ⌜ Laid y × ((length (now vol) ≡ y .len) × ((every (inHeap (y .count)) (along (fatEntry y (now vol)) (a .«no_fat_chain») (a .first) (a .count)) ≡ true) × ((at + n ≤ a .count * y .size) × (Apart y × (Known y (now vol) a known × (1 ≤ n)))))) ⌝ }
-    ensures { λ _. ⌜ now (vol .exit) ≡ storeAt y (now (vol .entry)) (along (fatEntry y (now (vol .entry))) (a .«no_fat_chain») (a .first) (a .count)) at (replicate n 0) ⌝ }
+// Fills n bytes of a stream with zeros, from its byte `at` on, and answers the place of the last one.
+pub fn fill(vol: &mut [u8], y: Layout, a: Allocation, known: Place, at: usize, n: usize) -> Place
+    requires { ⌜ Laid y × ((length (now vol) ≡ y .len) × ((every (inHeap (y .count)) (along (fatEntry y (now vol)) (a .«no_fat_chain») (a .first) (a .count)) ≡ true) × ((at + n ≤ a .count * y .size) × (Apart y × (Known y (now vol) a known at × (1 ≤ n)))))) ⌝ }
+    ensures { λ r. ⌜ (now (vol .exit) ≡ storeAt y (now (vol .entry)) (along (fatEntry y (now (vol .entry))) (a .«no_fat_chain») (a .first) (a .count)) at (replicate n 0)) × (r ≡ placeAt y (now (vol .entry)) a ((at + n - 1) / y .size)) ⌝ }
 {
     let steps = (at / y.size) as u32;
     let k = seek_from(vol, y, a, known, steps);
-    fill_from(vol, y, a.no_fat_chain, k, a.count - steps, at % y.size, n);
+    let last = fill_from(vol, y, a.no_fat_chain, k, a.count - steps, at % y.size, n);
+    Place {
+        cluster: last,
+        steps: ((at + n - 1) / y.size) as u32,
+    }
 }
 
 // Reads n bytes of a stream, from its byte `at` on, into dst.
 pub fn read(vol: &[u8], y: Layout, a: Allocation, known: Place, at: usize, dst: &mut [u8], n: usize)
-    requires { ⌜ Laid y × ((length (now vol) ≡ y .len) × ((every (inHeap (y .count)) (along (fatEntry y (now vol)) (a .«no_fat_chain») (a .first) (a .count)) ≡ true) × ((at + n ≤ a .count * y .size) × ((n ≤ length (now dst)) × Known y (now vol) a known)))) ⌝ }
+    requires { ⌜ Laid y × ((length (now vol) ≡ y .len) × ((every (inHeap (y .count)) (along (fatEntry y (now vol)) (a .«no_fat_chain») (a .first) (a .count)) ≡ true) × ((at + n ≤ a .count * y .size) × ((n ≤ length (now dst)) × Known y (now vol) a known at)))) ⌝ }
     ensures { λ _. ⌜ now (dst .exit) ≡ splice (now (dst .entry)) 0 (take n (drop at (bytesOf y (now (vol .entry)) (along (fatEntry y (now (vol .entry))) (a .«no_fat_chain») (a .first) (a .count))))) ⌝ }
 {
     let steps = (at / y.size) as u32;

@@ -1,7 +1,7 @@
 // Write: data stored in a file at an offset (Rust: `write_into`).
 ghost use mathlib.Core.Path.{_≡_};
 ghost use mathlib.Core.Bool.{true};
-ghost use Prim.Native.Nat.{_+_, _-_, _*_, _≤_, _<_, max};
+ghost use Prim.Native.Nat.{_+_, _-_, _*_, _≤_, _<_, min, max};
 ghost use lib.ListN.{length};
 ghost use Rattle.boot.specs.Internal.{Laid, Apart};
 ghost use Rattle.boot.specs.Layout.{inHeap};
@@ -39,7 +39,8 @@ fn max(a: u64, b: u64) -> u64
     a
 }
 
-// Puts data into a stream: zeros from valid up to the offset where it passes valid, then the data.
+// Puts data into a stream: zeros from valid up to the offset where it passes valid, from the known place on, then the data, from the place
+// that the zeros reached on.
 fn put_data(
     vol: &mut [u8],
     y: Layout,
@@ -49,31 +50,32 @@ fn put_data(
     offset: u64,
     src: &[u8],
 )
-    requires { ⌜ Laid y × ((length (now vol) ≡ y .len) × (Apart y × ((numberOf (streamOf y (now vol) b) ≡ 0) × ((offset + length (now src) ≤ b .count * y .size) × (Known y (now vol) b known × (1 ≤ length (now src))))))) ⌝ }
+    requires { ⌜ Laid y × ((length (now vol) ≡ y .len) × (Apart y × ((numberOf (streamOf y (now vol) b) ≡ 0) × ((offset + length (now src) ≤ b .count * y .size) × (Known y (now vol) b known (min valid offset) × (1 ≤ length (now src))))))) ⌝ }
     ensures { λ _. ⌜ now (vol .exit) ≡ withData y (now (vol .entry)) (clustersIn y (now (vol .entry)) b) valid offset (now (src .entry)) ⌝ }
 {
-    file::refresh::zero_range(vol, y, b, known, valid, offset);
-    stream::bytes::store(vol, y, b, known, offset as usize, src);
+    let reached = file::refresh::zero_range(vol, y, b, known, valid, offset);
+    stream::bytes::store(vol, y, b, reached, offset as usize, src);
 }
 
-// Grows a stream to a length, and puts data into it.
+// Grows a stream to a length, and puts data into it, from a place on that is known before it grows.
 fn put_grown(
     vol: &mut [u8],
     map: &[u8],
     y: Layout,
     b: Allocation,
+    known: Place,
     len: u64,
     valid: u64,
     offset: u64,
     src: &[u8],
     hint: u32,
 ) -> Answer
-    requires { ⌜ Laid y × ((length (now vol) ≡ y .len) × ((y .count ≤ 8 * length (now map)) × (Apart y × ((inHeap (y .count) hint ≡ true) × ((numberOf (streamOf y (now vol) b) ≡ 0) × ((lengthCause y (now vol) (now map) b len ≡ 0) × ((offset + length (now src) ≤ len) × (1 ≤ length (now src))))))))) ⌝ }
+    requires { ⌜ Laid y × ((length (now vol) ≡ y .len) × ((y .count ≤ 8 * length (now map)) × (Apart y × ((inHeap (y .count) hint ≡ true) × ((numberOf (streamOf y (now vol) b) ≡ 0) × ((lengthCause y (now vol) (now map) b len ≡ 0) × ((offset + length (now src) ≤ len) × (Known y (now vol) b known (min valid offset) × (1 ≤ length (now src)))))))))) ⌝ }
     ensures { λ r. ⌜ (let o = extendIn y (now (vol .entry)) (now (map .entry)) b (missing y b len) hint in (r ≡ o .answer) × (now (vol .exit) ≡ withData y (o .volume) (clustersIn y (o .volume) (r .allocation)) valid offset (now (src .entry)))) ⌝ }
 {
     let r = file::refresh::grow_to(vol, map, y, b, len, hint);
-    let known = file::refresh::known_place(b, r.allocation);
-    put_data(vol, y, r.allocation, known, valid, offset, src);
+    let place = file::refresh::grown_place(b, known, r.allocation);
+    put_data(vol, y, r.allocation, place, valid, offset, src);
     r
 }
 
@@ -96,13 +98,14 @@ fn write_data(
     map: &[u8],
     y: Layout,
     b: Allocation,
+    known: Place,
     valid: u64,
     len: u64,
     offset: u64,
     src: &[u8],
     hint: u32,
 ) -> DataAnswer
-    requires { ⌜ Laid y × ((length (now vol) ≡ y .len) × ((y .count ≤ 8 * length (now map)) × (Apart y × ((inHeap (y .count) hint ≡ true) × (numberOf (streamOf y (now vol) b) ≡ 0))))) ⌝ }
+    requires { ⌜ Laid y × ((length (now vol) ≡ y .len) × ((y .count ≤ 8 * length (now map)) × (Apart y × ((inHeap (y .count) hint ≡ true) × ((numberOf (streamOf y (now vol) b) ≡ 0) × Known y (now vol) b known (min valid offset)))))) ⌝ }
     ensures { λ r. ⌜ (let o = dataStored y (now (vol .entry)) (now (map .entry)) b valid len offset (now (src .entry)) hint in (r ≡ o .answer) × (now (vol .exit) ≡ o .volume)) ⌝ }
 {
     if src.len() == 0 {
@@ -117,7 +120,7 @@ fn write_data(
     if number != 0 {
         return unstored(number, b, valid, len, hint);
     }
-    let r = put_grown(vol, map, y, b, goal, valid, offset, src, hint);
+    let r = put_grown(vol, map, y, b, known, goal, valid, offset, src, hint);
     let a = r.allocation;
     DataAnswer {
         number: 0,
@@ -144,14 +147,15 @@ fn write_in(
     ensures { λ r. ⌜ (let o = writeIn y (now (vol .entry)) (now (map .entry)) (rootRecord y (now (vol .entry)) root) slot offset (now (src .entry)) t hint in (r ≡ o .answer) × (now (vol .exit) ≡ o .volume)) ⌝ }
 {
     let mut set = [0u8; 608];
-    let f = file::target::open_target(vol, map, y, root, slot, hint, &mut set);
+    let f = file::target::open_target(vol, map, y, root, slot, offset, hint, &mut set);
     if f.number != 0 {
         return file::target::refused(f.number, hint);
     }
     let b = f.stream;
     let valid = entry_set::entry::valid_length(&set);
     let len = entry_set::entry::data_length(&set);
-    let w = write_data(vol, map, y, b, valid, len, offset, src, hint);
+    let place = f.place;
+    let w = write_data(vol, map, y, b, place, valid, len, offset, src, hint);
     if w.number != 0 {
         return file::target::refused(w.number, hint);
     }

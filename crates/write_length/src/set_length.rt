@@ -8,6 +8,7 @@ ghost use Rattle.boot.specs.Layout.{inHeap};
 ghost use Rattle.metadata.specs.Fat.{fatEntry};
 ghost use Rattle.stream.specs.Stream.{numberOf, streamOf, clustersIn};
 ghost use Rattle.stream.specs.Bytes.{storeAt};
+ghost use Rattle.stream.specs.Internal.{Known};
 ghost use Rattle.entry_set.specs.Fields.{clustersFor};
 ghost use Rattle.write_extend.specs.Extend.{extendIn};
 ghost use Rattle.write_shrink.specs.Internal.{keptPart};
@@ -20,6 +21,7 @@ use boot::layout::Layout;
 use entry_set::stamp::Stamp;
 use file::answer::FileAnswer;
 use stream::allocation::Allocation;
+use stream::bytes::Place;
 use write_alloc::answer::Answer;
 use write_shrink::shrink::Kept;
 
@@ -78,23 +80,25 @@ fn cut_to(vol: &mut [u8], y: Layout, b: Allocation, keep: u32, part: Kept)
     }
 }
 
-// Grows a stream to a length, with zeros from valid to the end of its cluster, or to the length.
+// Grows a stream to a length, with zeros from valid to the end of its cluster, or to the length, from a place on that is known before it
+// grows.
 fn grow_zeroed(
     vol: &mut [u8],
     map: &[u8],
     y: Layout,
     b: Allocation,
+    known: Place,
     len: u64,
     valid: u64,
     hint: u32,
 ) -> Answer
-    requires { ⌜ Laid y × ((length (now vol) ≡ y .len) × ((y .count ≤ 8 * length (now map)) × (Apart y × ((inHeap (y .count) hint ≡ true) × ((numberOf (streamOf y (now vol) b) ≡ 0) × ((lengthCause y (now vol) (now map) b len ≡ 0) × ((valid ≤ len) × (valid ≤ 1073741824)))))))) ⌝ }
+    requires { ⌜ Laid y × ((length (now vol) ≡ y .len) × ((y .count ≤ 8 * length (now map)) × (Apart y × ((inHeap (y .count) hint ≡ true) × ((numberOf (streamOf y (now vol) b) ≡ 0) × ((lengthCause y (now vol) (now map) b len ≡ 0) × ((valid ≤ len) × ((valid ≤ 1073741824) × Known y (now vol) b known valid)))))))) ⌝ }
     ensures { λ r. ⌜ (let o = extendIn y (now (vol .entry)) (now (map .entry)) b (missing y b len) hint in (r ≡ o .answer) × (now (vol .exit) ≡ storeAt y (o .volume) (clustersIn y (o .volume) (r .allocation)) valid (replicate (zeroEnd (y .size) valid len - valid) 0))) ⌝ }
 {
     let to = zero_end(y, valid, len);
     let r = file::refresh::grow_to(vol, map, y, b, len, hint);
-    let known = file::refresh::known_place(b, r.allocation);
-    file::refresh::zero_range(vol, y, r.allocation, known, valid, to);
+    let place = file::refresh::grown_place(b, known, r.allocation);
+    file::refresh::zero_range(vol, y, r.allocation, place, valid, to);
     r
 }
 
@@ -104,12 +108,13 @@ fn lengthen(
     map: &[u8],
     y: Layout,
     b: Allocation,
+    known: Place,
     old: u64,
     len: u64,
     valid: u64,
     hint: u32,
 ) -> Answer
-    requires { ⌜ Laid y × ((length (now vol) ≡ y .len) × ((y .count ≤ 8 * length (now map)) × (Apart y × ((inHeap (y .count) hint ≡ true) × ((numberOf (streamOf y (now vol) b) ≡ 0) × ((lengthCause y (now vol) (now map) b len ≡ 0) × ((valid ≤ len) × (valid ≤ 1073741824)))))))) ⌝ }
+    requires { ⌜ Laid y × ((length (now vol) ≡ y .len) × ((y .count ≤ 8 * length (now map)) × (Apart y × ((inHeap (y .count) hint ≡ true) × ((numberOf (streamOf y (now vol) b) ≡ 0) × ((lengthCause y (now vol) (now map) b len ≡ 0) × ((valid ≤ len) × ((valid ≤ 1073741824) × Known y (now vol) b known valid)))))))) ⌝ }
     ensures { λ r. ⌜ (let o = lengthened y (now (vol .entry)) (now (map .entry)) b old len valid hint in (r ≡ o .answer) × (now (vol .exit) ≡ o .volume)) ⌝ }
 {
     if len == old {
@@ -119,7 +124,7 @@ fn lengthen(
             hint: hint,
         };
     }
-    grow_zeroed(vol, map, y, b, len, valid, hint)
+    grow_zeroed(vol, map, y, b, known, len, valid, hint)
 }
 
 // Set length on a volume that keeps the limits: shorter, the entry set first and then the clusters freed; else the stream first.
@@ -137,7 +142,7 @@ fn set_length_in(
     ensures { λ r. ⌜ (let o = setLengthIn y (now (vol .entry)) (now (map .entry)) (rootRecord y (now (vol .entry)) root) slot len t hint in (r ≡ o .answer) × (now (vol .exit) ≡ o .volume)) ⌝ }
 {
     let mut set = [0u8; 608];
-    let f = file::target::open_target(vol, map, y, root, slot, hint, &mut set);
+    let f = file::target::open_target(vol, map, y, root, slot, len, hint, &mut set);
     if f.number != 0 {
         return file::target::refused(f.number, hint);
     }
@@ -162,7 +167,8 @@ fn set_length_in(
             hint: hint,
         };
     }
-    let r = lengthen(vol, map, y, b, old, len, valid, hint);
+    let place = f.place;
+    let r = lengthen(vol, map, y, b, place, old, len, valid, hint);
     let a = r.allocation;
     file::refresh::record_set(vol, y, spot, &mut set, a, valid, len, t);
     FileAnswer {

@@ -30,7 +30,7 @@ fn remove_in(vol: &mut [u8], map: &[u8], y: Layout, root: u32, slot: u32, hint: 
     ensures { λ r. ⌜ (let o = removeIn y (now (vol .entry)) (now (map .entry)) (rootRecord y (now (vol .entry)) root) slot hint in (r ≡ o .answer) × (now (vol .exit) ≡ o .volume)) ⌝ }
 {
     let mut set = [0u8; 608];
-    let f = file::target::open_target(vol, map, y, root, slot, hint, &mut set);
+    let f = file::target::open_target(vol, map, y, root, slot, 0, hint, &mut set);
     if f.number != 0 {
         return file::target::refused(f.number, hint);
     }

@@ -24,7 +24,7 @@ returns c =
     let a = c .before .before .before .before .before .args in
     let w : Fits (a .y) (a .vol .now) = record { laid = p .0; apart = p .1 .1 .1 .0; long = p .1 .0 } in
     let e : wholeSet (bytesIn (a .y) (a .vol .now) (a .dir)) (a .slot) ≡ 0 = omega arith in
-    ((cc) ∙ file-none (a .y) (a .vol .now) (a .map .now) (a .dir) (a .slot) (a .goal) e, p .1 .1 .1 .1 .1 .1 .1 .1 .1 .1 ∙ read-none (a .y) (a .vol .now) (a .dir) (a .slot) e)
+    ((cc) ∙ file-none (a .y) (a .vol .now) (a .map .now) (a .dir) (a .slot) (a .offset) e, p .1 .1 .1 .1 .1 .1 .1 .1 .1 .1 ∙ read-none (a .y) (a .vol .now) (a .dir) (a .slot) e)
 
 copy-set-requires : tie.Need-copy-set-requires
 copy-set-requires c κs =

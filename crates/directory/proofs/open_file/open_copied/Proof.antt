@@ -18,13 +18,13 @@ returns : tie.Need-returns
 returns c =
     let p = c .before .before .before .before .before .pre in
     let a = c .before .before .before .before .before .args in
-    (cc) ∙ file-not (a .y) (a .vol .now) (a .map .now) (a .dir) (a .slot) (a .goal) (λ z. omega (arith, z, p .1 .1 .1 .1 .1 .1 .1 .0)) (c .before .before .set-cause .result) (cc) (λ z. omega arith)
+    (cc) ∙ file-not (a .y) (a .vol .now) (a .map .now) (a .dir) (a .slot) (a .offset) (λ z. omega (arith, z, p .1 .1 .1 .1 .1 .1 .1 .0)) (c .before .before .set-cause .result) (cc) (λ z. omega arith)
 
 open-stream-requires : tie.Need-open-stream-requires
 open-stream-requires c κs =
     let p = c .before .before .before .before .pre in
     let a = c .before .before .before .before .args in
-    (p .0, (p .1 .0, (p .1 .1 .0, ap (wellFormed (a .y .count) (a .y .size)) (p .1 .1 .1 .1 .1 .1 .1 .1) ∙ file-formed (a .y) (a .vol .now) (a .map .now) (a .dir) (a .slot) (a .goal) (λ z. omega (arith, z, p .1 .1 .1 .1 .1 .1 .1 .0)) (c .before .set-cause .result) (cc) (omega arith))))
+    (p .0, (p .1 .0, (p .1 .1 .0, ap (wellFormed (a .y .count) (a .y .size)) (p .1 .1 .1 .1 .1 .1 .1 .1) ∙ file-formed (a .y) (a .vol .now) (a .map .now) (a .dir) (a .slot) (a .offset) (λ z. omega (arith, z, p .1 .1 .1 .1 .1 .1 .1 .0)) (c .before .set-cause .result) (cc) (omega arith))))
 
 no-file-requires-2 : tie.Need-no-file-requires-2
 no-file-requires-2 c κs = search needs
@@ -33,7 +33,7 @@ returns-2 : tie.Need-returns-2
 returns-2 c =
     let p = c .before .before .before .before .before .before .before .before .pre in
     let a = c .before .before .before .before .before .before .before .before .args in
-    (cc) ∙ file-refused (a .y) (a .vol .now) (a .map .now) (a .dir) (a .slot) (a .goal) (λ z. omega (arith, z, p .1 .1 .1 .1 .1 .1 .1 .0)) (c .before .before .before .before .before .set-cause .result) (cc) (omega arith) (c .before .before .before .open-stream .result) (cc) (λ z. omega arith)
+    (cc) ∙ file-refused (a .y) (a .vol .now) (a .map .now) (a .dir) (a .slot) (a .offset) (λ z. omega (arith, z, p .1 .1 .1 .1 .1 .1 .1 .0)) (c .before .before .before .before .before .set-cause .result) (cc) (omega arith) (c .before .before .before .open-stream .result) (cc) (λ z. omega arith)
 
 spot-from-requires : tie.Need-spot-from-requires
 spot-from-requires c κs =
@@ -44,9 +44,9 @@ spot-from-requires c κs =
 
 returns-3 : tie.Need-returns-3
 returns-3 c =
-    let p = c .before .before .before .before .before .before .before .before .before .pre in
-    let a = c .before .before .before .before .before .before .before .before .before .args in
-    file-done (a .y) (a .vol .now) (a .map .now) (a .dir) (a .slot) (a .goal) (λ z. omega (arith, z, p .1 .1 .1 .1 .1 .1 .1 .0)) (c .before .before .before .before .before .before .set-cause .result) (cc) (omega arith) (c .before .before .before .before .open-stream .result) (cc) (omega arith) (c .before .spot-from .result) (c .before .spot-from .ensures)
+    let p = c .before .before .before .before .before .before .before .before .before .before .pre in
+    let a = c .before .before .before .before .before .before .before .before .before .before .args in
+    file-done (a .y) (a .vol .now) (a .map .now) (a .dir) (a .slot) (a .offset) (λ z. omega (arith, z, p .1 .1 .1 .1 .1 .1 .1 .0)) (c .before .before .before .before .before .before .before .set-cause .result) (cc) (omega arith) (c .before .before .before .before .before .open-stream .result) (cc) (omega arith) (c .before .before .spot-from .result) (c .before .before .spot-from .ensures)
 
 pub open-copied-spec : {M : Type 1} → statement M
 open-copied-spec =

@@ -23,7 +23,7 @@ returns c =
     let a = c .before .before .before .before .before .args in
     let w : Fits (a .y) (a .vol .now) = record { laid = p .0; apart = p .1 .1 .1 .0; long = p .1 .0 } in
     let e : wholeSet (bytesIn (a .y) (a .vol .now) (a .dir)) (a .slot) ≡ 0 = sym (whole-no (bytesIn (a .y) (a .vol .now) (a .dir)) (a .slot) (λ f g h. omega (arith, h, entries-low (bytesIn (a .y) (a .vol .now) (a .dir)) (a .slot)))) in
-    ((cc) ∙ file-none (a .y) (a .vol .now) (a .map .now) (a .dir) (a .slot) (a .goal) e, p .1 .1 .1 .1 .1 ∙ read-none (a .y) (a .vol .now) (a .dir) (a .slot) e)
+    ((cc) ∙ file-none (a .y) (a .vol .now) (a .map .now) (a .dir) (a .slot) (a .offset) e, p .1 .1 .1 .1 .1 ∙ read-none (a .y) (a .vol .now) (a .dir) (a .slot) e)
 
 slot-entry-requires : tie.Need-slot-entry-requires
 slot-entry-requires c κs =
@@ -43,7 +43,7 @@ returns-2 c =
     let k = c .before .before .before .slot-entry in
     let t = slot-none (a .y) (a .vol .now) w (a .dir) (p .1 .1 .1 .1 .0) (a .slot) (omega arith) (ap (λ (x : Cursor). x .cluster) (sym (k .ensures)) ∙ (omega arith)) in
     let e : wholeSet (bytesIn (a .y) (a .vol .now) (a .dir)) (a .slot) ≡ 0 = sym (whole-no (bytesIn (a .y) (a .vol .now) (a .dir)) (a .slot) (λ f g h. false≢true (sym t ∙ file-before (bytesIn (a .y) (a .vol .now) (a .dir)) (a .slot) f))) in
-    ((cc) ∙ file-none (a .y) (a .vol .now) (a .map .now) (a .dir) (a .slot) (a .goal) e, p .1 .1 .1 .1 .1 ∙ read-none (a .y) (a .vol .now) (a .dir) (a .slot) e)
+    ((cc) ∙ file-none (a .y) (a .vol .now) (a .map .now) (a .dir) (a .slot) (a .offset) e, p .1 .1 .1 .1 .1 ∙ read-none (a .y) (a .vol .now) (a .dir) (a .slot) e)
 
 open-at-requires : tie.Need-open-at-requires
 open-at-requires c κs =

@@ -26,7 +26,7 @@ returns c =
     let a = c .before .before .before .before .before .before .before .args in
     let p = c .before .before .before .before .before .before .before .pre in
     let w : Fits (a .y) (a .vol .now) = record { laid = p .0; apart = p .1 .1 .1 .0; long = p .1 .0 } in
-    grow-shown (a .y) (a .vol .now) (a .map .now) w (a .b) (a .len) _ (a .hint) (p .1 .1 .1 .1 .1 .0) (p .1 .1 .1 .1 .0) (p .1 .1 .1 .1 .1 .1) (c .before .before .before .before .missing .ensures) _ _ (c .before .before .grow-in .ensures)
+    grow-shown (a .y) (a .vol .now) (a .map .now) w (a .b) (a .len) (a .hint) (p .1 .1 .1 .1 .1 .0) (p .1 .1 .1 .1 .0) (p .1 .1 .1 .1 .1 .1) _ (c .before .before .before .before .missing .ensures) _ _ (c .before .before .grow-in .ensures)
 
 pub grow-to-spec : {M : Type 1} → statement M
 grow-to-spec = tie.close (tie.spec missing-requires grow-in-requires same-length returns)

@@ -24,7 +24,7 @@ returns c =
     let a = c .before .before .before .before .before .before .before .before .args in
     let p = c .before .before .before .before .before .before .before .before .pre in
     let r = c .before .before .before .root-dir in
-    let t = target-directory (a .y) (a .vol .now) (a .map .now) (rootRecord (a .y) (a .vol .now) (a .root)) (a .slot) (a .hint) (cc) (r .result .number) (root-number (a .y) (a .vol .now) (a .root) (r .result) (r .ensures)) (λ z. omega arith) in
+    let t = target-directory (a .y) (a .vol .now) (a .map .now) (rootRecord (a .y) (a .vol .now) (a .root)) (a .slot) (a .offset) (a .hint) (cc) (r .result .number) (root-number (a .y) (a .vol .now) (a .root) (r .result) (r .ensures)) (λ z. omega arith) in
     (c .no-file .ensures ∙ t .0, p .1 .1 .1 .1 ∙ t .1)
 
 open-file-requires : tie.Need-open-file-requires
@@ -42,8 +42,8 @@ returns-2 c =
     let r = c .before .before .before .before .before .root-dir in
     let z : r .result .number ≡ 0 = omega arith in
     let x = root-record (a .y) (a .vol .now) (a .root) (r .result) (r .ensures) z in
-    let t = target-file (a .y) (a .vol .now) (a .map .now) (rootRecord (a .y) (a .vol .now) (a .root)) (a .slot) (a .hint) (cc) (sym (root-number (a .y) (a .vol .now) (a .root) (r .result) (r .ensures)) ∙ z) in
-    (c .open-file .ensures .0 ∙ ap (λ (u : Allocation). openFile (a .y) (a .vol .now) (a .map .now) u (a .slot) 0) x ∙ t .0, c .open-file .ensures .1 ∙ ap (λ (u : Allocation). setRead (bytesIn (a .y) (a .vol .now) u) (a .slot)) x ∙ t .1)
+    let t = target-file (a .y) (a .vol .now) (a .map .now) (rootRecord (a .y) (a .vol .now) (a .root)) (a .slot) (a .offset) (a .hint) (cc) (sym (root-number (a .y) (a .vol .now) (a .root) (r .result) (r .ensures)) ∙ z) in
+    (c .open-file .ensures .0 ∙ ap (λ (u : Allocation). openFile (a .y) (a .vol .now) (a .map .now) u (a .slot) (a .offset)) x ∙ t .0, c .open-file .ensures .1 ∙ ap (λ (u : Allocation). setRead (bytesIn (a .y) (a .vol .now) u) (a .slot)) x ∙ t .1)
 
 no-file-requires-2 : tie.Need-no-file-requires-2
 no-file-requires-2 c κs = search needs
@@ -52,7 +52,7 @@ returns-3 : tie.Need-returns-3
 returns-3 c =
     let a = c .before .before .before .before .before .args in
     let p = c .before .before .before .before .before .pre in
-    let t = target-hint (a .y) (a .vol .now) (a .map .now) (rootRecord (a .y) (a .vol .now) (a .root)) (a .slot) (a .hint) (cc) in
+    let t = target-hint (a .y) (a .vol .now) (a .map .now) (rootRecord (a .y) (a .vol .now) (a .root)) (a .slot) (a .offset) (a .hint) (cc) in
     (c .no-file2 .ensures ∙ t .0, p .1 .1 .1 .1 ∙ t .1)
 
 pub open-target-spec : {M : Type 1} → statement M

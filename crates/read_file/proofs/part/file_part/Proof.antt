@@ -1,9 +1,8 @@
-use mathlib.Core.Path.{_≡_, sym, _∙_}
+use mathlib.Core.Path.{_∙_}
 use Prim.Native.Nat.{_<_}
 use native.Mathlib.Omega.{arith}
 use Rattle.entry_set.specs.Fields.{validLength}
-use borrow.Author.Needs.{needs}
-use Rattle.read_file.proofs.PartSteps.{valid-low, valid-room, length-high, seen-is, file-stored, file-zeros, file-past}
+use Rattle.read_file.proofs.PartSteps.{valid-room, length-high, file-stored, file-zeros, file-past}
 use borrow.Author.Needs.{needs}
 use Rattle.read_file.proofs.part.file_part.Statement.{statement}
 use Rattle.read_file.proofs.part.file_part.Tie as tie
@@ -20,7 +19,7 @@ stored-part-requires c κs =
     let a = c .before .before .before .before .args in
     let v = c .before .before .valid-length .ensures in
     let h : a .offset < validLength (a .set .now) = omega (arith, v) in
-    (p .laid, (p .long, (p .reads, (omega arith, (omega (arith, v, valid-room (a .y) (a .vol .now) (a .set .now) (a .b) (a .k) (a .offset) p), seen-is (a .y) (a .vol .now) (a .set .now) (a .b) (a .k) (a .offset) p h)))))
+    (p .laid, (p .long, (p .reads, (omega arith, (omega (arith, v, valid-room (a .y) (a .vol .now) (a .set .now) (a .b) (a .k) (a .offset) p), p .seen h)))))
 
 returns : tie.Need-returns
 returns c =

@@ -7,7 +7,6 @@ use Rattle.directory.specs.Internal.{openFile, setRead}
 use Rattle.directory.proofs.DirectoryLaws.{root-number, root-record, root-reads}
 use Rattle.read_file.proofs.ReadSteps.{root-refused, root-opens}
 use borrow.Author.Needs.{needs}
-use borrow.Author.Needs.{needs}
 use Rattle.read_file.proofs.read.open_in_root.Statement.{statement}
 use Rattle.read_file.proofs.read.open_in_root.Tie as tie
 
@@ -22,7 +21,7 @@ returns c =
     let p = c .before .before .before .before .before .before .pre in
     let a = c .before .before .before .before .before .before .args in
     let r = c .before .before .before .root-dir in
-    let t = root-refused (a .y) (a .vol .now) (a .map .now) (rootRecord (a .y) (a .vol .now) (a .root)) (a .slot) (a .goal) (r .result .number) (root-number (a .y) (a .vol .now) (a .root) (r .result) (r .ensures)) (λ z. omega arith) in
+    let t = root-refused (a .y) (a .vol .now) (a .map .now) (rootRecord (a .y) (a .vol .now) (a .root)) (a .slot) (a .offset) (r .result .number) (root-number (a .y) (a .vol .now) (a .root) (r .result) (r .ensures)) (λ z. omega arith) in
     (c .no-file .ensures ∙ t .0, p .1 .1 .1 .1 ∙ t .1)
 
 open-file-requires : tie.Need-open-file-requires
@@ -40,8 +39,8 @@ returns-2 c =
     let r = c .before .before .before .before .before .root-dir in
     let z : r .result .number ≡ 0 = omega arith in
     let x = root-record (a .y) (a .vol .now) (a .root) (r .result) (r .ensures) z in
-    let t = root-opens (a .y) (a .vol .now) (a .map .now) (rootRecord (a .y) (a .vol .now) (a .root)) (a .slot) (a .goal) (sym (root-number (a .y) (a .vol .now) (a .root) (r .result) (r .ensures)) ∙ z) in
-    (c .open-file .ensures .0 ∙ ap (λ (u : Allocation). openFile (a .y) (a .vol .now) (a .map .now) u (a .slot) (a .goal)) x ∙ t .0, c .open-file .ensures .1 ∙ ap (λ (u : Allocation). setRead (bytesIn (a .y) (a .vol .now) u) (a .slot)) x ∙ t .1)
+    let t = root-opens (a .y) (a .vol .now) (a .map .now) (rootRecord (a .y) (a .vol .now) (a .root)) (a .slot) (a .offset) (sym (root-number (a .y) (a .vol .now) (a .root) (r .result) (r .ensures)) ∙ z) in
+    (c .open-file .ensures .0 ∙ ap (λ (u : Allocation). openFile (a .y) (a .vol .now) (a .map .now) u (a .slot) (a .offset)) x ∙ t .0, c .open-file .ensures .1 ∙ ap (λ (u : Allocation). setRead (bytesIn (a .y) (a .vol .now) u) (a .slot)) x ∙ t .1)
 
 pub open-in-root-spec : {M : Type 1} → statement M
 open-in-root-spec =

@@ -3,8 +3,9 @@ use mathlib.Core.List.{List}
 use Prim.Native.Nat.{ℕ}
 use lib.ListN.{take}
 use Rattle.primitives.specs.Splice.{splice}
-use Rattle.stream.proofs.BytesSteps.{sought}
+use Rattle.stream.proofs.BytesSteps.{known-steps, sought}
 use borrow.Author.Needs.{needs}
+use native.Mathlib.Omega.{arith}
 use Rattle.stream.proofs.bytes.read.Statement.{statement}
 use Rattle.stream.proofs.bytes.read.Tie as tie
 
@@ -21,7 +22,7 @@ seek-from-requires : tie.Need-seek-from-requires
 seek-from-requires c κs =
     let p = c .before .before .before .pre in
     let s = sought _ _ _ _ _ (c .before .before .before .args .at) (c .before .before .before .args .n) (p .0) (p .1 .0) (p .1 .1 .0) (p .1 .1 .1 .0) in
-    (p .0, (p .1 .0, (s .before, p .1 .1 .1 .1 .1)))
+    (p .0, (p .1 .0, (s .before, (p .1 .1 .1 .1 .1 .reaches, known-steps _ _ _ _ _ (p .1 .1 .1 .1 .1) (omega (arith, p .0 .size-low))))))
 
 sub-read-from : tie.Need-sub-read-from
 sub-read-from c =

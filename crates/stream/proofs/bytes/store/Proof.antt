@@ -4,8 +4,9 @@ use lib.ListN.{length}
 use Rattle.metadata.specs.Fat.{fatEntry}
 use Rattle.stream.specs.Internal.{along}
 use Rattle.stream.specs.Bytes.{storeAt}
-use Rattle.stream.proofs.BytesSteps.{sought}
+use Rattle.stream.proofs.BytesSteps.{known-steps, sought}
 use borrow.Author.Needs.{needs}
+use native.Mathlib.Omega.{arith}
 use Rattle.stream.proofs.bytes.store.Statement.{statement}
 use Rattle.stream.proofs.bytes.store.Tie as tie
 
@@ -22,7 +23,7 @@ seek-from-requires : tie.Need-seek-from-requires
 seek-from-requires c κs =
     let p = c .before .before .before .before .pre in
     let s = sought _ _ _ _ _ (c .before .before .before .before .args .at) (length (c .before .before .before .before .args .src .now)) (p .0) (p .1 .0) (p .1 .1 .0) (p .1 .1 .1 .0) in
-    (p .0, (p .1 .0, (s .before, p .1 .1 .1 .1 .1 .0)))
+    (p .0, (p .1 .0, (s .before, ((p .1 .1 .1 .1 .1 .0) .reaches, known-steps _ _ _ _ _ (p .1 .1 .1 .1 .1 .0) (omega (arith, p .0 .size-low))))))
 
 sub-store-from : tie.Need-sub-store-from
 sub-store-from c =

@@ -53,7 +53,7 @@ put-grown-requires c κs =
     let p = c .before .before .before .before .before .before .before .before .before .before .pre in
     let q = c .before .before .before .before .max .ensures in
     let z : c .before .before .length-cause .result ≡ 0 = omega arith in
-    (p .0, (p .1 .0, (p .1 .1 .0, (p .1 .1 .1 .0, (p .1 .1 .1 .1 .0, (p .1 .1 .1 .1 .1, (sym (c .before .before .length-cause .ensures) ∙ z, (omega (arith, q), omega arith))))))))
+    (p .0, (p .1 .0, (p .1 .1 .0, (p .1 .1 .1 .0, (p .1 .1 .1 .1 .0, (p .1 .1 .1 .1 .1 .0, (sym (c .before .before .length-cause .ensures) ∙ z, (omega (arith, q), (p .1 .1 .1 .1 .1 .1, omega arith)))))))))
 
 max-requires-2 : tie.Need-max-requires-2
 max-requires-2 c κs = search needs

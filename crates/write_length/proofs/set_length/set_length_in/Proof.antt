@@ -2,13 +2,14 @@ use mathlib.Core.Path.{_≡_, sym, _∙_, ap}
 use Prim.Native.Nat.{ℕ, _≤_, min}
 use native.Mathlib.Omega.{arith}
 use Rattle.metadata.proofs.Frame.{Fits}
+use Rattle.stream.proofs.BytesSteps.{known-later}
 use Rattle.entry_set.specs.Fields.{clustersFor}
 use Rattle.entry_set.proofs.LengthLaws.{clusters-mono}
 use Rattle.directory.specs.declared.open_file.OpenFile.{OpenFile}
 use Rattle.directory.specs.Directory.{rootRecord}
 use Rattle.directory.specs.Open.{fileRecord}
 use Rattle.file.specs.Refresh.{lengthCause}
-use Rattle.file.proofs.OpenLaws.{target-number, found-opens, open-stream, open-count, open-valid, open-small, open-reaches, open-stored, opens-none, shown-as, carried-shown, refuse-shown}
+use Rattle.file.proofs.OpenLaws.{target-number, found-opens, found-known, open-stream, open-count, open-valid, open-small, open-reaches, open-stored, opens-none, shown-as, carried-shown, refuse-shown}
 use Rattle.write_length.proofs.SetLengthLaws.{set-refused, set-not, set-shorter, set-longer, cut-reads, cut-part, cut-shorter}
 use borrow.Author.Needs.{needs}
 use Rattle.write_length.proofs.set_length.set_length_in.Statement.{statement}
@@ -28,7 +29,7 @@ returns c =
     let i = c .before .before .before .before .before .before .before .before .args in
     let p = c .before .before .before .before .before .before .before .before .pre in
     let f = c .before .before .before .open-target in
-    let q = ap (λ (x : OpenFile). x .number) (f .ensures .0) ∙ target-number (i .y) (i .vol .now) (i .map .now) (rootRecord (i .y) (i .vol .now) (i .root)) (i .slot) (i .hint) in
+    let q = ap (λ (x : OpenFile). x .number) (f .ensures .0) ∙ target-number (i .y) (i .vol .now) (i .map .now) (rootRecord (i .y) (i .vol .now) (i .root)) (i .slot) (i .len) (i .hint) in
     shown-as (set-refused (i .y) (i .vol .now) (i .map .now) (rootRecord (i .y) (i .vol .now) (i .root)) (i .slot) (i .len) (i .t) (i .hint) (f .result .number) q (λ z. omega arith)) (refuse-shown _ _ _ _ (c .refused .ensures))
 
 length-cause-requires : tie.Need-length-cause-requires
@@ -47,7 +48,7 @@ returns-2 c =
     let f = c .before .before .before .before .before .before .before .before .open-target in
     let w : Fits (i .y) (i .vol .now) = record { laid = p .0; apart = p .1 .1 .1; long = p .1 .0 } in
     let z : f .result .number ≡ 0 = omega (arith, c .before .before .before .before .before .before .if1 .left) in
-    let o = found-opens (i .y) (i .vol .now) (i .map .now) (rootRecord (i .y) (i .vol .now) (i .root)) (i .slot) (i .hint) w (p .1 .1 .0) (f .result) (f .ensures .0) _ (f .ensures .1) z in
+    let o = found-opens (i .y) (i .vol .now) (i .map .now) (rootRecord (i .y) (i .vol .now) (i .root)) (i .slot) (i .len) (i .hint) w (p .1 .1 .0) (f .result) (f .ensures .0) _ (f .ensures .1) z in
     let n = c .before .before .length-cause in
     shown-as (set-not (i .y) (i .vol .now) (i .map .now) (rootRecord (i .y) (i .vol .now) (i .root)) (i .slot) (i .len) (i .t) (i .hint) (opens-none _ _ _ _ _ _ _ _ o) _ (o .stream ∙ ap (fileRecord (i .y) (i .vol .now)) (o .set)) (n .result) (n .ensures) (λ z. omega (arith, c .before .if2 .taken))) (refuse-shown _ _ _ _ (c .refused2 .ensures))
 
@@ -64,7 +65,7 @@ cut-plan-requires c κs =
     let f = c .before .before .before .before .before .before .before .before .before .before .before .before .before .open-target in
     let w : Fits (i .y) (i .vol .now) = record { laid = p .0; apart = p .1 .1 .1; long = p .1 .0 } in
     let z : f .result .number ≡ 0 = omega (arith, c .before .before .before .before .before .before .before .before .before .before .before .if1 .left) in
-    let o = found-opens (i .y) (i .vol .now) (i .map .now) (rootRecord (i .y) (i .vol .now) (i .root)) (i .slot) (i .hint) w (p .1 .1 .0) (f .result) (f .ensures .0) _ (f .ensures .1) z in
+    let o = found-opens (i .y) (i .vol .now) (i .map .now) (rootRecord (i .y) (i .vol .now) (i .root)) (i .slot) (i .len) (i .hint) w (p .1 .1 .0) (f .result) (f .ensures .0) _ (f .ensures .1) z in
     let v = c .before .before .before .before .valid-length in
     let u = c .before .before .data-length in
     let l = p .0 in
@@ -81,7 +82,7 @@ record-set-requires c κs =
     let f = c .before .before .before .before .before .before .before .before .before .before .before .before .before .before .before .before .before .before .before .open-target in
     let w : Fits (i .y) (i .vol .now) = record { laid = p .0; apart = p .1 .1 .1; long = p .1 .0 } in
     let z : f .result .number ≡ 0 = omega (arith, c .before .before .before .before .before .before .before .before .before .before .before .before .before .before .before .before .before .if1 .left) in
-    let o = found-opens (i .y) (i .vol .now) (i .map .now) (rootRecord (i .y) (i .vol .now) (i .root)) (i .slot) (i .hint) w (p .1 .1 .0) (f .result) (f .ensures .0) _ (f .ensures .1) z in
+    let o = found-opens (i .y) (i .vol .now) (i .map .now) (rootRecord (i .y) (i .vol .now) (i .root)) (i .slot) (i .len) (i .hint) w (p .1 .1 .0) (f .result) (f .ensures .0) _ (f .ensures .1) z in
     (p .0, (p .1 .0, open-reaches _ _ _ _ _ _ _ _ o))
 
 cut-to-requires : tie.Need-cut-to-requires
@@ -91,7 +92,7 @@ cut-to-requires c κs =
     let f = c .before .before .before .before .before .before .before .before .before .before .before .before .before .before .before .before .before .before .before .before .before .before .before .open-target in
     let w : Fits (i .y) (i .vol .now) = record { laid = p .0; apart = p .1 .1 .1; long = p .1 .0 } in
     let z : f .result .number ≡ 0 = omega (arith, c .before .before .before .before .before .before .before .before .before .before .before .before .before .before .before .before .before .before .before .before .before .if1 .left) in
-    let o = found-opens (i .y) (i .vol .now) (i .map .now) (rootRecord (i .y) (i .vol .now) (i .root)) (i .slot) (i .hint) w (p .1 .1 .0) (f .result) (f .ensures .0) _ (f .ensures .1) z in
+    let o = found-opens (i .y) (i .vol .now) (i .map .now) (rootRecord (i .y) (i .vol .now) (i .root)) (i .slot) (i .len) (i .hint) w (p .1 .1 .0) (f .result) (f .ensures .0) _ (f .ensures .1) z in
     let v = c .before .before .before .before .before .before .before .before .before .before .before .before .before .before .valid-length in
     let u = c .before .before .before .before .before .before .before .before .before .before .before .before .data-length in
     let l = p .0 in
@@ -109,7 +110,7 @@ returns-3 c =
     let f = c .before .before .before .before .before .before .before .before .before .before .before .before .before .before .before .before .before .before .before .before .before .before .before .before .before .before .open-target in
     let w : Fits (i .y) (i .vol .now) = record { laid = p .0; apart = p .1 .1 .1; long = p .1 .0 } in
     let z : f .result .number ≡ 0 = omega (arith, c .before .before .before .before .before .before .before .before .before .before .before .before .before .before .before .before .before .before .before .before .before .before .before .before .if1 .left) in
-    let o = found-opens (i .y) (i .vol .now) (i .map .now) (rootRecord (i .y) (i .vol .now) (i .root)) (i .slot) (i .hint) w (p .1 .1 .0) (f .result) (f .ensures .0) _ (f .ensures .1) z in
+    let o = found-opens (i .y) (i .vol .now) (i .map .now) (rootRecord (i .y) (i .vol .now) (i .root)) (i .slot) (i .len) (i .hint) w (p .1 .1 .0) (f .result) (f .ensures .0) _ (f .ensures .1) z in
     let n = c .before .before .before .before .before .before .before .before .before .before .before .before .before .before .before .before .before .before .before .before .length-cause in
     let none : lengthCause (i .y) (i .vol .now) (i .map .now) (f .result .stream) (i .len) ≡ 0 = sym (n .ensures) ∙ (omega (arith, c .before .before .before .before .before .before .before .before .before .before .before .before .before .before .before .before .before .before .before .if2 .left)) in
     let v = c .before .before .before .before .before .before .before .before .before .before .before .before .before .before .before .before .before .valid-length in
@@ -120,26 +121,28 @@ returns-3 c =
 
 lengthen-requires : tie.Need-lengthen-requires
 lengthen-requires c κs =
-    let i = c .before .before .before .before .before .before .before .before .before .before .before .before .before .before .before .before .before .before .args in
-    let p = c .before .before .before .before .before .before .before .before .before .before .before .before .before .before .before .before .before .before .pre in
-    let f = c .before .before .before .before .before .before .before .before .before .before .before .before .before .open-target in
+    let i = c .before .before .before .before .before .before .before .before .before .before .before .before .before .before .before .before .before .before .before .args in
+    let p = c .before .before .before .before .before .before .before .before .before .before .before .before .before .before .before .before .before .before .before .pre in
+    let f = c .before .before .before .before .before .before .before .before .before .before .before .before .before .before .open-target in
     let w : Fits (i .y) (i .vol .now) = record { laid = p .0; apart = p .1 .1 .1; long = p .1 .0 } in
-    let z : f .result .number ≡ 0 = omega (arith, c .before .before .before .before .before .before .before .before .before .before .before .if1 .left) in
-    let o = found-opens (i .y) (i .vol .now) (i .map .now) (rootRecord (i .y) (i .vol .now) (i .root)) (i .slot) (i .hint) w (p .1 .1 .0) (f .result) (f .ensures .0) _ (f .ensures .1) z in
-    let n = c .before .before .before .before .before .before .before .length-cause in
-    let none : lengthCause (i .y) (i .vol .now) (i .map .now) (f .result .stream) (i .len) ≡ 0 = sym (n .ensures) ∙ (omega (arith, c .before .before .before .before .before .before .if2 .left)) in
-    let v = c .before .before .before .before .valid-length in
-    let u = c .before .before .data-length in
-    (p .0, (p .1 .0, (p .1 .1 .0, (p .1 .1 .1, (o .hint-in, (open-stream _ _ _ _ _ _ _ _ o, (none, (omega (arith, v .ensures, u .ensures, open-valid _ _ _ _ _ _ _ _ o), omega (arith, v .ensures, open-small _ _ _ _ _ _ _ _ o)))))))))
+    let z : f .result .number ≡ 0 = omega (arith, c .before .before .before .before .before .before .before .before .before .before .before .before .if1 .left) in
+    let o = found-opens (i .y) (i .vol .now) (i .map .now) (rootRecord (i .y) (i .vol .now) (i .root)) (i .slot) (i .len) (i .hint) w (p .1 .1 .0) (f .result) (f .ensures .0) _ (f .ensures .1) z in
+    let n = c .before .before .before .before .before .before .before .before .length-cause in
+    let none : lengthCause (i .y) (i .vol .now) (i .map .now) (f .result .stream) (i .len) ≡ 0 = sym (n .ensures) ∙ (omega (arith, c .before .before .before .before .before .before .before .if2 .left)) in
+    let v = c .before .before .before .before .before .valid-length in
+    let u = c .before .before .before .data-length in
+    let e = found-known (i .y) (i .vol .now) (i .map .now) (rootRecord (i .y) (i .vol .now) (i .root)) (i .slot) (i .len) (i .hint) w (p .1 .1 .0) (f .result) (f .ensures .0) _ (f .ensures .1) z in
+    let k = known-later (i .y) (i .vol .now) (f .result .stream) (f .result .place) _ e (v .result) (omega (arith, v .ensures)) in
+    (p .0, (p .1 .0, (p .1 .1 .0, (p .1 .1 .1, (o .hint-in, (open-stream _ _ _ _ _ _ _ _ o, (none, (omega (arith, v .ensures, u .ensures, open-valid _ _ _ _ _ _ _ _ o), (omega (arith, v .ensures, open-small _ _ _ _ _ _ _ _ o), k)))))))))
 
 record-set-requires-2 : tie.Need-record-set-requires-2
 record-set-requires-2 c κs =
-    let i = c .before .before .before .before .before .before .before .before .before .before .before .before .before .before .before .before .before .before .before .before .before .before .before .before .args in
-    let p = c .before .before .before .before .before .before .before .before .before .before .before .before .before .before .before .before .before .before .before .before .before .before .before .before .pre in
-    let f = c .before .before .before .before .before .before .before .before .before .before .before .before .before .before .before .before .before .before .before .open-target in
+    let i = c .before .before .before .before .before .before .before .before .before .before .before .before .before .before .before .before .before .before .before .before .before .before .before .before .before .args in
+    let p = c .before .before .before .before .before .before .before .before .before .before .before .before .before .before .before .before .before .before .before .before .before .before .before .before .before .pre in
+    let f = c .before .before .before .before .before .before .before .before .before .before .before .before .before .before .before .before .before .before .before .before .open-target in
     let w : Fits (i .y) (i .vol .now) = record { laid = p .0; apart = p .1 .1 .1; long = p .1 .0 } in
-    let z : f .result .number ≡ 0 = omega (arith, c .before .before .before .before .before .before .before .before .before .before .before .before .before .before .before .before .before .if1 .left) in
-    let o = found-opens (i .y) (i .vol .now) (i .map .now) (rootRecord (i .y) (i .vol .now) (i .root)) (i .slot) (i .hint) w (p .1 .1 .0) (f .result) (f .ensures .0) _ (f .ensures .1) z in
+    let z : f .result .number ≡ 0 = omega (arith, c .before .before .before .before .before .before .before .before .before .before .before .before .before .before .before .before .before .before .if1 .left) in
+    let o = found-opens (i .y) (i .vol .now) (i .map .now) (rootRecord (i .y) (i .vol .now) (i .root)) (i .slot) (i .len) (i .hint) w (p .1 .1 .0) (f .result) (f .ensures .0) _ (f .ensures .1) z in
     (p .0, (omega (arith, p .1 .0), open-reaches _ _ _ _ _ _ _ _ o))
 
 same-length-4 : tie.Need-same-length-4
@@ -147,18 +150,18 @@ same-length-4 c = search needs
 
 returns-4 : tie.Need-returns-4
 returns-4 c =
-    let i = c .before .before .before .before .before .before .before .before .before .before .before .before .before .before .before .before .before .before .before .before .before .before .before .before .before .before .before .args in
-    let p = c .before .before .before .before .before .before .before .before .before .before .before .before .before .before .before .before .before .before .before .before .before .before .before .before .before .before .before .pre in
-    let f = c .before .before .before .before .before .before .before .before .before .before .before .before .before .before .before .before .before .before .before .before .before .before .open-target in
+    let i = c .before .before .before .before .before .before .before .before .before .before .before .before .before .before .before .before .before .before .before .before .before .before .before .before .before .before .before .before .args in
+    let p = c .before .before .before .before .before .before .before .before .before .before .before .before .before .before .before .before .before .before .before .before .before .before .before .before .before .before .before .before .pre in
+    let f = c .before .before .before .before .before .before .before .before .before .before .before .before .before .before .before .before .before .before .before .before .before .before .before .open-target in
     let w : Fits (i .y) (i .vol .now) = record { laid = p .0; apart = p .1 .1 .1; long = p .1 .0 } in
-    let z : f .result .number ≡ 0 = omega (arith, c .before .before .before .before .before .before .before .before .before .before .before .before .before .before .before .before .before .before .before .before .if1 .left) in
-    let o = found-opens (i .y) (i .vol .now) (i .map .now) (rootRecord (i .y) (i .vol .now) (i .root)) (i .slot) (i .hint) w (p .1 .1 .0) (f .result) (f .ensures .0) _ (f .ensures .1) z in
-    let n = c .before .before .before .before .before .before .before .before .before .before .before .before .before .before .before .before .length-cause in
-    let none : lengthCause (i .y) (i .vol .now) (i .map .now) (f .result .stream) (i .len) ≡ 0 = sym (n .ensures) ∙ (omega (arith, c .before .before .before .before .before .before .before .before .before .before .before .before .before .before .before .if2 .left)) in
-    let v = c .before .before .before .before .before .before .before .before .before .before .before .before .before .valid-length in
-    let u = c .before .before .before .before .before .before .before .before .before .before .before .data-length in
+    let z : f .result .number ≡ 0 = omega (arith, c .before .before .before .before .before .before .before .before .before .before .before .before .before .before .before .before .before .before .before .before .before .if1 .left) in
+    let o = found-opens (i .y) (i .vol .now) (i .map .now) (rootRecord (i .y) (i .vol .now) (i .root)) (i .slot) (i .len) (i .hint) w (p .1 .1 .0) (f .result) (f .ensures .0) _ (f .ensures .1) z in
+    let n = c .before .before .before .before .before .before .before .before .before .before .before .before .before .before .before .before .before .length-cause in
+    let none : lengthCause (i .y) (i .vol .now) (i .map .now) (f .result .stream) (i .len) ≡ 0 = sym (n .ensures) ∙ (omega (arith, c .before .before .before .before .before .before .before .before .before .before .before .before .before .before .before .before .if2 .left)) in
+    let v = c .before .before .before .before .before .before .before .before .before .before .before .before .before .before .valid-length in
+    let u = c .before .before .before .before .before .before .before .before .before .before .before .before .data-length in
     let g = c .before .before .before .before .before .before .before .before .lengthen in
-    shown-as (set-longer (i .y) (i .vol .now) (i .map .now) (rootRecord (i .y) (i .vol .now) (i .root)) (i .slot) (i .len) (i .t) (i .hint) (opens-none _ _ _ _ _ _ _ _ o) _ (o .set) _ (o .stream) none (u .result) (u .ensures) (omega (arith, c .before .before .before .before .before .before .before .before .before .before .if3 .left)) (v .result) (v .ensures) _ _ (g .ensures .0) (g .ensures .1)) (carried-shown 0 _ _ _ (open-stored _ _ _ _ _ _ _ _ o _ _ _ _ _ _ (c .before .before .record-set2 .ensures .0)))
+    shown-as (set-longer (i .y) (i .vol .now) (i .map .now) (rootRecord (i .y) (i .vol .now) (i .root)) (i .slot) (i .len) (i .t) (i .hint) (opens-none _ _ _ _ _ _ _ _ o) _ (o .set) _ (o .stream) none (u .result) (u .ensures) (omega (arith, c .before .before .before .before .before .before .before .before .before .before .before .if3 .left)) (v .result) (v .ensures) _ _ (g .ensures .0) (g .ensures .1)) (carried-shown 0 _ _ _ (open-stored _ _ _ _ _ _ _ _ o _ _ _ _ _ _ (c .before .before .record-set2 .ensures .0)))
 
 pub set-length-in-spec : {M : Type 1} → statement M
 set-length-in-spec =
