@@ -16,6 +16,7 @@ static uint8_t map[COUNT / 8];
 static const uint32_t geometry[EXFAT_GEOMETRY_WORDS] = {9, 0, 24, 251, 1, 0, 280, COUNT, ROOT, 2, 0};
 static const uint8_t stamps[18];
 static const uint8_t data[SIZE] = {1};
+static uint8_t long_data[COUNT * SIZE];
 static const uint8_t zeros[SIZE];
 static uint32_t out[EXFAT_OUT_WORDS];
 #define CARD vol, sizeof vol, map, sizeof map, geometry
@@ -56,23 +57,31 @@ static void format(void)
     set_fat(ROOT, 0xFFFFFFFF);
 }
 
+/* gives the file at slot 0 a valid length */
+static void set_valid(uint64_t valid)
+{
+    uint8_t *set = cluster(ROOT);
+    uint16_t sum = 0;
+
+    put(set + 40, valid, 8);
+    for (int i = 0; i < 96; i++)
+        if (i != 2 && i != 3)
+            sum = (uint16_t)((sum << 15 | sum >> 1) + set[i]);
+    put(set + 2, sum, 2);
+}
+
 /* a file at slot 0 with the stream and the length given, written out in full clusters */
 static void file(uint32_t first, int run, uint64_t length)
 {
     static const uint16_t name[8] = {'M', 'E', 'L', 'T', '.', 'C', 'S', 'V'};
     uint8_t *set = cluster(ROOT);
-    uint16_t sum = 0;
 
     if (exfat_new_file(CARD, name, 8, 0x20, 0x0A7A, stamps, FIRST, out) != 0)
         exit(2);
     set[33] = run ? 3 : 1;
-    put(set + 40, length, 8);
     put(set + 52, first, 4);
     put(set + 56, length, 8);
-    for (int i = 0; i < 96; i++)
-        if (i != 2 && i != 3)
-            sum = (uint16_t)((sum << 15 | sum >> 1) + set[i]);
-    put(set + 2, sum, 2);
+    set_valid(length);
 }
 
 /* a file whose chain has every cluster from FIRST on, in an order that jumps through the heap */
@@ -139,9 +148,31 @@ static uint32_t read_part(uint64_t offset, uint32_t length)
     return out[0] == 0 && out[2] == length ? exfat_read_number(CARD, zeros, sizeof zeros, 0) : 99;
 }
 
+/* The number of a write to the file of all clusters, of which so many bytes are valid: 0. Its first and last bytes are looked at. */
+static uint32_t write_long(uint64_t valid, uint64_t offset, size_t length)
+{
+    const uint64_t places[2] = {0, offset + length - 1};
+    uint32_t number;
+
+    file_of_all();
+    memset(cluster(FIRST), 2, (size_t)(END - FIRST) * SIZE);
+    memset(long_data, 1, sizeof long_data);
+    set_valid(valid);
+    number = exfat_write(CARD, 0, offset, long_data, length, stamps, FIRST, out);
+    for (int i = 0; i < 2; i++) {
+        const uint32_t k = FIRST + (uint32_t)(places[i] / SIZE * 7919 % (END - FIRST));
+        const uint8_t is = places[i] >= offset ? 1 : valid == 0 ? 0 : 2;
+
+        if (cluster(k)[places[i] % SIZE] != is)
+            return 99;
+    }
+    return number;
+}
+
 int main(int argc, char **argv)
 {
     static const uint32_t record[EXFAT_ALLOCATION_WORDS] = {FIRST, FIRST + 3, 4, 1};
+    const uint64_t all = (uint64_t)(END - FIRST) * SIZE;
     const char *which = argc > 1 ? argv[1] : "";
     uint32_t number;
 
@@ -160,6 +191,15 @@ int main(int argc, char **argv)
     } else if (strcmp(which, "worst") == 0) {
         one_left();
         number = exfat_write(CARD, 0, SIZE, data, SIZE, stamps, FIRST, out);
+    } else if (strcmp(which, "whole") == 0) {
+        number = write_long(all, 0, all);
+    } else if (strcmp(which, "zeros") == 0) {
+        number = write_long(0, all - SIZE + 100, 1);
+    } else if (strcmp(which, "middle") == 0) {
+        number = write_long(all, all / 2, 1);
+    } else if (strcmp(which, "number") == 0) {
+        file_of_all();
+        number = exfat_read_number(CARD, zeros, 1, 0);
     } else if (strcmp(which, "read") == 0) {
         file_of_all();
         number = read_part((uint64_t)(END - FIRST - 1) * SIZE, SIZE);

@@ -67,6 +67,9 @@ fn run_library(work: &Workload, data: &[u8], volume: &Shared, cold: bool) -> u64
     if work.repeated {
         side.run();
     }
+    if work.anew {
+        side.restart();
+    }
     cool(cold, volume, data);
     side.run()
 }
@@ -79,6 +82,10 @@ fn run_warm(work: &Workload, data: &[u8], volume: &Shared, cold: bool) -> u64 {
     if work.repeated {
         side.run_on(&mut mount);
     }
+    if work.anew {
+        side.restart();
+        mount = side.mount();
+    }
     cool(cold, volume, data);
     side.run_on(&mut mount)
 }
@@ -89,6 +96,9 @@ fn run_fresh(work: &Workload, data: &[u8], volume: &Shared, cold: bool) -> u64 {
     side.restart();
     if work.repeated {
         side.run_fresh();
+    }
+    if work.anew {
+        side.restart();
     }
     cool(cold, volume, data);
     side.run_fresh()
@@ -127,11 +137,11 @@ fn run_walks(list: &List, data: &[u8], volume: &Shared) -> u64 {
     sum
 }
 
-/// For each part, a walk of the file's chain and nothing else.
-fn run_part_walks(list: &List, volume: &Shared, cold: bool) -> u64 {
+/// For each call, a walk of the file's chain and nothing else.
+fn run_bare_walks(list: &List, volume: &Shared, cold: bool) -> u64 {
     let (first, chain) = stream_of(list, &volume.borrow(), list.files[0].slot);
-    assert!(chain, "a file with a chain is read");
-    let parts = |bytes: &[u8]| {
+    assert!(chain, "the file has a chain");
+    let walks = |bytes: &[u8]| {
         let fat = &bytes[list.volume.fat..list.volume.heap];
         let start = now();
         for _ in &list.calls {
@@ -139,10 +149,10 @@ fn run_part_walks(list: &List, volume: &Shared, cold: bool) -> u64 {
         }
         now() - start
     };
-    parts(&volume.borrow());
+    walks(&volume.borrow());
     cool(cold, volume, &[]);
     let bytes = &*volume.borrow();
-    parts(bytes)
+    walks(bytes)
 }
 
 /// For each part, the tests of the run's clusters whose bits fill bytes; at most 14 others are left out.
@@ -227,8 +237,8 @@ pub fn measure(work: &Workload, data: &[u8], cold: bool, rounds: Rounds) -> Time
                 }
                 Turn::Limit => match work.limit {
                     Limit::None => {}
-                    Limit::Walk if reads => {
-                        times.limit.push(run_part_walks(list, &volume, cold));
+                    Limit::Walk if work.repeated => {
+                        times.limit.push(run_bare_walks(list, &volume, cold));
                     }
                     Limit::Walk => times.limit.push(run_walks(list, data, &volume)),
                     Limit::Run { first, count } => {
@@ -236,9 +246,11 @@ pub fn measure(work: &Workload, data: &[u8], cold: bool, rounds: Rounds) -> Time
                             .limit
                             .push(run_tests(list, &volume, first, count, cold));
                     }
-                    Limit::Copy { first } => {
+                    Limit::Copy { first, length } => {
                         let at = list.volume.cluster_at(first);
-                        times.limit.push(run_copy(at, data, &volume, cold));
+                        times
+                            .limit
+                            .push(run_copy(at, &data[..length], &volume, cold));
                     }
                 },
                 #[cfg(rust_sources)]

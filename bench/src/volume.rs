@@ -262,16 +262,29 @@ impl Volume {
             let bytes: Vec<u8> = part.iter().flat_map(|unit| unit.to_le_bytes()).collect();
             put(&mut set, at + 2, &bytes);
         }
-        let summed = set
-            .iter()
-            .enumerate()
-            .filter(|(index, _)| *index != 2 && *index != 3);
-        let checksum = summed.fold(0, |sum: u16, (_, byte)| {
-            sum.rotate_right(1).wrapping_add(u16::from(*byte))
-        });
-        put(&mut set, 2, &checksum.to_le_bytes());
+        seal_set(&mut set);
         self.put_entries(&set)
     }
+
+    /// Gives the file at a slot, whose name has one entry, a valid length.
+    pub fn set_valid(&mut self, slot: u32, valid: u64) {
+        let at = self.cluster_at(self.geometry.root_cluster) + 32 * slot as usize;
+        let set = &mut self.bytes[at..at + 96];
+        put(set, 40, &valid.to_le_bytes());
+        seal_set(set);
+    }
+}
+
+/// Puts the checksum of an entry set into it.
+fn seal_set(set: &mut [u8]) {
+    let summed = set
+        .iter()
+        .enumerate()
+        .filter(|(index, _)| *index != 2 && *index != 3);
+    let checksum = summed.fold(0, |sum: u16, (_, byte)| {
+        sum.rotate_right(1).wrapping_add(u16::from(*byte))
+    });
+    put(set, 2, &checksum.to_le_bytes());
 }
 
 /// Whether two volumes hold the same bytes, VolumeFlags and PercentInUse of the main boot sector apart: the original's mount and

@@ -11,16 +11,17 @@ const PIECE: usize = 4096;
 #[derive(Clone, Copy, PartialEq)]
 pub enum Limit {
     None,
-    /// Before each call, a walk of the file's chain as it then is; for a read, that alone.
+    /// Before each call, a walk of the file's chain as it then is; where the call is repeated, that alone.
     Walk,
     /// For each read of a run, the marks and the system map of its clusters, byte by byte.
     Run {
         first: u32,
         count: u32,
     },
-    /// A memory copy of the data into the heap, from the file's first cluster on.
+    /// A memory copy of as many bytes as the call stores, into the heap, from the file's first cluster on.
     Copy {
         first: u32,
+        length: usize,
     },
 }
 
@@ -32,6 +33,8 @@ pub struct Workload {
     pub most: Option<f64>,
     /// The call is made once before it is measured, on either side.
     pub repeated: bool,
+    /// Everything is put back between the two, since the second would do less.
+    pub anew: bool,
     /// With a mount before each call it takes seconds.
     pub long: bool,
 }
@@ -43,6 +46,7 @@ fn plain(title: String, list: List) -> Workload {
         limit: Limit::None,
         most: None,
         repeated: false,
+        anew: false,
         long: false,
     }
 }
@@ -199,7 +203,10 @@ fn overwrite(shift: u32, run: bool) -> Workload {
         _ => None,
     };
     Workload {
-        limit: Limit::Copy { first: own[0] },
+        limit: Limit::Copy {
+            first: own[0],
+            length: FILE_BYTES,
+        },
         most,
         repeated: true,
         ..plain(title, list)
@@ -313,8 +320,73 @@ fn full_heap(data: &[u8]) -> [Workload; 2] {
     ]
 }
 
-/// How many clusters a file has that is read back.
-const READ: usize = 16_384;
+/// How many clusters a long chain has, which is written along or read back.
+const LONG: usize = 16_384;
+
+/// Every other cluster, then some of those between: no two that follow each other in the stream do so in the heap.
+fn scattered(volume: &Volume, count: usize) -> Vec<u32> {
+    let (first, end) = (volume.first_free, volume.end());
+    (first..end)
+        .step_by(2)
+        .chain((first + 1..end).step_by(2))
+        .take(count)
+        .collect()
+}
+
+/// One write to a file on scattered clusters of 512 bytes, of which so many bytes are valid.
+fn long_write(
+    title: String,
+    count: usize,
+    valid: usize,
+    (offset, length): (usize, usize),
+) -> Workload {
+    let mut volume = Volume::new(0);
+    let clusters = scattered(&volume, count);
+    let slot = volume.add_stream("recording", &clusters, false);
+    volume.set_valid(slot, valid as u64);
+    let calls = vec![Call::Write {
+        file: 0,
+        offset: offset as u64,
+        from: 0,
+        length,
+    }];
+    let limit = Limit::Copy {
+        first: clusters[0],
+        // zeros lie between the valid length and the data
+        length: offset + length - valid.min(offset),
+    };
+    Workload {
+        limit,
+        most: Some(2.0),
+        repeated: true,
+        anew: valid < offset,
+        ..plain(
+            title,
+            list(volume, vec![File::at("recording", slot)], calls),
+        )
+    }
+}
+
+/// The chain as a whole; zeros along it and a byte in its last cluster; a byte in the middle.
+fn long_writes(mut take: impl FnMut(Workload)) {
+    for (text, count) in [("4,096", LONG / 4), ("16,384", LONG)] {
+        let bytes = 512 * count;
+        let title = format!("write all of {text} clusters of 512 B, scattered");
+        take(long_write(title, count, bytes, (0, bytes)));
+    }
+    for (text, count) in [("4,096", LONG / 4), ("16,384", LONG)] {
+        let title = format!(
+            "write 1 B to the last of {text} clusters of 512 B, scattered, with no byte valid"
+        );
+        take(long_write(title, count, 0, (512 * count - 412, 1)));
+    }
+    let title = "write 1 B to the middle of 16,384 clusters of 512 B, scattered".to_string();
+    take(Workload {
+        limit: Limit::Walk,
+        most: Some(1.5),
+        ..long_write(title, LONG, 512 * LONG, (512 * LONG / 2 + 100, 1))
+    });
+}
 
 /// One file of 8 MiB in clusters of 512 bytes, read back in parts: from which of its clusters on, and how many each has. The Rust
 /// has no part in it, since its reader is not among the files.
@@ -348,30 +420,25 @@ fn reads(title: &str, clusters: &[u32], run: bool, parts: &[(usize, usize)]) -> 
 
 fn all_reads(mut take: impl FnMut(Workload)) {
     let volume = Volume::new(0);
-    let (first, end) = (volume.first_free, volume.end());
-    // Every other cluster, then some of those between: no two that follow each other in the stream do so in the heap.
-    let scattered: Vec<u32> = (first..end)
-        .step_by(2)
-        .chain((first + 1..end).step_by(2))
-        .take(READ)
-        .collect();
-    for (place, from) in [("first", 0), ("middle", READ / 2), ("last", READ - 1)] {
+    let first = volume.first_free;
+    let scattered = scattered(&volume, LONG);
+    for (place, from) in [("first", 0), ("middle", LONG / 2), ("last", LONG - 1)] {
         let title = format!("scattered: the part at the {place} cluster");
         take(reads(&title, &scattered, false, &[(from, 1)]));
     }
     // 64 pieces of 256 clusters, and a cluster between each two.
-    let pieces: Vec<u32> = (0..READ as u32).map(|k| first + k + k / 256).collect();
+    let pieces: Vec<u32> = (0..LONG as u32).map(|k| first + k + k / 256).collect();
     let whole: Vec<(usize, usize)> = (0..64).map(|piece| (256 * piece, 256)).collect();
     take(reads("64 pieces: all 64 parts", &pieces, false, &whole));
-    let together: Vec<u32> = (first..).take(READ).collect();
+    let together: Vec<u32> = (first..).take(LONG).collect();
     let title = "a chain that rises by one: the one part";
-    take(reads(title, &together, false, &[(0, READ)]));
+    take(reads(title, &together, false, &[(0, LONG)]));
     // 1,000 times, since the clock would count beside one call.
     take(reads(
         "a run: the one part",
         &together,
         true,
-        &[(0, READ); 1000],
+        &[(0, LONG); 1000],
     ));
 }
 
@@ -394,5 +461,6 @@ pub fn all(data: &[u8], mut take: impl FnMut(Workload)) {
     take(random_writes(0, data));
     take(random_writes(3, data));
     full_heap(data).into_iter().for_each(&mut take);
+    long_writes(&mut take);
     all_reads(take);
 }
