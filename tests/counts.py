@@ -77,6 +77,7 @@ HERE = [
 PRINTED = [
     ("docs/CERTIFICATE.md", r"(\d+) border cases", r"^edges: (\d+) border cases", "border cases"),
     ("docs/CERTIFICATE.md", r"a C program's (\d+) checks", r"^boundary: ok +\S", "C program"),
+    ("docs/CERTIFICATE.md", r"(\d+) figures of writes along", r"^long writes: (\d+) figures", "long writes"),
     ("docs/CERTIFICATE.md", r"([\d,]+) calls in the gate's share", r"^model: (\d+) calls on", "Python model"),
     ("docs/CERTIFICATE.md", r"(\d+) wrong variants", r"^model: \d+ of (\d+) wrong variants reported", "Python model"),
     ("docs/CERTIFICATE.md", r"`([\d,]+) passed, 0 failed`", r"^(\d+) passed, 0 failed$", "-"),
