@@ -9,7 +9,7 @@ import struct
 import sys
 
 import geometry
-from trials import checksum
+from trials import chain, checksum
 
 SECTOR, FAT_AT, HEAP_AT, END = 512, 24 * 512, 32 * 512, 0xFFFFFFFF
 LAST = 2**64 - 1
@@ -17,10 +17,10 @@ library = ctypes.CDLL(sys.argv[1])
 seen, faults = 0, []
 
 
-def entry_set(flags, first, length, valid, attributes=0x20):
-    """The set of file "a"."""
+def entry_set(flags, first, length, valid, attributes=0x20, name=0x61):
+    """The set of file "a", or of one with another name of one unit."""
     s = bytearray(96)
-    s[0], s[1], s[4], s[32], s[33], s[35], s[64], s[66] = 0x85, 2, attributes, 0xC0, flags, 1, 0xC1, 0x61
+    s[0], s[1], s[4], s[32], s[33], s[35], s[64], s[66] = 0x85, 2, attributes, 0xC0, flags, 1, 0xC1, name
     s[40:48], s[52:56], s[56:64] = struct.pack("<Q", valid), struct.pack("<I", first), struct.pack("<Q", length)
     s[2:4] = struct.pack("<H", checksum(s))
     return s
@@ -236,6 +236,81 @@ def long_writes():
             same(f"{what}, and no other byte but the set's", v.bytes == left, True)
 
 
+# ---- where a write's zeros and data begin (02, 2027-02)
+
+
+# Streams of file "a": its clusters, whether they are a run, those of file "b", and those that "a" grows by with hint 4, in this order,
+# one to three of them. In what is scattered no two clusters follow each other. An empty file becomes a run if what it takes can be one.
+STREAMS = [
+    ("a scattered chain", [9, 5, 13, 4, 11], False, [7, 12, 15, 17], [14, 16, 6]),
+    ("a chain that rises", [4, 5, 6, 7, 8], False, [13, 12], [9, 10, 11]),
+    ("a run", [4, 5, 6, 7, 8], True, [13, 12], [9, 10, 11]),
+    ("a run, the next cluster taken", [4, 5, 6, 7, 8], True, [9, 17, 11, 15, 13], [10, 12, 14]),
+    ("a chain of one cluster", [11], False, [9, 5, 13, 4, 7, 12, 15, 17], [14, 16, 6]),
+    ("an empty file", [], True, [13, 12], [4, 5, 6]),
+    ("an empty file, no two free clusters together", [], True, [5, 17, 7, 9, 15, 13, 11], [4, 6, 8]),
+]
+# What the clusters hold: bytes 1 to 127, no two clusters the same one at the same place. Data have 128 to 255.
+FILLED = [bytes(1 + (11 * k + i) % 127 for i in range(SECTOR)) for k in range(18)]
+DATA = bytes(128 + 7 * i % 128 for i in range(1200))
+
+
+def placed(own, run, others, length, valid, *stored):
+    """A volume with the files "a" and "b", and with bytes stored at offsets of "a". A FAT entry of no chain leads to "b"."""
+    run = run and all(b == a + 1 for a, b in zip(own, own[1:]))  # "A run keeps its flag if the next clusters are usable."
+    links = {3: END, **dict.fromkeys(range(4, 18), others[0]), **chain(*others), **({} if run else chain(*own))}
+    sets = entry_set(3 if run and own else 1, own[0] if own else 0, length, valid)
+    sets += entry_set(1, others[0], SECTOR * len(others), 700, name=0x62)
+    v, tape = Volume(marks=(2, 3, *own, *others), fat=links.items(), at_root=sets), bytearray().join(FILLED[k] for k in own)
+    for offset, bytes_ in stored:
+        tape[offset : offset + len(bytes_)] = bytes_
+    v.put(4, b"".join(FILLED[4:]))
+    for i, k in enumerate(own):
+        v.put(k, tape[SECTOR * i : SECTOR * (i + 1)])
+    return v
+
+
+def around(borders, least, most):
+    """The borders and one byte to either side of each, within these."""
+    return sorted({b + d for b in borders for d in (-1, 0, 1) if least <= b + d <= most})
+
+
+def grown(own, free, length):
+    """The clusters for a length, and the hint: "last + 1", or as given."""
+    new = free[: max(0, -(-length // SECTOR) - len(own))]
+    return own + new, new[-1] + 1 if new else 4
+
+
+def write_places():
+    """Every byte of the volume after writes and longer lengths, the valid length and the offset at borders of clusters and beside
+    them: in one cluster, in two, past the length, and past the clusters that were there."""
+    for name, own, run, others, free in STREAMS:
+        borders, most = range(0, SECTOR * (len(own) + 4), SECTOR), SECTOR * (len(own) + 3)
+        for length in (SECTOR * len(own) - 511, SECTOR * len(own)) if own else (0,):
+            for valid in around([*borders, length], 0, length):
+                wrong, what = [], f"{name}, length {length:,}, valid {valid:,}"
+                for offset in around(borders, 0, most):
+                    for data in (DATA[:n] for n in (1, 2, 1200) if offset + n <= most):
+                        v, end = placed(own, run, others, length, valid), offset + len(data)
+                        clusters, hint = grown(own, free, max(length, end))
+                        # "if offset passes valid, zero valid up to offset; store; length and valid become the larger of
+                        # themselves and the end."
+                        stored = (valid, bytes(max(0, offset - valid))), (offset, data)
+                        left = placed(clusters, run, others, max(length, end), max(valid, end), *stored)
+                        if (v.write(0, offset, data), v.bytes) != ((0, hint, 0), left.bytes):
+                            wrong.append((offset, len(data)))
+                same(f"{what}, writes (offset, bytes) that leave other bytes", wrong, [])
+                wrong = []
+                for longer in around(borders, length + 1, most):
+                    v, (clusters, hint) = placed(own, run, others, length, valid), grown(own, free, longer)
+                    # "zeroes from valid to the smaller of valid rounded up to whole clusters and the new length, valid unchanged."
+                    until = min(-(-valid // SECTOR) * SECTOR, longer)
+                    left = placed(clusters, run, others, longer, valid, (valid, bytes(until - valid)))
+                    if (v.set_length(0, longer), v.bytes) != ((0, hint, 0), left.bytes):
+                        wrong.append(longer)
+                same(f"{what}, longer lengths that leave other bytes", wrong, [])
+
+
 # ---- reading back (02, 2027-01)
 
 
@@ -427,7 +502,7 @@ def read_whole():
 
 
 library.exfat_read.restype = None
-for part in (the_root, new_files, writes, streams, lengths, over_the_root, long_writes):
+for part in (the_root, new_files, writes, streams, lengths, over_the_root, long_writes, write_places):
     part()
 for part in (read_numbers, read_refusals, read_parts, read_places, read_whole):
     part()
