@@ -240,7 +240,7 @@ def long_writes():
 
 
 # Streams of file "a": its clusters, whether they are a run, those of file "b", and those that "a" grows by with hint 4, in this order,
-# one to three of them. In what is scattered no two clusters follow each other. An empty file becomes a run if what it takes can be one.
+# one to three of them. In what is scattered no two clusters follow each other. An empty file becomes a run if it takes one.
 STREAMS = [
     ("a scattered chain", [9, 5, 13, 4, 11], False, [7, 12, 15, 17], [14, 16, 6]),
     ("a chain that rises", [4, 5, 6, 7, 8], False, [13, 12], [9, 10, 11]),
