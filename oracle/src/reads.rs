@@ -222,7 +222,9 @@ pub fn explain(view: View, volume: &Volume, reading: &Reading) -> Option<Differe
     }
     let entry = view.entry(reading.slot)?;
     match reading.number {
-        9 => inactive(view.clusters_of(view.record_of(&entry))).then_some(Difference::InactiveBitmap),
+        9 => {
+            inactive(view.clusters_of(view.record_of(&entry))).then_some(Difference::InactiveBitmap)
+        }
         10 => {
             let names = entry.name_length.div_ceil(15);
             (entry.secondary_count > names + 1).then_some(Difference::ExtraSecondary)
