@@ -24,6 +24,7 @@ fn version(command: &str) -> String {
 fn main() {
     println!("cargo:rerun-if-changed=build.rs");
     println!("cargo:rerun-if-changed=limits.c");
+    println!("cargo:rerun-if-changed=bare_walk.h");
     let out = PathBuf::from(env::var_os("OUT_DIR").expect("set by cargo"));
     let (object, archive) = (out.join("limits.o"), out.join("liblimits.a"));
     run(Command::new("gcc")

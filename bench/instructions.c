@@ -7,6 +7,7 @@
 #include <stdlib.h>
 #include <string.h>
 
+#include "bare_walk.h"
 #include "exfat.h"
 
 enum { COUNT = 32000, SIZE = 512, FAT = 24 * SIZE, HEAP = 280 * SIZE, ROOT = 10, FIRST = 11, END = COUNT + 2 };
@@ -128,19 +129,6 @@ static void rising_chain_of(uint32_t n)
     file(FIRST, 0, (uint64_t)n * SIZE);
 }
 
-/* A bare walk of a chain to its end mark, which a read of a chain is held against. Gives the last cluster. */
-__attribute__((noinline)) uint32_t bare_walk(uint32_t first)
-{
-    uint32_t k = first, next;
-
-    for (;;) {
-        memcpy(&next, vol + FAT + 4 * (size_t)k, 4);
-        if (next == 0xFFFFFFFF)
-            return k;
-        k = next;
-    }
-}
-
 /* The number of a read that gives a part of that length: 0. */
 static uint32_t read_part(uint64_t offset, uint32_t length)
 {
@@ -205,7 +193,7 @@ int main(int argc, char **argv)
         number = read_part((uint64_t)(END - FIRST - 1) * SIZE, SIZE);
     } else if (strcmp(which, "walk") == 0) {
         file_of_all();
-        number = bare_walk(FIRST) < FIRST;
+        number = bare_walk(vol + FAT, FIRST) < FIRST;
     } else if (strcmp(which, "rising") == 0) {
         rising_chain_of(END - FIRST);
         number = read_part(0, (END - FIRST) * SIZE);

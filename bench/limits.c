@@ -11,17 +11,11 @@
 #include <time.h>
 #include <unistd.h>
 
-/* Follows a FAT from a chain's first cluster to its end mark. Answers the last cluster, so that the walk is not left out. */
+#include "bare_walk.h"
+
 uint32_t bench_walk(const uint8_t *fat, uint32_t first)
 {
-    uint32_t cluster = first;
-    for (;;) {
-        uint32_t next;
-        memcpy(&next, fat + 4 * (size_t)cluster, 4);
-        if (next == 0xFFFFFFFFu)
-            return cluster;
-        cluster = next;
-    }
+    return bare_walk(fat, first);
 }
 
 /* The bytes of a run's marks are all ones, and those of its bits in the system map all zeros: what a run is tested for. */

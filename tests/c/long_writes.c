@@ -22,6 +22,7 @@
 #include <time.h>
 #include <ucontext.h>
 
+#include "bare_walk.h"
 #include "exfat.h"
 
 enum { COUNT = 32000, SIZE = 512, FAT = 24 * SIZE, HEAP = 280 * SIZE, ROOT = 10, FIRST = 11, END = COUNT + 2 };
@@ -134,19 +135,6 @@ static uint64_t now(void)
 
     clock_gettime(CLOCK_MONOTONIC, &t);
     return (uint64_t)t.tv_sec * 1000000000u + (uint64_t)t.tv_nsec;
-}
-
-/* A bare walk of a chain to its end mark, on the same bytes. Gives the last cluster. */
-__attribute__((noinline)) static uint32_t bare_walk(uint32_t first)
-{
-    uint32_t k = first, next;
-
-    for (;;) {
-        memcpy(&next, vol + FAT + 4 * (size_t)k, 4);
-        if (next == 0xFFFFFFFF)
-            return k;
-        k = next;
-    }
 }
 
 /* A write at an offset of a file with that valid length: which bytes come from where. */
@@ -304,7 +292,7 @@ static int time_byte(void)
     for (int round = 0; round < 100 * LEAST || (round < 100 * MOST && 2 * least > 3 * walk); round++) {
         src = (uint8_t)round;
         start = now();
-        if (bare_walk(f->chain[0]) != f->chain[LONG - 1])
+        if (bare_walk(vol + FAT, f->chain[0]) != f->chain[LONG - 1])
             fail("the walk does not end at the last cluster");
         walk = lesser(walk, now() - start);
         least = lesser(least, make(f, w, &src));
