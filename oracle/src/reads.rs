@@ -215,15 +215,14 @@ pub fn explain(view: View, volume: &Volume, reading: &Reading) -> Option<Differe
         let listed = matches!(volume.health, Health::Entry { listed: true, .. });
         return listed.then_some(Difference::EntryOfOthers);
     }
-    let inactive = |clusters: Vec<u32>| clusters.iter().any(|k| in_inactive_bitmap(view, *k));
-    // the root's 9 comes before the slot is looked at
-    if reading.number == 9 && inactive(view.chain(view.g.root_cluster).0) {
-        return Some(Difference::InactiveBitmap);
-    }
     let entry = view.entry(reading.slot)?;
     match reading.number {
         9 => {
-            inactive(view.clusters_of(view.record_of(&entry))).then_some(Difference::InactiveBitmap)
+            let root = view.chain(view.g.root_cluster).0;
+            let clusters = view.clusters_of(view.record_of(&entry));
+            let mut all = root.iter().chain(&clusters);
+            let inactive = all.any(|k| in_inactive_bitmap(view, *k));
+            inactive.then_some(Difference::InactiveBitmap)
         }
         10 => {
             let names = entry.name_length.div_ceil(15);
