@@ -1,15 +1,15 @@
 -- The clusters that a length needs, and a stream's clusters as code goes along them. Assumes nothing.
 use mathlib.Core.Path.{_≡_, refl, sym, _∙_, ap, ap₂}
-use mathlib.Core.Bool.{Bool, true}
+use mathlib.Core.Bool.{true}
 use mathlib.Core.List.{List, _++_}
-use Prim.Native.Nat.{ℕ, suc, _+_, _-_, _*_, _/_, _≤_, _<_, min}
+use Prim.Native.Nat.{ℕ, _+_, _-_, _*_, _/_, _≤_, _<_, min}
 use native.Mathlib.Decide.{ℕ-discrete, decLt}
 use native.Mathlib.Nat.{mul-le-mul-right, div-lt-iff-lt-mul, div-mul-le-self}
 use native.Mathlib.Omega.{arith}
-use lib.ListN.{length, take, replicate, length-append}
+use lib.ListN.{length, getD, take, replicate, length-append}
 use lib.Seq.{take-at}
 use borrow.Author.Tests.{eq-eqb, ne-eqb, lt-ltb, le-ltb}
-use Rattle.tables.specs.Lists.{every, lastOr}
+use Rattle.tables.specs.Lists.{every}
 use Rattle.tables.specs.Count.{count}
 use Rattle.tables.proofs.CountLaws.{count-le}
 use Rattle.boot.specs.declared.layout.Layout.{Layout}
@@ -23,9 +23,9 @@ use Rattle.stream.specs.declared.allocation.Allocation.{Allocation}
 use Rattle.stream.specs.declared.bytes.Place.{Place}
 use Rattle.stream.specs.Chain.{listed}
 use Rattle.stream.specs.Stream.{clustersOf, numberOf, streamOf, clustersIn}
-use Rattle.stream.specs.Internal.{along, reached, placeAt, Known}
+use Rattle.stream.specs.Internal.{along, placeAt, Known}
 use Rattle.stream.specs.Bytes.{storeAt}
-use Rattle.stream.proofs.BytesSteps.{store-nothing, reach-last, take-along, known-at, known-first, known-same, known-later}
+use Rattle.stream.proofs.BytesSteps.{store-nothing, take-along, known-at, known-first, known-same, known-later}
 use Rattle.stream.proofs.ListingLaws.{stream-read, along-heap}
 use Rattle.stream.proofs.ChainLaws.{stream-listed}
 use Rattle.stream.proofs.Distinct.{read-length}
@@ -38,6 +38,7 @@ use Rattle.write_extend.specs.Extend.{extendIn}
 use Rattle.write_extend.proofs.EnoughLaws.{Extended, extend-done}
 use Rattle.write_alloc.proofs.AllocateLaws.{space-met, space-kept}
 use Rattle.directory.proofs.DirectoryLaws.{clusters-along}
+use Rattle.directory.proofs.CursorLaws.{along-at}
 use Rattle.file.specs.Refresh.{missing, lengthCause}
 use Rattle.file.specs.Internal.{grownPlace, zeroedPlace}
 
@@ -120,10 +121,6 @@ module _ (b : Allocation) (p : Place) (a : Allocation) where
   unfolding grownPlace
   place-same e = rw (ne-eqb (b .count) 0 e) refl
 
--- the cluster so many steps along a stream, as one of its list
-reach-of : (f : ℕ → ℕ) (run : Bool) (k m n : ℕ) → suc m ≤ n → reached f run k m ≡ lastOr 0 (take (suc m) (along f run k n))
-reach-of f run k m n h = sym (reach-last f run 0 k m) ∙ ap (lastOr 0) (sym (take-along f run (suc m) k n h))
-
 pub stream-is : (y : Layout) (d : List ℕ) (b : Allocation) → numberOf (streamOf y d b) ≡ 0 → streamOf y d b ≡ listed (clustersOf (streamOf y d b))
 unfolding streamOf
 stream-is y d b e = let p = stream-listed (y .count) (fatEntry y d) (marked y d) b e in p .1 ∙ ap listed (sym (ap clustersOf (p .1)))
@@ -174,12 +171,12 @@ module _ (y : Layout) (d m : List ℕ) (w : Fits y d) (b : Allocation) (n hint :
       elim (ℕ-discrete (b .count) 0) [
         | yes z ↦ rw (place-first b p grown z) (known-first y (out .volume) grown i)
         | no z ↦
-            let h : suc (p .steps) ≤ b .count = omega (arith, k .inside) in
+            let h : p .steps < b .count = omega (arith, k .inside) in
             rw (place-same b p grown z)
             (record {
-              reaches = reach-of (fatEntry y (out .volume)) (grown .«no_fat_chain») (grown .first) (p .steps) (b .count) h
-                  ∙ ap (λ (l : List ℕ). lastOr 0 (take (suc (p .steps)) l)) (grown-front ∙ stream-read y d b reads .goes)
-                  ∙ sym (reach-of (fatEntry y d) (b .«no_fat_chain») (b .first) (p .steps) (b .count) h) ∙ k .reaches;
+              reaches = sym (along-at (fatEntry y (out .volume)) (grown .«no_fat_chain») (grown .first) (b .count) (p .steps) h)
+                  ∙ ap (λ (l : List ℕ). getD l (p .steps) 0) (grown-front ∙ stream-read y d b reads .goes)
+                  ∙ along-at (fatEntry y d) (b .«no_fat_chain») (b .first) (b .count) (p .steps) h ∙ k .reaches;
               inside = omega (arith, k .inside, grown-count);
               before = k .before;
             })
