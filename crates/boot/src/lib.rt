@@ -1,3 +1,5 @@
 // The geometry of a volume: its limits, and the places in bytes that follow from it (from boot.rs).
+#![tactic(auto)]
+
 pub mod geometry;
 pub mod layout;

@@ -1,2 +1,4 @@
 // Which clusters are taken (from write_alloc.rs).
+#![tactic(auto)]
+
 pub mod choice;

@@ -1,5 +1,7 @@
 // The C boundary: the library's calls over numbers and slices alone (include/exfat.h). Each function takes its arguments apart,
 // makes the call and stores what it gives; every function answers the number, but for the read of a part, whose number is a call of its own.
+#![tactic(auto)]
+
 mod words;
 
 ghost use Rattle.std.specs.Prelude.{◌≡◌, length};

@@ -1,3 +1,5 @@
 // Reading a file back without copying it (02, 2027-01).
+#![tactic(auto)]
+
 pub mod part;
 pub mod read;

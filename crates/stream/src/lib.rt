@@ -1,4 +1,6 @@
 // A stream: an allocation record read as a list of clusters, and the bytes of those clusters.
+#![tactic(auto)]
+
 pub mod allocation;
 pub mod bytes;
 pub mod list;

@@ -35,13 +35,18 @@ count_out : (p : ℕ → Bool) (lo n k : ℕ) (b : Bool) → (k < lo) ⊎ (lo + 
 count_out p lo n k b (inl o) = count_cong p (upd p k b) lo n (λ j l h. upd_other p k b j (omega arith))
 count_out p lo n k b (inr o) = count_cong p (upd p k b) lo n (λ j l h. upd_other p k b j (omega arith))
 
+-- the first entry changed
+count_first : (p : ℕ → Bool) (lo n : ℕ) (b : Bool) → count (upd p lo b) lo (suc n) + one (p lo) ≡ count p lo (suc n) + one b
+unfolding count
+count_first p lo n b = rw (upd_same p lo b, count_out p (suc lo) n lo b (inl (omega arith))) (omega arith)
+
 -- one entry changed: the count changes by it
 pub count_upd : (p : ℕ → Bool) (lo n k : ℕ) (b : Bool) → lo ≤ k → k < lo + n → count (upd p k b) lo n + one (p k) ≡ count p lo n + one b
 unfolding count
 count_upd p lo zero k b l h = absurd (omega arith)
 count_upd p lo (suc n) k b l h =
     elim (ℕ_discrete k lo) [
-      | yes e ↦ rw (e, upd_same p lo b, count_out p (suc lo) n lo b (inl (omega arith))) (omega arith)
+      | yes e ↦ subst (λ x. count (upd p x b) lo (suc n) + one (p x) ≡ count p lo (suc n) + one b) (sym e) (count_first p lo n b)
       | no d ↦ rw (upd_other p k b lo (λ e. d (sym e))) (omega (arith, count_upd p (suc lo) n k b (omega arith) (omega arith)))
     ]
 
@@ -99,6 +104,7 @@ in_keep p lo (suc n) k m0 = (
     cond_case (λ l. Mem k l → (lo ≤ k) × (k < lo + suc n) × (p k ≡ true)) (p lo) (lo ∷ keep p (suc lo) n) (keep p (suc lo) n)
     (λ e m. in_first p lo n k (keep p (suc lo) n) e (λ m'. in_keep p (suc lo) n k m') m)
     (λ e m. let r = in_keep p (suc lo) n k m in (omega arith, omega arith, r.2))) m0
+in_keep p lo zero k m0 = elim m0 [ ]
 
 pub keep_in : (p : ℕ → Bool) (lo n k : ℕ) → lo ≤ k → k < lo + n → p k ≡ true → Mem k (keep p lo n)
 unfolding keep

@@ -25,6 +25,8 @@ mem_right (x ∷ xs) m = there (mem_right xs m)
 pub mem_take : {k : ℕ} (n : ℕ) (xs : List ℕ) → Mem k (take n xs) → Mem k xs
 mem_take (suc n) (x ∷ xs) (here e) = here e
 mem_take (suc n) (x ∷ xs) (there m) = there (mem_take n xs m)
+mem_take {k = k} zero xs x' = elim x' [ ]
+mem_take {k = k} (suc n) [] x3 = elim x3 [ ]
 
 -- the first n of two lists
 pub take-append : (n : ℕ) (xs ys : List ℕ) → take n (xs ++ ys) ≡ take n xs ++ take (n - length (take n xs)) ys
@@ -66,6 +68,7 @@ module _ (p : ℕ → Bool) where
   pub every-mem : (ks : List ℕ) → every p ks ≡ true → (k : ℕ) → Mem k ks → p k ≡ true
   every-mem (x ∷ xs) e k (here q) = rw q (every-head x xs e)
   every-mem (x ∷ xs) e k (there m) = every-mem xs (every-tail x xs e) k m
+  every-mem [] e k x'' = elim x'' [ ]
 
   pub mem-every : (ks : List ℕ) → ((k : ℕ) → Mem k ks → p k ≡ true) → every p ks ≡ true
   unfolding every
@@ -83,6 +86,7 @@ pub in_consec : (k n j : ℕ) → Mem j (consec k n) → (k ≤ j) × (j < k + n
 unfolding consec
 in_consec k (suc n) j (here e) = (omega arith, omega arith)
 in_consec k (suc n) j (there m) = let r = in_consec (k + 1) n j m in (omega arith, omega arith)
+in_consec k zero j x' = elim x' [ ]
 
 pub consec_in : (k n j : ℕ) → k ≤ j → j < k + n → Mem j (consec k n)
 unfolding consec

@@ -38,6 +38,7 @@ module _ {ℓ} {A : Type ℓ} where
   unfolding updAll
   all_same f (k ∷ ks) v j (here e) = rw e (upd_same (updAll f ks v) k v)
   all_same f (k ∷ ks) v j (there m) = upd-case (λ x. x ≡ v) (updAll f ks v) k v j (λ _. refl) (λ _. all_same f ks v j m)
+  all_same f [] v j x' = elim x' [ ]
 
   -- the order of keys that get one value does not matter
   upd-swap : (f : ℕ → A) (k l : ℕ) (v : A) → upd (upd f k v) l v ≡ upd (upd f l v) k v

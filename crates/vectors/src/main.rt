@@ -1,4 +1,6 @@
 // Prints vectors of the proved functions, one to a line. The file stdout beside src/ holds the lines that tests/vectors.py makes by other means.
+#![tactic(auto)]
+
 mod bits;
 mod checksums;
 mod counts;

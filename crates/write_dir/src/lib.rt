@@ -1,2 +1,4 @@
 // A set stored, and a directory that grows (from write_dir.rs).
+#![tactic(auto)]
+
 pub mod place;

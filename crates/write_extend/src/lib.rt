@@ -1,2 +1,4 @@
 // How a stream grows (from write_alloc.rs).
+#![tactic(auto)]
+
 pub mod extend;

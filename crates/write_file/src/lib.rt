@@ -1,3 +1,5 @@
 // New file and write (from write_file.rs).
+#![tactic(auto)]
+
 pub mod new_file;
 pub mod write;

@@ -1,2 +1,4 @@
 // Remove (from write_remove.rs).
+#![tactic(auto)]
+
 pub mod remove;
