@@ -38,7 +38,7 @@ def antt():
 
 
 def is_walk(path):
-    return path.endswith("/Proof.antt")
+    return path.endswith(("/Proof.antt", "/Answers.antt", "/Invariants.antt"))
 
 
 def read(path):
@@ -58,10 +58,9 @@ def declared(text):
         if line and not line[0].isspace():
             held = bool(re.match(r"(?:\w+ )*(?:record|data) ", line))
         m = HEAD.match(line)
-        if m and line[0].isspace():
-            if held:
-                inner.add(m.group(1))
-        elif m:
+        if m and line[0].isspace() and held:
+            inner.add(m.group(1))
+        elif m:  # also the definitions of a module with parameters, which stand further in
             top.add(m.group(1))
     return top, inner
 
@@ -147,6 +146,8 @@ def met(path, text, rows):
 
 def main():
     rows, inner = table()
+    if "--again" in sys.argv:  # in a tree where a run of this script stands
+        rows = {k: v for k, v in rows.items() if k not in LEMMAS}
     back = collections.defaultdict(set)
     for k, v in rows.items():
         back[v].add(k)

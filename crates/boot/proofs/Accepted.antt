@@ -65,8 +65,8 @@ module _ (g : Geometry) (len : ℕ) (m : List ℕ) (e : limits g len m ≡ true)
       let b : s && (r && t) ≡ true = unfold limits in e in
       (and_left s (r && t) b, and_left r t (and_right s (r && t) b), and_right r t (and_right s (r && t) b))
 
-  pub accepted-of : Accepted g len
-  accepted-of = record { shape = shape_of g tests.0; room = room_of g len tests.1; bitmaps = (maps_of g m tests.2).1 }
+  pub accepted_of : Accepted g len
+  accepted_of = record { shape = shape_of g tests.0; room = room_of g len tests.1; bitmaps = (maps_of g m tests.2).1 }
 
   pub map-length : length m ≡ bitmap_bytes (cluster_count g)
   map-length = (maps_of g m tests.2).0

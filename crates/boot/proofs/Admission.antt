@@ -13,7 +13,7 @@ use Rattle.boot.specs.Limits.{in_map, limits}
 use Rattle.boot.specs.Layout.{layout_of, is_bitmap_cluster}
 use Rattle.boot.specs.Causes.{first_cause, limits_cause, admit_cause}
 use Rattle.boot.specs.Internal.{Laid, Apart, no_layout, admitted}
-use Rattle.boot.proofs.Accepted.{accepted-of, map-length}
+use Rattle.boot.proofs.Accepted.{accepted_of, map-length}
 use Rattle.boot.proofs.Places.{laid_of}
 use Rattle.boot.proofs.Apart.{apart_of}
 use Rattle.boot.proofs.Mapped.{mapped}
@@ -25,23 +25,23 @@ module _ (g : Geometry) (d m : List ℕ) where
   unfolding admit_cause limits_cause first_cause
   limits-admitted e = rw e refl
 
-  pub limits-refused : limits g (length d) m ≡ false → admit_cause g d m ≡ 1
+  pub limits_refused : limits g (length d) m ≡ false → admit_cause g d m ≡ 1
   unfolding admit_cause limits_cause first_cause
-  limits-refused e = rw e refl
+  limits_refused e = rw e refl
 
   pub admitted-limits : admit_cause g d m ≡ 0 → limits g (length d) m ≡ true
   admitted-limits z = by (limits g (length d) m) refl
     where
       by : (b : Bool) → limits g (length d) m ≡ b → limits g (length d) m ≡ true
       by true e = e
-      by false e = absurd (omega (arith, limits-refused e))
+      by false e = absurd (omega (arith, limits_refused e))
 
 -- ---- the number that a call is told, and the layout that it works on
 
 module _ (g : Geometry) (len : ℕ) (m : List ℕ) where
-  pub admitted-is : limits g len m ≡ true → admitted g len m ≡ record { number = 0; layout = layout_of g len }
+  pub admitted_is : limits g len m ≡ true → admitted g len m ≡ record { number = 0; layout = layout_of g len }
   unfolding admitted
-  admitted-is e = rw e refl
+  admitted_is e = rw e refl
 
   pub admitted-not : limits g len m ≡ false → admitted g len m ≡ record { number = 1; layout = no_layout }
   unfolding admitted
@@ -61,9 +61,9 @@ pub record Admits (g : Geometry) (d m : List ℕ) (y : Layout) : Type 0 where
   pub mapped : (k : ℕ) → is_bitmap_cluster y k ≡ true → in_map m k ≡ true
 
 module _ (g : Geometry) (d m : List ℕ) where
-  pub limits-admits : limits g (length d) m ≡ true → Admits g d m (layout_of g (length d))
-  limits-admits e =
-      let p = accepted-of g (length d) m e in
+  pub limits_admits : limits g (length d) m ≡ true → Admits g d m (layout_of g (length d))
+  limits_admits e =
+      let p = accepted_of g (length d) m e in
       record {
         cause = limits-admitted g d m e;
         keeps = e;
@@ -77,15 +77,15 @@ module _ (g : Geometry) (d m : List ℕ) where
       }
 
   -- the number of an admission is the cause
-  pub admit-number : (a : Admitted) → a ≡ admitted g (length d) m → a.number ≡ admit_cause g d m
-  admit-number a q = by (limits g (length d) m) refl
+  pub admit_number : (a : Admitted) → a ≡ admitted g (length d) m → a.number ≡ admit_cause g d m
+  admit_number a q = by (limits g (length d) m) refl
     where
       by : (b : Bool) → limits g (length d) m ≡ b → a.number ≡ admit_cause g d m
-      by true e = ap (λ (x : Admitted). x.number) (q ∙ admitted-is g (length d) m e) ∙ sym (limits-admitted g d m e)
-      by false e = ap (λ (x : Admitted). x.number) (q ∙ admitted-not g (length d) m e) ∙ sym (limits-refused g d m e)
+      by true e = ap (λ (x : Admitted). x.number) (q ∙ admitted_is g (length d) m e) ∙ sym (limits-admitted g d m e)
+      by false e = ap (λ (x : Admitted). x.number) (q ∙ admitted-not g (length d) m e) ∙ sym (limits_refused g d m e)
 
   -- and where it is 0, the layout has every fact above
   pub admission : (a : Admitted) → a ≡ admitted g (length d) m → a.number ≡ 0 → Admits g d m a.layout
   admission a q z =
-      let e = admitted-limits g d m (sym (admit-number a q) ∙ z) in
-      subst (Admits g d m) (sym (ap (λ (x : Admitted). x.layout) (q ∙ admitted-is g (length d) m e))) (limits-admits e)
+      let e = admitted-limits g d m (sym (admit_number a q) ∙ z) in
+      subst (Admits g d m) (sym (ap (λ (x : Admitted). x.layout) (q ∙ admitted_is g (length d) m e))) (limits_admits e)

@@ -15,7 +15,7 @@ use Rattle.boot.specs.Geometry.{number_of_fats, active_fat, cluster_count, bitma
 use Rattle.boot.specs.Internal.{Accepted, Laid, Apart}
 use Rattle.boot.specs.Layout.{fat_start, cluster_start, bitmap_first, layout_of, cluster_at, in_heap, in_run, is_bitmap_cluster}
 use Rattle.boot.proofs.Clusters.{mul-step}
-use Rattle.boot.proofs.Places.{first_zero, first_suc, first-low, fat-heap, fat-fat, bytes_le}
+use Rattle.boot.proofs.Places.{first_zero, first_suc, first_low, fat_heap, fat_fat, bytes_le}
 
 -- ---- a geometry that keeps the limits has such a layout
 
@@ -24,15 +24,15 @@ unfolding cluster_start cluster_at layout_of
 start_at g len k = omega arith
 
 module _ (g : Geometry) (len : ℕ) (p : Accepted g len) where
-  active-is : (i n : ℕ) → active_fat g ≡ i → number_of_fats g ≡ n → i < n → n ≤ 2
+  active_is : (i n : ℕ) → active_fat g ≡ i → number_of_fats g ≡ n → i < n → n ≤ 2
       → ((fat_start g i ≡ fat_start g 0) × (cluster_start g (bitmap_first g i) ≡ cluster_start g (bitmap0 g)))
       ⊎ ((eqb n 2 ≡ true) × (fat_start g i ≡ fat_start g (n - 1)) × (cluster_start g (bitmap_first g i) ≡ cluster_start g (bitmap_first g (n - 1))))
-  active-is zero n a b h l = inl (refl, ap (cluster_start g) (first_zero g))
-  active-is (suc zero) (suc (suc zero)) a b h l = inr (refl, refl, refl)
-  active-is (suc zero) zero a b h l = absurd (omega arith)
-  active-is (suc zero) (suc zero) a b h l = absurd (omega arith)
-  active-is (suc zero) (suc (suc (suc n))) a b h l = absurd (omega arith)
-  active-is (suc (suc i)) n a b h l = absurd (omega arith)
+  active_is zero n a b h l = inl (refl, ap (cluster_start g) (first_zero g))
+  active_is (suc zero) (suc (suc zero)) a b h l = inr (refl, refl, refl)
+  active_is (suc zero) zero a b h l = absurd (omega arith)
+  active_is (suc zero) (suc zero) a b h l = absurd (omega arith)
+  active_is (suc zero) (suc (suc (suc n))) a b h l = absurd (omega arith)
+  active_is (suc (suc i)) n a b h l = absurd (omega arith)
 
   -- with two FATs the last one is the second
   last : eqb (number_of_fats g) 2 ≡ true → number_of_fats g - 1 ≡ 1
@@ -43,14 +43,14 @@ module _ (g : Geometry) (len : ℕ) (p : Accepted g len) where
   apart_of =
       let s = p.shape in
       record {
-        active = active-is (active_fat g) (number_of_fats g) refl refl s.active_in s.fats_high;
-        fats = λ t. subst (λ (x : ℕ). fat_start g 0 + 4 * (cluster_count g + 2) ≤ fat_start g x) (sym (last t)) (fat-fat g len p);
-        fat0_heap = fat-heap g len p 0 (omega arith);
-        fat1_heap = fat-heap g len p (number_of_fats g - 1) (omega arith);
+        active = active_is (active_fat g) (number_of_fats g) refl refl s.active_in s.fats_high;
+        fats = λ t. subst (λ (x : ℕ). fat_start g 0 + 4 * (cluster_count g + 2) ≤ fat_start g x) (sym (last t)) (fat_fat g len p);
+        fat0_heap = fat_heap g len p 0 (omega arith);
+        fat1_heap = fat_heap g len p (number_of_fats g - 1) (omega arith);
         at0 = start_at g len (bitmap0 g);
         at1 = start_at g len (bitmap_first g (number_of_fats g - 1));
         low0 = p.bitmaps.low0;
-        low1 = first-low g len p (number_of_fats g - 1) (omega arith);
+        low1 = first_low g len p (number_of_fats g - 1) (omega arith);
         holds = bytes_le g;
         bitmaps = λ t. subst (λ (x : ℕ). (bitmap0 g + bitmap_clusters g ≤ x) ⊎ (x + bitmap_clusters g ≤ bitmap0 g))
             (sym (ap (bitmap_first g) (last t) ∙ first_suc g 0)) (p.bitmaps.share_none (eqb-true (number_of_fats g) 2 t));
@@ -116,67 +116,67 @@ or_right false b e = e
 -- ---- no byte is in two places
 
 module _ (y : Layout) (l : Laid y) (a : Apart y) where
-  pub cluster-apart : (k j : ℕ) → 2 ≤ k → k < j → cluster_at y k + y.size ≤ cluster_at y j
+  pub cluster_apart : (k j : ℕ) → 2 ≤ k → k < j → cluster_at y k + y.size ≤ cluster_at y j
   unfolding cluster_at
-  cluster-apart k j h b = omega (arith, mul-step (k - 2) (j - 2) y.size (omega arith))
+  cluster_apart k j h b = omega (arith, mul-step (k - 2) (j - 2) y.size (omega arith))
 
-  pub cluster-start : (k : ℕ) → y.heap ≤ cluster_at y k
+  pub cluster_start_lem : (k : ℕ) → y.heap ≤ cluster_at y k
   unfolding cluster_at
-  cluster-start k = omega arith
+  cluster_start_lem k = omega arith
 
-  pub cluster-end : (k : ℕ) → in_heap y.count k ≡ true → cluster_at y k + y.size ≤ y.len
+  pub cluster_end : (k : ℕ) → in_heap y.count k ≡ true → cluster_at y k + y.size ≤ y.len
   unfolding cluster_at
-  cluster-end k h =
+  cluster_end k h =
       let i = in_heap_lem y.count k h in
       omega (arith, mul-step (k - 2) y.count y.size (omega arith))
 
   -- a cluster after a run of n clusters
-  pub run-before : (first n k : ℕ) → 2 ≤ first → first + n ≤ k → cluster_at y first + n * y.size ≤ cluster_at y k
+  pub run_before : (first n k : ℕ) → 2 ≤ first → first + n ≤ k → cluster_at y first + n * y.size ≤ cluster_at y k
   unfolding cluster_at
-  run-before first n k h b =
+  run_before first n k h b =
       omega (arith, add-mul (first - 2) n y.size, mul-le-mul_right {m = first - 2 + n} {n = k - 2} y.size (omega arith))
 
   -- bytes of two clusters
-  pub cluster-cluster : (k j r s : ℕ) → in_heap y.count k ≡ true → in_heap y.count j ≡ true → k ≢ j → r < y.size → s < y.size
+  pub cluster_cluster : (k j r s : ℕ) → in_heap y.count k ≡ true → in_heap y.count j ≡ true → k ≢ j → r < y.size → s < y.size
       → cluster_at y k + r ≢ cluster_at y j + s
-  cluster-cluster k j r s h i d p q =
+  cluster_cluster k j r s h i d p q =
       let u = in_heap_lem y.count k h in
       let v = in_heap_lem y.count j i in
       elim (dec_lt k j) [
-        | yes b ↦ omega (arith, cluster-apart k j u.0 b)
-        | no b ↦ omega (arith, cluster-apart j k v.0 (omega arith))
+        | yes b ↦ omega (arith, cluster_apart k j u.0 b)
+        | no b ↦ omega (arith, cluster_apart j k v.0 (omega arith))
       ]
 
   -- a byte of a bitmap from cluster first on, and one of a cluster outside it
-  bitmap-other : (first k i r : ℕ) → 2 ≤ first → in_heap y.count k ≡ true → in_run first y.span k ≡ false
+  bitmap_other : (first k i r : ℕ) → 2 ≤ first → in_heap y.count k ≡ true → in_run first y.span k ≡ false
       → i < bitmap_bytes y.count → r < y.size → cluster_at y first + i ≢ cluster_at y k + r
-  bitmap-other first k i r h u o b q =
+  bitmap_other first k i r h u o b q =
       let v = in_heap_lem y.count k u in
       let w = a.holds in
-      ⊎_elim (λ c. omega (arith, cluster-apart k first v.0 c)) (λ c. omega (arith, run-before first y.span k h c))
+      ⊎_elim (λ c. omega (arith, cluster_apart k first v.0 c)) (λ c. omega (arith, run_before first y.span k h c))
       (run_out first y.span k o)
 
   -- a byte of either bitmap, and one of a cluster that is no bitmap's
-  pub bitmap0-cluster : (k i r : ℕ) → in_heap y.count k ≡ true → is_bitmap_cluster y k ≡ false → i < bitmap_bytes y.count → r < y.size
+  pub bitmap0_cluster : (k i r : ℕ) → in_heap y.count k ≡ true → is_bitmap_cluster y k ≡ false → i < bitmap_bytes y.count → r < y.size
       → y.bitmap0 + i ≢ cluster_at y k + r
   unfolding is_bitmap_cluster
-  bitmap0-cluster k i r h o b q =
-      omega (arith, a.at0, bitmap-other y.first0 k i r a.low0 h (or_left (in_run y.first0 y.span k) (in_run y.first1 y.span k) o) b q)
+  bitmap0_cluster k i r h o b q =
+      omega (arith, a.at0, bitmap_other y.first0 k i r a.low0 h (or_left (in_run y.first0 y.span k) (in_run y.first1 y.span k) o) b q)
 
-  pub bitmap1-cluster : (k i r : ℕ) → in_heap y.count k ≡ true → is_bitmap_cluster y k ≡ false → i < bitmap_bytes y.count → r < y.size
+  pub bitmap1_cluster : (k i r : ℕ) → in_heap y.count k ≡ true → is_bitmap_cluster y k ≡ false → i < bitmap_bytes y.count → r < y.size
       → y.bitmap1 + i ≢ cluster_at y k + r
   unfolding is_bitmap_cluster
-  bitmap1-cluster k i r h o b q =
-      omega (arith, a.at1, bitmap-other y.first1 k i r a.low1 h (or_right (in_run y.first0 y.span k) (in_run y.first1 y.span k) o) b q)
+  bitmap1_cluster k i r h o b q =
+      omega (arith, a.at1, bitmap_other y.first1 k i r a.low1 h (or_right (in_run y.first0 y.span k) (in_run y.first1 y.span k) o) b q)
 
   -- a byte of each of two bitmaps
-  pub bitmap-bitmap : (i j : ℕ) → y.two ≡ true → i < bitmap_bytes y.count → j < bitmap_bytes y.count → y.bitmap0 + i ≢ y.bitmap1 + j
-  bitmap-bitmap i j t b c =
+  pub bitmap_bitmap : (i j : ℕ) → y.two ≡ true → i < bitmap_bytes y.count → j < bitmap_bytes y.count → y.bitmap0 + i ≢ y.bitmap1 + j
+  bitmap_bitmap i j t b c =
       let w = a.holds in
-      ⊎_elim (λ u. omega (arith, a.at0, a.at1, run-before y.first0 y.span y.first1 a.low0 u))
-      (λ u. omega (arith, a.at0, a.at1, run-before y.first1 y.span y.first0 a.low1 u))
+      ⊎_elim (λ u. omega (arith, a.at0, a.at1, run_before y.first0 y.span y.first1 a.low0 u))
+      (λ u. omega (arith, a.at0, a.at1, run_before y.first1 y.span y.first0 a.low1 u))
       (a.bitmaps t)
 
   -- every bitmap byte lies past every FAT entry
-  pub fat-bitmap : (i : ℕ) → (y.heap ≤ y.bitmap0 + i) × (y.heap ≤ y.bitmap1 + i)
-  fat-bitmap i = (omega (arith, a.at0, cluster-start y.first0), omega (arith, a.at1, cluster-start y.first1))
+  pub fat_bitmap : (i : ℕ) → (y.heap ≤ y.bitmap0 + i) × (y.heap ≤ y.bitmap1 + i)
+  fat_bitmap i = (omega (arith, a.at0, cluster_start_lem y.first0), omega (arith, a.at1, cluster_start_lem y.first1))

@@ -13,7 +13,7 @@ use Rattle.boot.specs.Geometry.{number_of_fats, cluster_count, bitmap0, bitmap1,
 use Rattle.boot.specs.Limits.{all, shape_tests, room_tests, map_tests, in_map, all_in_map, run_in_map, apart, second_bitmap, limits}
 use Rattle.boot.specs.Layout.{layout_of, bitmap_first, in_run, is_bitmap_cluster}
 use Rattle.boot.proofs.Tests.{each_of}
-use Rattle.boot.proofs.Accepted.{accepted-of}
+use Rattle.boot.proofs.Accepted.{accepted_of}
 use Rattle.boot.proofs.Places.{first_zero, first_suc}
 use Rattle.boot.proofs.Apart.{bitmap_second}
 
@@ -57,6 +57,6 @@ module _ (g : Geometry) (len : ℕ) (m : List ℕ) (l : limits g len m ≡ true)
       by : (b : Bool) → in_run (bitmap0 g) (bitmap_clusters g) k ≡ b → in_map m k ≡ true
       by true q = run_at m (cluster_count g) (bitmap0 g) (bitmap_clusters g) k maps.0 q
       by false q =
-          let s = (accepted-of g len m l).shape in
+          let s = (accepted_of g len m l).shape in
           run_at m (cluster_count g) (bitmap_first g (number_of_fats g - 1)) (bitmap_clusters g) k
           (second_run (number_of_fats g) refl s.fats_low s.fats_high) (sym (bitmap_second (layout_of g len) k q) ∙ e)

@@ -49,18 +49,18 @@ first_suc g i = rw (ne_eqb (suc i) 0 (λ e. omega arith)) refl
 
 module _ (g : Geometry) (len : ℕ) (p : Accepted g len) where
   -- the first cluster of each bitmap
-  pub first-low : (i : ℕ) → i < number_of_fats g → 2 ≤ bitmap_first g i
-  first-low zero h = rw (first_zero g) p.bitmaps.low0
-  first-low (suc i) h = let s = p.shape in rw (first_suc g i) (p.bitmaps.low1 (omega arith))
+  pub first_low : (i : ℕ) → i < number_of_fats g → 2 ≤ bitmap_first g i
+  first_low zero h = rw (first_zero g) p.bitmaps.low0
+  first_low (suc i) h = let s = p.shape in rw (first_suc g i) (p.bitmaps.low1 (omega arith))
 
-  pub first-high : (i : ℕ) → i < number_of_fats g → bitmap_first g i + bitmap_clusters g ≤ cluster_count g + 2
-  first-high zero h = rw (first_zero g) p.bitmaps.high0
-  first-high (suc i) h = let s = p.shape in rw (first_suc g i) (p.bitmaps.high1 (omega arith))
+  pub first_high : (i : ℕ) → i < number_of_fats g → bitmap_first g i + bitmap_clusters g ≤ cluster_count g + 2
+  first_high zero h = rw (first_zero g) p.bitmaps.high0
+  first_high (suc i) h = let s = p.shape in rw (first_suc g i) (p.bitmaps.high1 (omega arith))
 
   -- a FAT's entries end where the heap begins, or before
-  pub fat-heap : (i : ℕ) → i < number_of_fats g → fat_start g i + 4 * (cluster_count g + 2) ≤ cluster_start g 2
+  pub fat_heap : (i : ℕ) → i < number_of_fats g → fat_start g i + 4 * (cluster_count g + 2) ≤ cluster_start g 2
   unfolding fat_start cluster_start
-  fat-heap i h =
+  fat_heap i h =
       let o = fat_offset g + i * fat_length g in
       let a : (i + 1) * fat_length g ≤ number_of_fats g * fat_length g = mul-le-mul_right (fat_length g) (omega arith) in
       let b = add-mul i 1 (fat_length g) in
@@ -70,9 +70,9 @@ module _ (g : Geometry) (len : ℕ) (p : Accepted g len) where
       omega (arith, add-mul o (fat_length g) (sector_size g))
 
   -- and the first FAT's before the second begins
-  pub fat-fat : fat_start g 0 + 4 * (cluster_count g + 2) ≤ fat_start g 1
+  pub fat_fat : fat_start g 0 + 4 * (cluster_count g + 2) ≤ fat_start g 1
   unfolding fat_start
-  fat-fat =
+  fat_fat =
       let r = p.room in
       let a = add-mul (fat_offset g) (1 * fat_length g) (sector_size g) in
       let z : (fat_offset g + 0 * fat_length g) * sector_size g ≡ fat_offset g * sector_size g = ap (λ (x : ℕ). x * sector_size g) (omega arith) in
@@ -88,7 +88,7 @@ module _ (g : Geometry) (len : ℕ) (p : Accepted g len) where
       omega (arith, add-mul (k - 2) n (cluster_size g))
 
   bitmap_in : (i : ℕ) → i < number_of_fats g → cluster_start g (bitmap_first g i) + bitmap_bytes (cluster_count g) ≤ len
-  bitmap_in i h = omega (arith, bytes_le g, run_in (bitmap_first g i) (bitmap_clusters g) (first-low i h) (first-high i h))
+  bitmap_in i h = omega (arith, bytes_le g, run_in (bitmap_first g i) (bitmap_clusters g) (first_low i h) (first_high i h))
 
   heap_len : cluster_start g 2 + cluster_count g * cluster_size g ≤ len
   heap_len = run_in 2 (cluster_count g) (omega arith) (omega arith)
@@ -99,15 +99,15 @@ module _ (g : Geometry) (len : ℕ) (p : Accepted g len) where
       let s = p.shape in
       let r = p.room in
       record {
-        fat_in = omega (arith, heap_len, fat-heap (active_fat g) (omega arith));
-        fat0_in = omega (arith, heap_len, fat-heap 0 (omega arith));
-        fat1_in = omega (arith, heap_len, fat-heap (number_of_fats g - 1) (omega arith));
+        fat_in = omega (arith, heap_len, fat_heap (active_fat g) (omega arith));
+        fat0_in = omega (arith, heap_len, fat_heap 0 (omega arith));
+        fat1_in = omega (arith, heap_len, fat_heap (number_of_fats g - 1) (omega arith));
         bitmap_in = bitmap_in (active_fat g) (omega arith);
         bitmap0_in = rw (first_zero g) at (bitmap_in 0 (omega arith));
         bitmap1_in = bitmap_in (number_of_fats g - 1) (omega arith);
         heap_in = heap_len;
         run0_in = p.bitmaps.high0;
-        run1_in = first-high (number_of_fats g - 1) (omega arith);
+        run1_in = first_high (number_of_fats g - 1) (omega arith);
         size_low = size_low g s.sector_low;
         size_high = size_high g (omega arith);
         whole = size_whole g s.sector_low;

@@ -37,13 +37,13 @@ module _ (u : ℕ → Bool) where
   -- ---- a run of n that lies in the heap
 
   module _ (C near n : ℕ) where
-    pub fits-outside : in_heap C near ≡ false → run_fits u C near n ≡ false
+    pub fits_outside : in_heap C near ≡ false → run_fits u C near n ≡ false
     unfolding run_fits
-    fits-outside e = rw e refl
+    fits_outside e = rw e refl
 
-    pub fits-past : in_heap C near ≡ true → C + 2 < near + n → run_fits u C near n ≡ false
+    pub fits_past : in_heap C near ≡ true → C + 2 < near + n → run_fits u C near n ≡ false
     unfolding run_fits
-    fits-past e h = rw (e, lt-leb (near + n) (C + 2) h) refl
+    fits_past e h = rw (e, lt-leb (near + n) (C + 2) h) refl
 
     pub fits_in : in_heap C near ≡ true → near + n ≤ C + 2 → run_fits u C near n ≡ all_from u near n
     unfolding run_fits
@@ -62,17 +62,17 @@ module _ (u : ℕ → Bool) where
         ∙ ap (λ (x : ℕ). count u 2 (start - 2) + count u x (C + 2 - start)) f in
         rw length-append (omega (arith, s, length-keep u start (C + 2 - start), length-keep u 2 (start - 2)))
 
-    pub in-around : (k : ℕ) → Mem k (around u C start) → (in_heap C k ≡ true) × (u k ≡ true)
+    pub in_around : (k : ℕ) → Mem k (around u C start) → (in_heap C k ≡ true) × (u k ≡ true)
     unfolding around
-    in-around k m =
+    in_around k m =
         ⊎_elim
         (λ p. let r = in_keep u start (C + 2 - start) k p in (heap_in C k (omega arith) (omega arith), r.2))
         (λ p. let r = in_keep u 2 (start - 2) k p in (heap_in C k (omega arith) (omega arith), r.2))
         (mem_append (keep u start (C + 2 - start)) m)
 
-    pub around-distinct : Distinct (around u C start)
+    pub around_distinct : Distinct (around u C start)
     unfolding around
-    around-distinct =
+    around_distinct =
         distinct_append (keep u start (C + 2 - start)) (keep u 2 (start - 2)) (keep_distinct u start (C + 2 - start)) (keep_distinct u 2 (start - 2))
         (λ k p q. let a = in_keep u start (C + 2 - start) k p in let b = in_keep u 2 (start - 2) k q in omega arith)
 
@@ -80,14 +80,14 @@ module _ (u : ℕ → Bool) where
 
   module _ (C n start : ℕ) where
     -- by what the searches and the count say
-    pub choose-case {ℓ} : (P : Choice → Type ℓ)
+    pub choose_case {ℓ} : (P : Choice → Type ℓ)
         → ((k : ℕ) → run_from u (C + 2) n start ≡ At k → P (Run k))
         → ((k : ℕ) → run_from u (C + 2) n start ≡ Nothing → run_from u (C + 2) n 2 ≡ At k → P (Run k))
         → (run_from u (C + 2) n start ≡ Nothing → run_from u (C + 2) n 2 ≡ Nothing → count u 2 C < n → P TooFew)
         → (run_from u (C + 2) n start ≡ Nothing → run_from u (C + 2) n 2 ≡ Nothing → n ≤ count u 2 C → P Scattered)
         → P (choose u C n start)
     unfolding choose
-    choose-case P a b f s = first (run_from u (C + 2) n start) refl
+    choose_case P a b f s = first (run_from u (C + 2) n start) refl
       where
         last : Choice
         last = cond (ltb (count u 2 C) n) TooFew Scattered
@@ -106,7 +106,7 @@ module _ (u : ℕ → Bool) where
     pub choose-run : (k : ℕ) → choose u C n start ≡ Run k
         → Lowest u (C + 2) n start k ⊎ ((run_from u (C + 2) n start ≡ Nothing) × Lowest u (C + 2) n 2 k)
     choose-run k =
-        choose-case (λ c. c ≡ Run k → Lowest u (C + 2) n start k ⊎ ((run_from u (C + 2) n start ≡ Nothing) × Lowest u (C + 2) n 2 k))
+        choose_case (λ c. c ≡ Run k → Lowest u (C + 2) n start k ⊎ ((run_from u (C + 2) n start ≡ Nothing) × Lowest u (C + 2) n 2 k))
         (λ j e q. let r : j ≡ k = cc in inl (subst (Lowest u (C + 2) n start) r (run_at u (C + 2) n start j e)))
         (λ j e g q. let r : j ≡ k = cc in inr (e, subst (Lowest u (C + 2) n 2) r (run_at u (C + 2) n 2 j g)))
         (λ e g h q. clash (cc)) (λ e g h q. clash (cc))
@@ -131,28 +131,28 @@ module _ (u : ℕ → Bool) where
         run-count start (in_heap_lem C start i).0 (leb-true (start + n) (C + 2) (and_left (leb (start + n) (C + 2)) (all_from u start n) r))
         (all_whole u start n (and_right (leb (start + n) (C + 2)) (all_from u start n) r))
 
-    pub few-count : choose u C n start ≡ TooFew → count u 2 C < n
-    few-count =
-        choose-case (λ c. c ≡ TooFew → count u 2 C < n)
+    pub few_count : choose u C n start ≡ TooFew → count u 2 C < n
+    few_count =
+        choose_case (λ c. c ≡ TooFew → count u 2 C < n)
         (λ k e q. clash (cc)) (λ k e g q. clash (cc)) (λ e g h q. h) (λ e g h q. clash (cc))
 
     module _ (low : 2 ≤ start) where
       -- where a run lies
-      pub choose-inside : (k : ℕ) → choose u C n start ≡ Run k → (2 ≤ k) × (k + n ≤ C + 2) × Whole u k n
-      choose-inside k e =
+      pub choose_inside : (k : ℕ) → choose u C n start ≡ Run k → (2 ≤ k) × (k + n ≤ C + 2) × Whole u k n
+      choose_inside k e =
           ⊎_elim (λ w. (omega (arith, w.after), w.inside, w.whole)) (λ p. let w = p.1 in (w.after, w.inside, w.whole)) (choose-run k e)
 
       -- too few only where they are too few
-      pub count-few : count u 2 C < n → choose u C n start ≡ TooFew
-      count-few h =
-          choose-case (λ c. c ≡ TooFew)
+      pub count_few : count u 2 C < n → choose u C n start ≡ TooFew
+      count_few h =
+          choose_case (λ c. c ≡ TooFew)
           (λ k e. let w = run_at u (C + 2) n start k e in absurd (omega (arith, run-count k (omega (arith, w.after)) w.inside w.whole)))
           (λ k e g. let w = run_at u (C + 2) n 2 k g in absurd (omega (arith, run-count k w.after w.inside w.whole)))
           (λ e g b. refl)
           (λ e g b. absurd (omega arith))
 
-      pub enough-count : choose u C n start ≢ TooFew → n ≤ count u 2 C
-      enough-count d = elim (dec_lt (count u 2 C) n) [ yes w ↦ absurd (d (count-few w)) | no w ↦ omega arith ]
+      pub enough_count : choose u C n start ≢ TooFew → n ≤ count u 2 C
+      enough_count d = elim (dec_lt (count u 2 C) n) [ yes w ↦ absurd (d (count_few w)) | no w ↦ omega arith ]
 
       -- ---- the clusters that are taken
 
@@ -160,19 +160,19 @@ module _ (u : ℕ → Bool) where
       pub chosen-run : (k : ℕ) → choose u C n start ≡ Run k → chosen u C n start ≡ consec k n
       unfolding chosen around
       chosen-run k e =
-          let i = choose-inside k e in
+          let i = choose_inside k e in
           rw e (take_whole u k n (C + 2 - k) (keep u 2 (k - 2)) (omega arith) i.2)
 
-      pub chosen-scattered : choose u C n start ≡ Scattered → chosen u C n start ≡ take n (around u C start)
+      pub chosen_scattered : choose u C n start ≡ Scattered → chosen u C n start ≡ take n (around u C start)
       unfolding chosen
-      chosen-scattered e = rw e refl
+      chosen_scattered e = rw e refl
 
       module _ (high : start ≤ C + 2) where
-        begin-in : (2 ≤ begin_of (choose u C n start) start) × (begin_of (choose u C n start) start ≤ C + 2)
-        begin-in = at (choose u C n start) refl
+        begin_in : (2 ≤ begin_of (choose u C n start) start) × (begin_of (choose u C n start) start ≤ C + 2)
+        begin_in = at (choose u C n start) refl
           where
             at : (c : Choice) → choose u C n start ≡ c → (2 ≤ begin_of c start) × (begin_of c start ≤ C + 2)
-            at (Run k) e = let i = choose-inside k e in (i.0, omega arith)
+            at (Run k) e = let i = choose_inside k e in (i.0, omega arith)
             at Scattered e = (low, high)
             at TooFew e = (low, high)
 
@@ -180,19 +180,19 @@ module _ (u : ℕ → Bool) where
         unfolding chosen
         length-chosen d =
             let b = begin_of (choose u C n start) start in
-            length-take-le n (around u C b) (omega (arith, enough-count d, length-around C b begin-in.0 begin-in.1))
+            length-take-le n (around u C b) (omega (arith, enough_count d, length-around C b begin_in.0 begin_in.1))
 
-        pub in-chosen : (k : ℕ) → Mem k (chosen u C n start) → (in_heap C k ≡ true) × (u k ≡ true)
+        pub in_chosen : (k : ℕ) → Mem k (chosen u C n start) → (in_heap C k ≡ true) × (u k ≡ true)
         unfolding chosen
-        in-chosen k m =
+        in_chosen k m =
             let b = begin_of (choose u C n start) start in
-            in-around C b begin-in.0 begin-in.1 k (mem_take n (around u C b) m)
+            in_around C b begin_in.0 begin_in.1 k (mem_take n (around u C b) m)
 
-        pub chosen-distinct : Distinct (chosen u C n start)
+        pub chosen_distinct : Distinct (chosen u C n start)
         unfolding chosen
-        chosen-distinct =
+        chosen_distinct =
             let b = begin_of (choose u C n start) start in
-            distinct_take n (around u C b) (around-distinct C b begin-in.0 begin-in.1)
+            distinct_take n (around u C b) (around_distinct C b begin_in.0 begin_in.1)
 
   -- ---- the choice, as the code meets it
 
@@ -201,25 +201,25 @@ module _ (u : ℕ → Bool) where
     unfolding choose
     choose-after k e = rw e refl
 
-    pub choose-lowest : (k : ℕ) → run_from u (C + 2) n start ≡ Nothing → run_from u (C + 2) n 2 ≡ At k → choose u C n start ≡ Run k
+    pub choose_lowest : (k : ℕ) → run_from u (C + 2) n start ≡ Nothing → run_from u (C + 2) n 2 ≡ At k → choose u C n start ≡ Run k
     unfolding choose
-    choose-lowest k e f = rw (e, f) refl
+    choose_lowest k e f = rw (e, f) refl
 
-    pub choose-few : run_from u (C + 2) n start ≡ Nothing → run_from u (C + 2) n 2 ≡ Nothing → count u 2 C < n → choose u C n start ≡ TooFew
+    pub choose_few : run_from u (C + 2) n start ≡ Nothing → run_from u (C + 2) n 2 ≡ Nothing → count u 2 C < n → choose u C n start ≡ TooFew
     unfolding choose
-    choose-few e f h = rw (e, f, lt-ltb (count u 2 C) n h) refl
+    choose_few e f h = rw (e, f, lt-ltb (count u 2 C) n h) refl
 
-    pub choose-scattered : run_from u (C + 2) n start ≡ Nothing → run_from u (C + 2) n 2 ≡ Nothing → n ≤ count u 2 C → choose u C n start ≡ Scattered
+    pub choose_scattered : run_from u (C + 2) n start ≡ Nothing → run_from u (C + 2) n 2 ≡ Nothing → n ≤ count u 2 C → choose u C n start ≡ Scattered
     unfolding choose
-    choose-scattered e f h = rw (e, f, le-ltb (count u 2 C) n h) refl
+    choose_scattered e f h = rw (e, f, le-ltb (count u 2 C) n h) refl
 
 -- ---- only the heap matters
 
 module _ (u u' : ℕ → Bool) where
   module _ (C n start : ℕ) (low : 2 ≤ start) (same : (k : ℕ) → in_heap C k ≡ true → u' k ≡ u k) where
-    pub around-cong : (b : ℕ) → 2 ≤ b → b ≤ C + 2 → around u' C b ≡ around u C b
+    pub around_cong : (b : ℕ) → 2 ≤ b → b ≤ C + 2 → around u' C b ≡ around u C b
     unfolding around
-    around-cong b l h =
+    around_cong b l h =
         rw (
           keep_cong u u' b (C + 2 - b) (λ k a c. same k (heap_in C k (omega arith) (omega arith))),
           keep_cong u u' 2 (b - 2) (λ k a c. same k (heap_in C k (omega arith) (omega arith))),

@@ -9,20 +9,20 @@ use Rattle.tables.specs.Count.{count, keep}
 use Rattle.tables.proofs.Cases.{not_so}
 use Rattle.tables.proofs.CountLaws.{count_none, count-beyond}
 use Rattle.search.specs.Search.{fewest}
-use Rattle.search.proofs.Lowest.{fewest-bounds, fewest-before, fewest-at}
+use Rattle.search.proofs.Lowest.{fewest_bounds, fewest_before, fewest_at}
 use Rattle.choice.specs.Choice.{around}
 use Rattle.choice.specs.Internal.{first_usable}
 
 module _ (u : ℕ → Bool) where
   -- the first that passes
-  keep-head : (s n k : ℕ) → s ≤ k → k < s + n → u k ≡ true → ((b : ℕ) → s ≤ b → b < k → u b ≡ true → ⊥)
+  keep_head : (s n k : ℕ) → s ≤ k → k < s + n → u k ≡ true → ((b : ℕ) → s ≤ b → b < k → u b ≡ true → ⊥)
       → (l : List ℕ) × (keep u s n ≡ k ∷ l)
   unfolding keep
-  keep-head s zero k l h e o = absurd (omega arith)
-  keep-head s (suc n) k l h e o =
+  keep_head s zero k l h e o = absurd (omega arith)
+  keep_head s (suc n) k l h e o =
       elim (ℕ_discrete s k) [
         | yes q ↦ (keep u (suc s) n, (let t : u s ≡ true = rw q e in rw (t, q) refl))
-        | no q ↦ (let r = keep-head (suc s) n k (omega arith) (omega arith) e (λ b p. o b (omega arith)) in
+        | no q ↦ (let r = keep_head (suc s) n k (omega arith) (omega arith) e (λ b p. o b (omega arith)) in
             (r.0, (let f : u s ≡ false = not_so (u s) (o s (omega arith) (omega arith)) in rw f r.1)))
       ]
 
@@ -34,24 +34,24 @@ module _ (u : ℕ → Bool) where
       rw f (keep-nil (suc s) n (λ b p q. o b (omega arith) (omega arith)))
 
   none_before : (s n b : ℕ) → s ≤ b → b < fewest u n s → u b ≡ true → ⊥
-  none_before s n b l h t = false≢true (sym (fewest-before u n s b l h) ∙ t)
+  none_before s n b l h t = false≢true (sym (fewest_before u n s b l h) ∙ t)
 
   head : (s n k : ℕ) → k ≡ fewest u n s → k < s + n → (l : List ℕ) × (keep u s n ≡ k ∷ l)
   head s n k e h =
-      let b = fewest-bounds u n s in
-      keep-head s n k (omega arith) h (ap u e ∙ fewest-at u n s (omega arith)) (λ b p q. none_before s n b p (omega arith))
+      let b = fewest_bounds u n s in
+      keep_head s n k (omega arith) h (ap u e ∙ fewest_at u n s (omega arith)) (λ b p q. none_before s n b p (omega arith))
 
   module _ (C start : ℕ) (low : 2 ≤ start) (high : start < C + 2) where
     -- one from start on
-    pub first-after : (k : ℕ) → k ≡ fewest u (C + 2 - start) start → k < C + 2 → first_usable u C start ≡ k
+    pub first_after : (k : ℕ) → k ≡ fewest u (C + 2 - start) start → k < C + 2 → first_usable u C start ≡ k
     unfolding first_usable around
-    first-after k e h = let r = head start (C + 2 - start) k e (omega arith) in rw r.1 refl
+    first_after k e h = let r = head start (C + 2 - start) k e (omega arith) in rw r.1 refl
 
     -- none there, one before it
-    pub first-before : (end k : ℕ) → end ≡ fewest u (C + 2 - start) start → C + 2 ≤ end → k ≡ fewest u (start - 2) 2 → 1 ≤ count u 2 C
+    pub first_before : (end k : ℕ) → end ≡ fewest u (C + 2 - start) start → C + 2 ≤ end → k ≡ fewest u (start - 2) 2 → 1 ≤ count u 2 C
         → first_usable u C start ≡ k
     unfolding first_usable around
-    first-before end k e f g c =
+    first_before end k e f g c =
         let z : keep u start (C + 2 - start) ≡ [] = keep-nil start (C + 2 - start) (λ b l h. none_before start (C + 2 - start) b l (omega arith)) in
         let r = head 2 (start - 2) k g (omega (arith, below)) in
         rw (z, r.1) refl

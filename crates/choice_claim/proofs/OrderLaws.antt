@@ -69,8 +69,8 @@ picked_order u C n start ks low p = record {
   lower_rises = rises_take (n - length (take n A)) 2 B (keep_rises u 2 (start - 2));
   lower_below = λ k i. let r = in_keep u 2 (start - 2) k (mem_take (n - length (take n A)) B i) in omega arith;
   upper_whole = λ k h e o l. (
-    none_left k (in-upper k h e l) (λ i. o (subst (Mem k) (sym is) (mem_left (take (n - length (take n A)) B) i))),
-    behind n start A (keep_rises u start (C + 2 - start)) k (in-upper k h e l)
+    none_left k (in_upper k h e l) (λ i. o (subst (Mem k) (sym is) (mem_left (take (n - length (take n A)) B) i))),
+    behind n start A (keep_rises u start (C + 2 - start)) k (in_upper k h e l)
         (λ i. o (subst (Mem k) (sym is) (mem_left (take (n - length (take n A)) B) i))),
   );
   lower_whole = λ k h e o l.
@@ -88,8 +88,8 @@ picked_order u C n start ks low p = record {
     is : ks ≡ take n A ++ take (n - length (take n A)) B
     is = p.list_order refl ∙ take-append n A B
 
-    in-upper : (k : ℕ) → in_heap C k ≡ true → u k ≡ true → start ≤ k → Mem k A
-    in-upper k h e l = let r = in_heap_lem C k h in keep_in u start (C + 2 - start) k l (omega arith) e
+    in_upper : (k : ℕ) → in_heap C k ≡ true → u k ≡ true → start ≤ k → Mem k A
+    in_upper k h e l = let r = in_heap_lem C k h in keep_in u start (C + 2 - start) k l (omega arith) e
 
     -- the first n of A are not all of it
     none_left : (k : ℕ) → Mem k A → (Mem k (take n A) → ⊥) → take (n - length (take n A)) B ≡ []

@@ -23,33 +23,33 @@ use Rattle.stream.specs.declared.allocation.Allocation.{Allocation}
 use Rattle.stream.specs.Internal.{after, along, reached}
 use Rattle.stream.specs.Bytes.{cluster_bytes, bytes_of, bytes_in}
 use Rattle.stream.specs.Stream.{number_of, stream_of, clusters_of}
-use Rattle.stream.proofs.StreamLaws.{length-along, along-head}
-use Rattle.stream.proofs.BytesSteps.{every-from}
-use Rattle.stream.proofs.BytesLaws.{length-of, byte_of}
-use Rattle.stream.proofs.ListingLaws.{stream-read, along-heap}
-use Rattle.stream.proofs.Distinct.{few, read_length, read-distinct}
+use Rattle.stream.proofs.StreamLaws.{length-along, along_head}
+use Rattle.stream.proofs.BytesSteps.{every_from}
+use Rattle.stream.proofs.BytesLaws.{length_of, byte_of}
+use Rattle.stream.proofs.ListingLaws.{stream_read, along_heap}
+use Rattle.stream.proofs.Distinct.{few, read_length, read_distinct}
 use Rattle.directory.specs.declared.entries.Cursor.{Cursor}
 use Rattle.directory.specs.Entries.{entry_count, type_at, in_use}
 use Rattle.directory.specs.Internal.{next_entry, entry_at, entry_place}
-use Rattle.directory.proofs.DirectoryLaws.{clusters-along}
+use Rattle.directory.proofs.DirectoryLaws.{clusters_along}
 
 -- ---- going along
 
 module _ (fat : ℕ → ℕ) (run : Bool) where
-  reach-next : (k n : ℕ) → reached fat run k (suc n) ≡ after fat run (reached fat run k n)
+  reach_next : (k n : ℕ) → reached fat run k (suc n) ≡ after fat run (reached fat run k n)
   unfolding reached
-  reach-next k zero = refl
-  reach-next k (suc n) = reach-next (after fat run k) n
+  reach_next k zero = refl
+  reach_next k (suc n) = reach_next (after fat run k) n
 
-  pub along-at : (k n m : ℕ) → m < n → get_or (along fat run k n) m 0 ≡ reached fat run k m
+  pub along_at : (k n m : ℕ) → m < n → get_or (along fat run k n) m 0 ≡ reached fat run k m
   unfolding along reached
-  along-at k zero m h = absurd (omega arith)
-  along-at k (suc n) zero h = refl
-  along-at k (suc n) (suc m) h = along-at (after fat run k) n m (omega arith)
+  along_at k zero m h = absurd (omega arith)
+  along_at k (suc n) zero h = refl
+  along_at k (suc n) (suc m) h = along_at (after fat run k) n m (omega arith)
 
-  pub reached-heap : (C k n m : ℕ) → every (in_heap C) (along fat run k n) ≡ true → m < n → in_heap C (reached fat run k m) ≡ true
-  reached-heap C k n m e h =
-      along-head (in_heap C) fat run (reached fat run k m) (n - m) (omega arith) (every-from fat run (in_heap C) m k n (omega arith) e)
+  pub reached_heap : (C k n m : ℕ) → every (in_heap C) (along fat run k n) ≡ true → m < n → in_heap C (reached fat run k m) ≡ true
+  reached_heap C k n m e h =
+      along_head (in_heap C) fat run (reached fat run k m) (n - m) (omega arith) (every_from fat run (in_heap C) m k n (omega arith) e)
 
 -- a cluster's part of the volume
 pub cluster_part : (y : Layout) (d : List ℕ) (k a : ℕ) → a ≡ cluster_at y k → take (a + y.size - a) (drop a d) ≡ cluster_bytes y d k
@@ -63,9 +63,9 @@ module _ (y : Layout) (fat : ℕ → ℕ) (run : Bool) where
   unfolding next_entry
   next_here e h = rw (lt-ltb (e.at + 32) y.size h) refl
 
-  pub next-over : (e : Cursor) → y.size ≤ e.at + 32 → next_entry y fat run e ≡ record { cluster = after fat run e.cluster; at = 0 }
+  pub next_over : (e : Cursor) → y.size ≤ e.at + 32 → next_entry y fat run e ≡ record { cluster = after fat run e.cluster; at = 0 }
   unfolding next_entry
-  next-over e h = rw (le-ltb (e.at + 32) y.size h) refl
+  next_over e h = rw (le-ltb (e.at + 32) y.size h) refl
 
   pub entry_first : (first : ℕ) → record { cluster = first; at = 0 } ≡ entry_at y fat run first 0
   unfolding entry_at
@@ -94,7 +94,7 @@ module _ (y : Layout) (fat : ℕ → ℕ) (run : Bool) where
         let z : suc m * p ≡ m * p + (p - 1) + 1 = omega (arith, suc-mul m p) in
         ap (entry_at y fat run first) z ∙ sym (entry_next first (m * p + (p - 1)))
         ∙ ap (next_entry y fat run) (row m (m * p) (p - 1) (rows m l) (omega arith))
-        ∙ next-over (place m (32 * (p - 1))) (omega arith) ∙ ap (λ (k : ℕ). record { cluster = k; at = 0 }) (sym (reach-next fat run first m))
+        ∙ next_over (place m (32 * (p - 1))) (omega arith) ∙ ap (λ (k : ℕ). record { cluster = k; at = 0 }) (sym (reach_next fat run first m))
 
     pub entry_place : (m j : ℕ) → j < p → entry_at y fat run first (m * p + j) ≡ record { cluster = reached fat run first m; at = 32 * j }
     entry_place m j h = row m (m * p) j (rows m (omega arith)) h
@@ -114,49 +114,49 @@ module _ (y : Layout) (d : List ℕ) (w : Fits y d) (dir : Allocation) (reads : 
   abbrev bs : List ℕ
   bs = bytes_in y d dir
 
-  pub bytes-along : bytes_in y d dir ≡ bytes_of y d (along fat run dir.first dir.count)
+  pub bytes_along : bytes_in y d dir ≡ bytes_of y d (along fat run dir.first dir.count)
   unfolding bytes_in
-  bytes-along = ap (bytes_of y d) (clusters-along y d dir reads)
+  bytes_along = ap (bytes_of y d) (clusters_along y d dir reads)
 
-  pub dir-heap : every (in_heap y.count) (along fat run dir.first dir.count) ≡ true
-  dir-heap = along-heap y d dir reads
+  pub dir_heap : every (in_heap y.count) (along fat run dir.first dir.count) ≡ true
+  dir_heap = along_heap y d dir reads
 
-  pub count-few : dir.count ≤ y.count
-  count-few =
-      let r = stream-read y d dir reads in
+  pub count_few : dir.count ≤ y.count
+  count_few =
+      let r = stream_read y d dir reads in
       let ks = clusters_of (stream_of y d dir) in
       omega (
         arith,
         read_length y.count fat (marked y d) dir ks r,
-        few y.count ks (read-distinct y.count fat (marked y d) dir (small y d w) ks r) r.heap,
+        few y.count ks (read_distinct y.count fat (marked y d) dir (small y d w) ks r) r.heap,
       )
 
-  pub length-in : length (bytes_in y d dir) ≡ dir.count * y.size
-  length-in =
-      ap length bytes-along ∙ length-of y d w (along fat run dir.first dir.count) dir-heap
+  pub length_in : length (bytes_in y d dir) ≡ dir.count * y.size
+  length_in =
+      ap length bytes_along ∙ length_of y d w (along fat run dir.first dir.count) dir_heap
       ∙ ap (λ (n : ℕ). n * y.size) (length-along fat run dir.first dir.count)
 
-  per-low : 16 ≤ per
-  per-low = let l = w.laid in omega (arith, l.size_low, l.whole)
+  per_low : 16 ≤ per
+  per_low = let l = w.laid in omega (arith, l.size_low, l.whole)
 
   in_bytes : (n : ℕ) → 32 * (n * per) ≡ n * y.size
   in_bytes n = sym (mul_assoc 32 n per) ∙ ap (λ (x : ℕ). x * per) (mul_comm 32 n) ∙ mul_assoc n 32 per ∙ ap (λ (x : ℕ). n * x) w.laid.whole
 
   pub length-entries : length (bytes_in y d dir) ≡ 32 * (dir.count * per)
-  length-entries = length-in ∙ sym (in_bytes dir.count)
+  length-entries = length_in ∙ sym (in_bytes dir.count)
 
-  pub entries-is : dir.count * per ≡ entry_count (bytes_in y d dir)
+  pub entries_is : dir.count * per ≡ entry_count (bytes_in y d dir)
   unfolding entry_count
-  entries-is = omega (arith, length-entries)
+  entries_is = omega (arith, length-entries)
 
   -- a slot of the directory, in bytes
-  pub slot-bytes : (i n : ℕ) → i + n ≤ entry_count (bytes_in y d dir) → 32 * i + 32 * n ≤ dir.count * y.size
-  slot-bytes i n h = omega (arith, length-in, length-entries, entries-is)
+  pub slot_bytes : (i n : ℕ) → i + n ≤ entry_count (bytes_in y d dir) → 32 * i + 32 * n ≤ dir.count * y.size
+  slot_bytes i n h = omega (arith, length_in, length-entries, entries_is)
 
-  pub entries-small : dir.count * per ≤ 524288
-  entries-small =
+  pub entries_small : dir.count * per ≤ 524288
+  entries_small =
       let l = w.laid in
-      omega (arith, in_bytes y.count, l.heap_in, l.len_high, mul-le-mul_right {m = dir.count} {n = y.count} per count-few)
+      omega (arith, in_bytes y.count, l.heap_in, l.len_high, mul-le-mul_right {m = dir.count} {n = y.count} per count_few)
 
   -- entry i lies in the cluster at place i / per
   module _ (i : ℕ) (h : i < entry_count (bytes_in y d dir)) where
@@ -164,46 +164,46 @@ module _ (y : Layout) (d : List ℕ) (w : Fits y d) (dir : Allocation) (reads : 
     split = div-add-mod' i per
 
     pub rest : i % per < per
-    rest = mod-lt i (omega (arith, per-low))
+    rest = mod-lt i (omega (arith, per_low))
 
     pub inside : i / per < dir.count
     inside =
         elim (dec_le dir.count (i / per)) [
-          | yes b ↦ absurd (omega (arith, split, entries-is, mul-le-mul_right {m = dir.count} {n = i / per} per b))
+          | yes b ↦ absurd (omega (arith, split, entries_is, mul-le-mul_right {m = dir.count} {n = i / per} per b))
           | no b ↦ omega arith
         ]
 
     abbrev there : Cursor
     there = record { cluster = reached fat run dir.first (i / per); at = 32 * (i % per) }
 
-    pub there-is : entry_at y fat run dir.first i ≡ there
-    there-is = ap (entry_at y fat run dir.first) (sym split) ∙ entry_place y fat run per w.laid.whole dir.first (i / per) (i % per) rest
+    pub there_is : entry_at y fat run dir.first i ≡ there
+    there_is = ap (entry_at y fat run dir.first) (sym split) ∙ entry_place y fat run per w.laid.whole dir.first (i / per) (i % per) rest
 
     here_in : (2 ≤ there.cluster) × ((there.cluster < y.count + 2) × (there.at + 32 ≤ y.size))
     here_in =
-        let q = in_heap_lem y.count there.cluster (reached-heap fat run y.count dir.first dir.count (i / per) dir-heap inside) in
+        let q = in_heap_lem y.count there.cluster (reached_heap fat run y.count dir.first dir.count (i / per) dir_heap inside) in
         (q.0, (q.1, omega (arith, rest, w.laid.whole)))
 
     -- where a cursor that stands at entry i lies
-    pub cursor-in : (e : Cursor) → e ≡ entry_at y fat run dir.first i → (2 ≤ e.cluster) × ((e.cluster < y.count + 2) × (e.at + 32 ≤ y.size))
-    cursor-in e q = rw (q ∙ there-is) here_in
+    pub cursor_in : (e : Cursor) → e ≡ entry_at y fat run dir.first i → (2 ≤ e.cluster) × ((e.cluster < y.count + 2) × (e.at + 32 ≤ y.size))
+    cursor_in e q = rw (q ∙ there_is) here_in
 
     -- and the type byte there
-    pub cursor-type : (e : Cursor) → e ≡ entry_at y fat run dir.first i → cluster_byte y d e.cluster e.at ≡ type_at (bytes_in y d dir) i
+    pub cursor_type : (e : Cursor) → e ≡ entry_at y fat run dir.first i → cluster_byte y d e.cluster e.at ≡ type_at (bytes_in y d dir) i
     unfolding type_at
-    cursor-type e q =
+    cursor_type e q =
         let ks = along fat run dir.first dir.count in
         let z : i / per * y.size + 32 * (i % per) ≡ 32 * i = omega (arith, split, in_bytes (i / per)) in
-        ap (λ (x : Cursor). cluster_byte y d x.cluster x.at) (q ∙ there-is)
+        ap (λ (x : Cursor). cluster_byte y d x.cluster x.at) (q ∙ there_is)
         ∙ sym
-        (ap (λ (l : List ℕ). get_or l (32 * i) 0) bytes-along ∙ ap (λ (x : ℕ). get_or (bytes_of y d ks) x 0) (sym z)
-        ∙ byte_of y d w ks (i / per) (32 * (i % per)) dir-heap (omega (arith, inside, length-along fat run dir.first dir.count)) (omega (arith, here_in.1.1))
-        ∙ ap (λ (k : ℕ). cluster_byte y d k (32 * (i % per))) (along-at fat run dir.first dir.count (i / per) inside))
+        (ap (λ (l : List ℕ). get_or l (32 * i) 0) bytes_along ∙ ap (λ (x : ℕ). get_or (bytes_of y d ks) x 0) (sym z)
+        ∙ byte_of y d w ks (i / per) (32 * (i % per)) dir_heap (omega (arith, inside, length-along fat run dir.first dir.count)) (omega (arith, here_in.1.1))
+        ∙ ap (λ (k : ℕ). cluster_byte y d k (32 * (i % per))) (along_at fat run dir.first dir.count (i / per) inside))
 
     -- and whether it is in use
-    pub cursor-use : (e : Cursor) → e ≡ entry_at y fat run dir.first i → eqb (bit_of (cluster_byte y d e.cluster e.at) 7) 1 ≡ in_use (bytes_in y d dir) i
+    pub cursor_use : (e : Cursor) → e ≡ entry_at y fat run dir.first i → eqb (bit_of (cluster_byte y d e.cluster e.at) 7) 1 ≡ in_use (bytes_in y d dir) i
     unfolding in_use
-    cursor-use e q = ap (λ (x : ℕ). eqb (bit_of x 7) 1) (cursor-type e q)
+    cursor_use e q = ap (λ (x : ℕ). eqb (bit_of x 7) 1) (cursor_type e q)
 
 -- ---- from an entry to one further on
 
@@ -227,28 +227,28 @@ module _ (y : Layout) (d : List ℕ) (w : Fits y d) (dir : Allocation) (reads : 
   abbrev p : ℕ
   p = y.size / 32
 
-  p-low : 1 ≤ p
-  p-low = let l = w.laid in omega (arith, l.size_low, l.whole)
+  p_low : 1 ≤ p
+  p_low = let l = w.laid in omega (arith, l.size_low, l.whole)
 
-  counted-by : (i j cluster more : ℕ) → j * p + more ≡ i → cluster ≡ reached (fat_entry y d) dir.no_fat_chain dir.first j → Counted y d dir i cluster more
-  counted-by i j cluster more e c =
-      let q : (i - more) / p ≡ j = ap (λ (x : ℕ). x / p) (omega arith) ∙ quotient p j p-low in
+  counted_by : (i j cluster more : ℕ) → j * p + more ≡ i → cluster ≡ reached (fat_entry y d) dir.no_fat_chain dir.first j → Counted y d dir i cluster more
+  counted_by i j cluster more e c =
+      let q : (i - more) / p ≡ j = ap (λ (x : ℕ). x / p) (omega arith) ∙ quotient p j p_low in
       record {
         few = omega arith;
         there = c ∙ ap (reached (fat_entry y d) dir.no_fat_chain dir.first) (sym q);
         whole = ap (λ (x : ℕ). x * p + more) q ∙ e;
       }
 
-  pub counted-first : (i : ℕ) → Counted y d dir i dir.first i
-  counted-first i = counted-by i 0 dir.first i (omega arith) (unfold reached in refl)
+  pub counted_first : (i : ℕ) → Counted y d dir i dir.first i
+  counted_first i = counted_by i 0 dir.first i (omega arith) (unfold reached in refl)
 
   pub counted_start : (k m : ℕ) → k < entry_count (bytes_in y d dir) → (e : Cursor) → e ≡ entry_at y (fat_entry y d) dir.no_fat_chain dir.first k
       → Counted y d dir (k + m) e.cluster (e.at / 32 + m)
   counted_start k m h e q =
-      let t = there-is y d w dir reads k h in
+      let t = there_is y d w dir reads k h in
       let s = split y d w dir reads k h in
       let a : e.at ≡ 32 * (k % p) = ap (λ (x : Cursor). x.at) (q ∙ t) in
-      counted-by (k + m) (k / p) e.cluster (e.at / 32 + m) (omega arith) (ap (λ (x : Cursor). x.cluster) (q ∙ t))
+      counted_by (k + m) (k / p) e.cluster (e.at / 32 + m) (omega arith) (ap (λ (x : Cursor). x.cluster) (q ∙ t))
 
   module _ (i cluster more : ℕ) (c : Counted y d dir i cluster more) where
     abbrev j : ℕ
@@ -256,25 +256,25 @@ module _ (y : Layout) (d : List ℕ) (w : Fits y d) (dir : Allocation) (reads : 
 
     pub counted_next : p ≤ more → Counted y d dir i (after (fat_entry y d) dir.no_fat_chain cluster) (more - p)
     counted_next h =
-        counted-by i (suc j) (after (fat_entry y d) dir.no_fat_chain cluster) (more - p) (omega (arith, c.whole, suc-mul j p))
-        (ap (after (fat_entry y d) dir.no_fat_chain) c.there ∙ sym (reach-next (fat_entry y d) dir.no_fat_chain dir.first j))
+        counted_by i (suc j) (after (fat_entry y d) dir.no_fat_chain cluster) (more - p) (omega (arith, c.whole, suc-mul j p))
+        (ap (after (fat_entry y d) dir.no_fat_chain) c.there ∙ sym (reach_next (fat_entry y d) dir.no_fat_chain dir.first j))
 
-    pub counted-heap : i < entry_count (bytes_in y d dir) → in_heap y.count cluster ≡ true
-    counted-heap h =
+    pub counted_heap : i < entry_count (bytes_in y d dir) → in_heap y.count cluster ≡ true
+    counted_heap h =
         ap (in_heap y.count) c.there
-        ∙ reached-heap (fat_entry y d) dir.no_fat_chain y.count dir.first dir.count j (dir-heap y d w dir reads)
+        ∙ reached_heap (fat_entry y d) dir.no_fat_chain y.count dir.first dir.count j (dir_heap y d w dir reads)
         (elim (dec_le dir.count j) [
-          | yes b ↦ absurd (omega (arith, c.whole, entries-is y d w dir reads, mul-le-mul_right {m = dir.count} {n = j} p b))
+          | yes b ↦ absurd (omega (arith, c.whole, entries_is y d w dir reads, mul-le-mul_right {m = dir.count} {n = j} p b))
           | no b ↦ omega arith
         ])
 
-    pub counted-end : more < p → record { cluster = cluster; at = 32 * more } ≡ entry_at y (fat_entry y d) dir.no_fat_chain dir.first i
-    counted-end h =
+    pub counted_end : more < p → record { cluster = cluster; at = 32 * more } ≡ entry_at y (fat_entry y d) dir.no_fat_chain dir.first i
+    counted_end h =
         ap (λ (x : ℕ). record { cluster = x; at = 32 * more }) c.there
         ∙ sym (ap (entry_at y (fat_entry y d) dir.no_fat_chain dir.first) (sym c.whole) ∙ entry_place y (fat_entry y d) dir.no_fat_chain p w.laid.whole dir.first j more h)
 
     -- by its byte
-    pub counted-place : more < p → record { cluster = cluster; at = 32 * more } ≡ entry_place y d dir i
-    counted-place h =
+    pub counted_place : more < p → record { cluster = cluster; at = 32 * more } ≡ entry_place y d dir i
+    counted_place h =
         let q = place_of y.size j (32 * more) (32 * i) (omega (arith, w.laid.whole)) (omega (arith, c.whole, in_bytes y d w dir reads j)) in
         ap₂ (λ (k x : ℕ). record { cluster = k; at = x }) (c.there ∙ ap (reached (fat_entry y d) dir.no_fat_chain dir.first) (sym q.0)) (sym q.1)

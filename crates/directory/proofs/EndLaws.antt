@@ -20,13 +20,13 @@ use Rattle.stream.specs.declared.allocation.Allocation.{Allocation}
 use Rattle.stream.specs.Internal.{after, along}
 use Rattle.stream.specs.Bytes.{cluster_bytes, bytes_of, bytes_in}
 use Rattle.stream.specs.Stream.{number_of, stream_of}
-use Rattle.stream.proofs.StreamLaws.{along-step, along-head, along-rest}
-use Rattle.stream.proofs.BytesSteps.{length-cluster}
+use Rattle.stream.proofs.StreamLaws.{along-step, along_head, along_rest}
+use Rattle.stream.proofs.BytesSteps.{length_cluster}
 use Rattle.search.specs.Search.{all_from}
-use Rattle.search.proofs.Runs.{all_none, all-next, all-not}
+use Rattle.search.proofs.Runs.{all_none, all_next, all-not}
 use Rattle.directory.specs.Entries.{entry_count, type_at, before_end}
 use Rattle.directory.specs.Internal.{entry_place, slot_entry}
-use Rattle.directory.proofs.CursorLaws.{bytes-along, dir-heap, entries-is}
+use Rattle.directory.proofs.CursorLaws.{bytes_along, dir_heap, entries_is}
 
 -- ---- entry by entry
 
@@ -34,69 +34,69 @@ module _ (bs : List ℕ) where
   abbrev on : ℕ → Bool
   on j = not (eqb (type_at bs j) 0)
 
-  pub before-none : before_end bs 0 ≡ true
+  pub before_none : before_end bs 0 ≡ true
   unfolding before_end
-  before-none = all_none on 0 0 refl
+  before_none = all_none on 0 0 refl
 
-  before-suc : (i : ℕ) → before_end bs (suc i) ≡ (before_end bs i && not (eqb (type_at bs i) 0))
+  before_suc : (i : ℕ) → before_end bs (suc i) ≡ (before_end bs i && not (eqb (type_at bs i) 0))
   unfolding before_end all_from
-  before-suc i = let z : 0 + i ≡ i = omega arith in rw z refl
+  before_suc i = let z : 0 + i ≡ i = omega arith in rw z refl
 
-  before-next : (i : ℕ) → before_end bs i ≡ true → type_at bs i ≢ 0 → before_end bs (i + 1) ≡ true
+  before_next : (i : ℕ) → before_end bs i ≡ true → type_at bs i ≢ 0 → before_end bs (i + 1) ≡ true
   unfolding before_end
-  before-next i e h = all-next on 0 i (i + 1) (omega arith) (omega arith) (ap (all_from on 0) (sub-zero i) ∙ e) (ap not (ne_eqb (type_at bs i) 0 h))
+  before_next i e h = all_next on 0 i (i + 1) (omega arith) (omega arith) (ap (all_from on 0) (sub-zero i) ∙ e) (ap not (ne_eqb (type_at bs i) 0 h))
 
-  before-not : (i n : ℕ) → i < n → type_at bs i ≡ 0 → before_end bs n ≡ false
+  before_not : (i n : ℕ) → i < n → type_at bs i ≡ 0 → before_end bs n ≡ false
   unfolding before_end
-  before-not i n h e = all-not on 0 n i (omega arith) (omega arith) (ap not (eq-eqb (type_at bs i) 0 e))
+  before_not i n h e = all-not on 0 n i (omega arith) (omega arith) (ap not (eq-eqb (type_at bs i) 0 e))
 
   -- at a byte that begins an entry
   pub byte_next : (at : ℕ) → 32 * (at / 32) ≡ at → before_end bs (at / 32) ≡ true → get_or bs at 0 ≢ 0 → before_end bs ((at + 32) / 32) ≡ true
   unfolding type_at
   byte_next at q e h =
       let z : (at + 32) / 32 ≡ at / 32 + 1 = omega arith in
-      ap (before_end bs) z ∙ before-next (at / 32) e (λ t. h (ap (λ (x : ℕ). get_or bs x 0) (sym q) ∙ t))
+      ap (before_end bs) z ∙ before_next (at / 32) e (λ t. h (ap (λ (x : ℕ). get_or bs x 0) (sym q) ∙ t))
 
-  pub byte-not : (at n : ℕ) → 32 * (at / 32) ≡ at → at < 32 * n → get_or bs at 0 ≡ 0 → before_end bs n ≡ false
+  pub byte_not : (at n : ℕ) → 32 * (at / 32) ≡ at → at < 32 * n → get_or bs at 0 ≡ 0 → before_end bs n ≡ false
   unfolding type_at
-  byte-not at n q h e = before-not (at / 32) n (omega arith) (ap (λ (x : ℕ). get_or bs x 0) q ∙ e)
+  byte_not at n q h e = before_not (at / 32) n (omega arith) (ap (λ (x : ℕ). get_or bs x 0) q ∙ e)
 
   pub byte_last : (at n : ℕ) → 32 * (at / 32) ≡ at → at + 32 ≡ 32 * n → before_end bs (at / 32) ≡ true → not (eqb (get_or bs at 0) 0) ≡ before_end bs n
   unfolding type_at
   byte_last at n q h e =
       let z : n ≡ suc (at / 32) = omega arith in
-      sym (ap (before_end bs) z ∙ before-suc (at / 32) ∙ rw (e, q) refl)
+      sym (ap (before_end bs) z ∙ before_suc (at / 32) ∙ rw (e, q) refl)
 
 -- ---- of two lists joined
 
 module _ (xs ys : List ℕ) where
-  type-front : (i : ℕ) → 32 * i < length xs → type_at (xs ++ ys) i ≡ type_at xs i
+  type_front : (i : ℕ) → 32 * i < length xs → type_at (xs ++ ys) i ≡ type_at xs i
   unfolding type_at
-  type-front i h = get_or-append xs ys 0 (32 * i) h
+  type_front i h = get_or-append xs ys 0 (32 * i) h
 
-  type-back : (p i : ℕ) → length xs ≡ 32 * p → type_at (xs ++ ys) (p + i) ≡ type_at ys i
+  type_back : (p i : ℕ) → length xs ≡ 32 * p → type_at (xs ++ ys) (p + i) ≡ type_at ys i
   unfolding type_at
-  type-back p i h =
+  type_back p i h =
       let z : 32 * (p + i) ≡ length xs + 32 * i = omega arith in
       ap (λ (x : ℕ). get_or (xs ++ ys) x 0) z ∙ get_or-append-add xs ys (32 * i) 0
 
-  before-front : (n : ℕ) → 32 * n ≤ length xs → before_end (xs ++ ys) n ≡ before_end xs n
-  before-front zero h = before-none (xs ++ ys) ∙ sym (before-none xs)
-  before-front (suc n) h =
-      before-suc (xs ++ ys) n
-      ∙ ap₂ (λ (a : Bool) (t : ℕ). a && not (eqb t 0)) (before-front n (omega arith)) (type-front n (omega arith)) ∙ sym (before-suc xs n)
+  before_front : (n : ℕ) → 32 * n ≤ length xs → before_end (xs ++ ys) n ≡ before_end xs n
+  before_front zero h = before_none (xs ++ ys) ∙ sym (before_none xs)
+  before_front (suc n) h =
+      before_suc (xs ++ ys) n
+      ∙ ap₂ (λ (a : Bool) (t : ℕ). a && not (eqb t 0)) (before_front n (omega arith)) (type_front n (omega arith)) ∙ sym (before_suc xs n)
 
-  before-join : (p n : ℕ) → length xs ≡ 32 * p → before_end (xs ++ ys) (p + n) ≡ (before_end xs p && before_end ys n)
-  before-join p zero h =
+  before_join : (p n : ℕ) → length xs ≡ 32 * p → before_end (xs ++ ys) (p + n) ≡ (before_end xs p && before_end ys n)
+  before_join p zero h =
       let z : p + zero ≡ p = omega arith in
-      ap (before_end (xs ++ ys)) z ∙ before-front p (omega arith) ∙ sym (ap (λ (b : Bool). before_end xs p && b) (before-none ys) ∙ and-true (before_end xs p))
-  before-join p (suc n) h =
+      ap (before_end (xs ++ ys)) z ∙ before_front p (omega arith) ∙ sym (ap (λ (b : Bool). before_end xs p && b) (before_none ys) ∙ and-true (before_end xs p))
+  before_join p (suc n) h =
       let z : p + suc n ≡ suc (p + n) = omega arith in
       ap (before_end (xs ++ ys)) z
-      ∙ before-suc (xs ++ ys) (p + n)
-      ∙ ap₂ (λ (a : Bool) (t : ℕ). a && not (eqb t 0)) (before-join p n h) (type-back p n h)
+      ∙ before_suc (xs ++ ys) (p + n)
+      ∙ ap₂ (λ (a : Bool) (t : ℕ). a && not (eqb t 0)) (before_join p n h) (type_back p n h)
       ∙ and_assoc (before_end xs p) (before_end ys n) (not (eqb (type_at ys n) 0))
-      ∙ ap (λ (b : Bool). before_end xs p && b) (sym (before-suc ys n))
+      ∙ ap (λ (b : Bool). before_end xs p && b) (sym (before_suc ys n))
 
 -- ---- cluster by cluster
 
@@ -117,17 +117,17 @@ module _ (y : Layout) (d : List ℕ) (w : Fits y d) (dir : Allocation) where
   abbrev per : ℕ
   per = y.size / 32
 
-  pub ahead-first : (slot : ℕ) → number_of (stream_of y d dir) ≡ 0 → slot ≤ entry_count (bytes_in y d dir) → Ahead y d dir slot dir.first slot
-  ahead-first slot reads h = record {
+  pub ahead_first : (slot : ℕ) → number_of (stream_of y d dir) ≡ 0 → slot ≤ entry_count (bytes_in y d dir) → Ahead y d dir slot dir.first slot
+  ahead_first slot reads h = record {
     clusters = dir.count;
-    heap = dir-heap y d w dir reads;
-    room = omega (arith, entries-is y d w dir reads);
-    same = ap (λ (l : List ℕ). before_end l slot) (sym (bytes-along y d w dir reads));
+    heap = dir_heap y d w dir reads;
+    room = omega (arith, entries_is y d w dir reads);
+    same = ap (λ (l : List ℕ). before_end l slot) (sym (bytes_along y d w dir reads));
   }
 
   module _ (slot k left : ℕ) (a : Ahead y d dir slot k left) where
     pub ahead_none : left ≡ 0 → before_end (bytes_in y d dir) slot ≡ true
-    ahead_none z = sym a.same ∙ ap (before_end (bytes_of y d (along fat run k a.clusters))) z ∙ before-none (bytes_of y d (along fat run k a.clusters))
+    ahead_none z = sym a.same ∙ ap (before_end (bytes_of y d (along fat run k a.clusters))) z ∙ before_none (bytes_of y d (along fat run k a.clusters))
 
     module _ (some : 0 < left) where
       more : (n : ℕ) → left ≤ n * per → 0 < n
@@ -137,28 +137,28 @@ module _ (y : Layout) (d : List ℕ) (w : Fits y d) (dir : Allocation) where
       low : 0 < a.clusters
       low = more a.clusters a.room
 
-      pub ahead-heap : in_heap y.count k ≡ true
-      ahead-heap = along-head (in_heap y.count) fat run k a.clusters low a.heap
+      pub ahead_heap : in_heap y.count k ≡ true
+      ahead_heap = along_head (in_heap y.count) fat run k a.clusters low a.heap
 
       abbrev rest : List ℕ
       rest = bytes_of y d (along fat run (after fat run k) (a.clusters - 1))
 
       long : length (cluster_bytes y d k) ≡ 32 * per
-      long = length-cluster y d w.laid w.long k ahead-heap ∙ sym w.laid.whole
+      long = length_cluster y d w.laid w.long k ahead_heap ∙ sym w.laid.whole
 
       split : before_end (cluster_bytes y d k ++ rest) left ≡ before_end (bytes_in y d dir) slot
       split =
           ap (λ (l : List ℕ). before_end l left)
           (sym (ap (bytes_of y d) (along-step fat run k a.clusters low) ∙ (unfold bytes_of in refl))) ∙ a.same
 
-      pub ahead-last : left ≤ per → before_end (cluster_bytes y d k) left ≡ before_end (bytes_in y d dir) slot
-      ahead-last h = sym (before-front (cluster_bytes y d k) rest left (omega (arith, long))) ∙ split
+      pub ahead_last : left ≤ per → before_end (cluster_bytes y d k) left ≡ before_end (bytes_in y d dir) slot
+      ahead_last h = sym (before_front (cluster_bytes y d k) rest left (omega (arith, long))) ∙ split
 
       module _ (h : per ≤ left) where
         joined : (before_end (cluster_bytes y d k) per && before_end rest (left - per)) ≡ before_end (bytes_in y d dir) slot
         joined =
             let z : per + (left - per) ≡ left = omega arith in
-            sym (before-join (cluster_bytes y d k) rest per (left - per) long) ∙ ap (before_end (cluster_bytes y d k ++ rest)) z ∙ split
+            sym (before_join (cluster_bytes y d k) rest per (left - per) long) ∙ ap (before_end (cluster_bytes y d k ++ rest)) z ∙ split
 
         fewer : (n : ℕ) → left ≤ n * per → left - per ≤ (n - 1) * per
         fewer zero b = omega arith
@@ -166,34 +166,34 @@ module _ (y : Layout) (d : List ℕ) (w : Fits y d) (dir : Allocation) where
             let q : suc n - 1 ≡ n = omega arith in
             rw q (omega (arith, suc-mul n per))
 
-        pub ahead-next : (next : ℕ) → next ≡ after fat run k → before_end (cluster_bytes y d k) per ≡ true → Ahead y d dir slot next (left - per)
-        ahead-next next q e =
+        pub ahead_next : (next : ℕ) → next ≡ after fat run k → before_end (cluster_bytes y d k) per ≡ true → Ahead y d dir slot next (left - per)
+        ahead_next next q e =
             rw q (record {
               clusters = a.clusters - 1;
-              heap = along-rest (in_heap y.count) fat run k a.clusters low a.heap;
+              heap = along_rest (in_heap y.count) fat run k a.clusters low a.heap;
               room = fewer a.clusters a.room;
               same = ap (λ (b : Bool). b && before_end rest (left - per)) (sym e) ∙ joined;
             })
 
-        pub ahead-not : before_end (cluster_bytes y d k) per ≡ false → before_end (bytes_in y d dir) slot ≡ false
-        ahead-not e = sym joined ∙ ap (λ (b : Bool). b && before_end rest (left - per)) e
+        pub ahead_not : before_end (cluster_bytes y d k) per ≡ false → before_end (bytes_in y d dir) slot ≡ false
+        ahead_not e = sym joined ∙ ap (λ (b : Bool). b && before_end rest (left - per)) e
 
     -- the entries in the slot's own cluster
-    pub ahead-end : left < per → before_end (cluster_bytes y d k) left ≡ before_end (bytes_in y d dir) slot
-    ahead-end h =
+    pub ahead_end : left < per → before_end (cluster_bytes y d k) left ≡ before_end (bytes_in y d dir) slot
+    ahead_end h =
         elim (dec_le 1 left) [
-          | yes b ↦ ahead-last b (omega arith)
+          | yes b ↦ ahead_last b (omega arith)
           | no b ↦
               let z : left ≡ 0 = omega arith in
-              ap (before_end (cluster_bytes y d k)) z ∙ before-none (cluster_bytes y d k) ∙ sym (ahead_none z)
+              ap (before_end (cluster_bytes y d k)) z ∙ before_none (cluster_bytes y d k) ∙ sym (ahead_none z)
         ]
 
 -- the entry of a slot by what stands before it
 module _ (y : Layout) (d : List ℕ) (dir : Allocation) (slot : ℕ) where
-  pub slot-ends : before_end (bytes_in y d dir) slot ≡ false → record { cluster = 0; at = 0 } ≡ slot_entry y d dir slot
+  pub slot_ends : before_end (bytes_in y d dir) slot ≡ false → record { cluster = 0; at = 0 } ≡ slot_entry y d dir slot
   unfolding slot_entry
-  slot-ends e = rw e refl
+  slot_ends e = rw e refl
 
-  pub slot-stands : before_end (bytes_in y d dir) slot ≡ true → entry_place y d dir slot ≡ slot_entry y d dir slot
+  pub slot_stands : before_end (bytes_in y d dir) slot ≡ true → entry_place y d dir slot ≡ slot_entry y d dir slot
   unfolding slot_entry
-  slot-stands e = rw e refl
+  slot_stands e = rw e refl

@@ -29,28 +29,28 @@ module _ (C size : ℕ) (s : List ℕ) (w : well_formed C size s ≡ true) where
   unfolding well_formed
   head_ok = and_left (head_ok s) _ w
 
-  stream-ok : stream_entry_ok s ≡ true
+  stream_ok : stream_entry_ok s ≡ true
   unfolding well_formed
-  stream-ok = and_left (stream_entry_ok s) _ (and_right (head_ok s) _ w)
+  stream_ok = and_left (stream_entry_ok s) _ (and_right (head_ok s) _ w)
 
-  names-ok : names_ok s (name_entries (name_length s)) ≡ true
+  names_ok_lem : names_ok s (name_entries (name_length s)) ≡ true
   unfolding well_formed
-  names-ok =
+  names_ok_lem =
       and_left (names_ok s (name_entries (name_length s))) (lengths_ok C size s)
       (and_right (stream_entry_ok s) _ (and_right (head_ok s) _ w))
 
-  first-type : entry_type s 0 ≡ 0x85
+  first_type : entry_type s 0 ≡ 0x85
   unfolding head_ok
-  first-type = eqb-true (entry_type s 0) 0x85 (and_left (eqb (entry_type s 0) 0x85) _ head_ok)
+  first_type = eqb-true (entry_type s 0) 0x85 (and_left (eqb (entry_type s 0) 0x85) _ head_ok)
 
-  second-low : 2 ≤ secondary_count s
+  second_low : 2 ≤ secondary_count s
   unfolding head_ok
-  second-low =
+  second_low =
       leb-true 2 (secondary_count s) (and_left (leb 2 (secondary_count s)) _ (and_right (eqb (entry_type s 0) 0x85) _ head_ok))
 
-  second-high : secondary_count s ≤ 18
+  second_high : secondary_count s ≤ 18
   unfolding head_ok
-  second-high =
+  second_high =
       leb-true (secondary_count s) 18
       (and_left (leb (secondary_count s) 18) _
       (and_right (leb 2 (secondary_count s)) _ (and_right (eqb (entry_type s 0) 0x85) _ head_ok)))
@@ -63,12 +63,12 @@ module _ (C size : ℕ) (s : List ℕ) (w : well_formed C size s ≡ true) where
       (and_right (leb (secondary_count s) 18) _
       (and_right (leb 2 (secondary_count s)) _ (and_right (eqb (entry_type s 0) 0x85) _ head_ok))))
 
-  stream-type : entry_type s 1 ≡ 0xC0
+  stream_type : entry_type s 1 ≡ 0xC0
   unfolding stream_entry_ok
-  stream-type =
+  stream_type =
       eqb-true (entry_type s 1) 0xC0
       (and_left (eqb (entry_type s 1) 0xC0) (allocation_possible s)
-      (and_right (eqb (set_checksum s) (checksum s (32 * (1 + secondary_count s)))) _ stream-ok))
+      (and_right (eqb (set_checksum s) (checksum s (32 * (1 + secondary_count s)))) _ stream_ok))
 
 names_at : (s : List ℕ) (n k : ℕ) → names_ok s n ≡ true → k < n → entry_type s (2 + k) ≡ 0xC1
 unfolding names_ok
@@ -85,42 +85,42 @@ names_at s (suc n) k e h =
 
 module _ (C size n : ℕ) (s : List ℕ) (f : Fit C size n s) where
   pub fit_low : 3 ≤ n
-  fit_low = omega (arith, second-low C size s f.formed, f.count)
+  fit_low = omega (arith, second_low C size s f.formed, f.count)
 
-  pub fit-high : n ≤ 19
-  fit-high = omega (arith, second-high C size s f.formed, f.count)
+  pub fit_high : n ≤ 19
+  fit_high = omega (arith, second_high C size s f.formed, f.count)
 
-  pub fit-first : entry_type s 0 ≡ 0x85
-  fit-first = first-type C size s f.formed
+  pub fit_first : entry_type s 0 ≡ 0x85
+  fit_first = first_type C size s f.formed
 
   -- then 0xC0, then 0xC1
-  fit-kind : (k : ℕ) → 1 ≤ k → k < n → (entry_type s k ≡ 0xC0) ⊎ (entry_type s k ≡ 0xC1)
-  fit-kind k l h =
+  fit_kind : (k : ℕ) → 1 ≤ k → k < n → (entry_type s k ≡ 0xC0) ⊎ (entry_type s k ≡ 0xC1)
+  fit_kind k l h =
       elim (ℕ_discrete k 1) [
-        | yes e ↦ inl (ap (entry_type s) e ∙ stream-type C size s f.formed)
+        | yes e ↦ inl (ap (entry_type s) e ∙ stream_type C size s f.formed)
         | no d ↦ (
             let r : 2 + (k - 2) ≡ k = omega arith in
             inr
             (ap (entry_type s) (sym r)
-            ∙ names_at s (name_entries (name_length s)) (k - 2) (names-ok C size s f.formed) (omega (arith, f.count, second_is C size s f.formed))))
+            ∙ names_at s (name_entries (name_length s)) (k - 2) (names_ok_lem C size s f.formed) (omega (arith, f.count, second_is C size s f.formed))))
       ]
 
   -- what holds of the three types
-  fit-each : (P : ℕ → Type 0) → P 0x85 → P 0xC0 → P 0xC1 → (k : ℕ) → k < n → P (entry_type s k)
-  fit-each P a b c k h =
+  fit_each : (P : ℕ → Type 0) → P 0x85 → P 0xC0 → P 0xC1 → (k : ℕ) → k < n → P (entry_type s k)
+  fit_each P a b c k h =
       elim (ℕ_discrete k 0) [
-        | yes e ↦ subst P (sym (ap (entry_type s) e ∙ fit-first)) a
-        | no d ↦ ⊎_elim (λ q. subst P (sym q) b) (λ q. subst P (sym q) c) (fit-kind k (omega arith) h)
+        | yes e ↦ subst P (sym (ap (entry_type s) e ∙ fit_first)) a
+        | no d ↦ ⊎_elim (λ q. subst P (sym q) b) (λ q. subst P (sym q) c) (fit_kind k (omega arith) h)
       ]
 
   -- those after the first are no file entries
   pub fit_next : (k : ℕ) → 1 ≤ k → k < n → entry_type s k ≢ 0x85
-  fit_next k l h e = ⊎_elim (λ q. omega arith) (λ q. omega arith) (fit-kind k l h)
+  fit_next k l h e = ⊎_elim (λ q. omega arith) (λ q. omega arith) (fit_kind k l h)
 
   -- all are in use
-  pub fit-used : (k : ℕ) → k < n → bit_of (entry_type s k) 7 ≡ 1
+  pub fit_used : (k : ℕ) → k < n → bit_of (entry_type s k) 7 ≡ 1
   unfolding bit_of
-  fit-used = fit-each (λ t. bit_of t 7 ≡ 1) refl refl refl
+  fit_used = fit_each (λ t. bit_of t 7 ≡ 1) refl refl refl
 
 -- a type with bit 0x80 is not 0
 pub used_type : (t : ℕ) → bit_of t 7 ≡ 1 → t ≢ 0

@@ -8,28 +8,28 @@ use native.Mathlib.Omega.{arith}
 use Rattle.entry_set.specs.Fields.{clusters_for}
 
 module _ (size : ℕ) (pos : 1 ≤ size) where
-  pub clusters-hold : (len : ℕ) → len ≤ clusters_for size len * size
+  pub clusters_hold : (len : ℕ) → len ≤ clusters_for size len * size
   unfolding clusters_for
-  clusters-hold len = omega (arith, lt-div-mul-add {a = len + (size - 1)} {b = size} pos)
+  clusters_hold len = omega (arith, lt-div-mul-add {a = len + (size - 1)} {b = size} pos)
 
   -- fewer do not
-  pub clusters-below : (len h : ℕ) → h < clusters_for size len → h * size < len
+  pub clusters_below : (len h : ℕ) → h < clusters_for size len → h * size < len
   unfolding clusters_for
-  clusters-below len h l =
+  clusters_below len h l =
       omega (arith, suc-mul h size, mul-le-mul_right {m = suc h} {n = (len + (size - 1)) / size} size l, div-mul-le_self (len + (size - 1)) size)
 
-  pub clusters-least : (len h : ℕ) → len ≤ h * size → clusters_for size len ≤ h
-  clusters-least len h l =
+  pub clusters_least : (len h : ℕ) → len ≤ h * size → clusters_for size len ≤ h
+  clusters_least len h l =
       elim (dec_le (clusters_for size len) h) [
         | yes p ↦ p
-        | no p ↦ absurd (omega (arith, clusters-below len h (omega arith)))
+        | no p ↦ absurd (omega (arith, clusters_below len h (omega arith)))
       ]
 
-  pub clusters-mono : (a b : ℕ) → a ≤ b → clusters_for size a ≤ clusters_for size b
-  clusters-mono a b l = clusters-least a (clusters_for size b) (omega (arith, clusters-hold b))
+  pub clusters_mono : (a b : ℕ) → a ≤ b → clusters_for size a ≤ clusters_for size b
+  clusters_mono a b l = clusters_least a (clusters_for size b) (omega (arith, clusters_hold b))
 
-  pub clusters-none : (len : ℕ) → len ≡ 0 → clusters_for size len ≡ 0
-  clusters-none len z = let l : len ≤ 0 * size = omega arith in omega (arith, clusters-least len 0 l)
+  pub clusters_none : (len : ℕ) → len ≡ 0 → clusters_for size len ≡ 0
+  clusters_none len z = let l : len ≤ 0 * size = omega arith in omega (arith, clusters_least len 0 l)
 
-  pub clusters-some : (len : ℕ) → len ≢ 0 → clusters_for size len ≢ 0
-  clusters-some len n z = n (omega (arith, clusters-hold len, ap (λ (x : ℕ). x * size) z))
+  pub clusters_some : (len : ℕ) → len ≢ 0 → clusters_for size len ≢ 0
+  clusters_some len n z = n (omega (arith, clusters_hold len, ap (λ (x : ℕ). x * size) z))

@@ -35,19 +35,19 @@ member-none x (y ∷ l) h = simp (ne_eqb y x (h 0 (zero-lt-suc _))) (member-none
 -- ---- a test of every unit, from unit i on
 
 module _ (p : ℕ → Bool) (l : List ℕ) (i : ℕ) where
-  every-from : i < length l → every p (drop i l) ≡ p (get_or l i 0) && every p (drop (i + 1) l)
+  every_from : i < length l → every p (drop i l) ≡ p (get_or l i 0) && every p (drop (i + 1) l)
   unfolding every
-  every-from h = rw (add-one, drop-cons l i 0 h)
+  every_from h = rw (add-one, drop-cons l i 0 h)
 
-  pub every-stop : i < length l → p (get_or l i 0) ≡ false → every p (drop i l) ≡ false
-  every-stop h e = every-from h ∙ rw e refl
+  pub every_stop : i < length l → p (get_or l i 0) ≡ false → every p (drop i l) ≡ false
+  every_stop h e = every_from h ∙ rw e refl
 
   pub every-step : i < length l → p (get_or l i 0) ≡ true → every p (drop i l) ≡ every p (drop (i + 1) l)
-  every-step h e = every-from h ∙ rw e refl
+  every-step h e = every_from h ∙ rw e refl
 
-  pub every-end : i ≡ length l → every p (drop i l) ≡ true
+  pub every_end : i ≡ length l → every p (drop i l) ≡ true
   unfolding every
-  every-end e = rw (e, drop-length) refl
+  every_end e = rw (e, drop-length) refl
 
 -- ---- a unit, a name, attributes
 

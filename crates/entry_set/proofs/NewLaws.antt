@@ -13,7 +13,7 @@ use Rattle.entry_set.specs.declared.stamp.Stamps.{Stamps}
 use Rattle.entry_set.specs.Fields.{name_entries}
 use Rattle.entry_set.specs.Put.{put_created, put_modified}
 use Rattle.entry_set.specs.New.{new_file_entry, new_stream_entry, put_types, unit_at, put_units}
-use Rattle.entry_set.proofs.PutLaws.{length-created, length-modified, length-accessed, created-off, modified-off, accessed-off, length-stream, stream-off, stream-flags, stream-valid, stream-first, stream-length}
+use Rattle.entry_set.proofs.PutLaws.{length_created, length_modified, length_accessed, created_off, modified_off, accessed_off, length_stream, stream_off, stream_flags, stream_valid, stream_first, stream_length}
 
 -- ---- the file entry
 
@@ -23,41 +23,41 @@ module _ (s : List ℕ) (n a : ℕ) (t : Stamps) where
 
   pub length-file : length (new_file_entry s n a t) ≡ length s
   unfolding new_file_entry
-  length-file = simp (length-accessed, length-modified, length-created, length_put, length-set)
+  length-file = simp (length_accessed, length_modified, length_created, length_put, length-set)
 
-  stamps-off : (j : ℕ) → (8 ≤ j → j < 25 → ⊥) → get_or (new_file_entry s n a t) j 0 ≡ get_or (put_le 2 stored 4 a) j 0
+  stamps_off : (j : ℕ) → (8 ≤ j → j < 25 → ⊥) → get_or (new_file_entry s n a t) j 0 ≡ get_or (put_le 2 stored 4 a) j 0
   unfolding new_file_entry
-  stamps-off j h =
+  stamps_off j h =
       let p = put_le 2 stored 4 a in
-      accessed-off (put_modified (put_created p t.created) t.modified) t.accessed j h
-      ∙ modified-off (put_created p t.created) t.modified j h
-      ∙ created-off p t.created j h
+      accessed_off (put_modified (put_created p t.created) t.modified) t.accessed j h
+      ∙ modified_off (put_created p t.created) t.modified j h
+      ∙ created_off p t.created j h
 
-  pub file-off : (j : ℕ) → 25 ≤ j → get_or (new_file_entry s n a t) j 0 ≡ get_or s j 0
-  file-off j h =
-      stamps-off j (λ x y. omega arith)
+  pub file_off : (j : ℕ) → 25 ≤ j → get_or (new_file_entry s n a t) j 0 ≡ get_or s j 0
+  file_off j h =
+      stamps_off j (λ x y. omega arith)
       ∙ put_off 2 stored 4 a j (λ r b e. omega arith)
       ∙ get_or-set_other (set s 0 0x85) 1 j (1 + name_entries n) 0 (λ e. omega arith)
       ∙ get_or-set_other s 0 j 0x85 0 (λ e. omega arith)
 
   pub file_type : 64 ≤ length s → get_or (new_file_entry s n a t) 0 0 ≡ 0x85
   file_type h =
-      stamps-off 0 (λ x y. omega arith)
+      stamps_off 0 (λ x y. omega arith)
       ∙ put_off 2 stored 4 a 0 (λ r b e. omega arith)
       ∙ get_or-set_other (set s 0 0x85) 1 0 (1 + name_entries n) 0 (λ e. omega arith)
       ∙ get_or-set_same s 0 0x85 0 (omega arith)
 
   pub file-count : 64 ≤ length s → get_or (new_file_entry s n a t) 1 0 ≡ 1 + name_entries n
   file-count h =
-      stamps-off 1 (λ x y. omega arith)
+      stamps_off 1 (λ x y. omega arith)
       ∙ put_off 2 stored 4 a 1 (λ r b e. omega arith)
       ∙ get_or-set_same (set s 0 0x85) 1 (1 + name_entries n) 0 (simp length-set (omega arith))
 
   -- the low byte of the attributes
-  pub file-attributes : 64 ≤ length s → get_or (new_file_entry s n a t) 4 0 ≡ a % 256
+  pub file_attributes : 64 ≤ length s → get_or (new_file_entry s n a t) 4 0 ≡ a % 256
   unfolding put_le
-  file-attributes h =
-      stamps-off 4 (λ x y. omega arith)
+  file_attributes h =
+      stamps_off 4 (λ x y. omega arith)
       ∙ get_or-set_other (set stored 4 (a / 1 % 256)) 5 4 (a / 256 % 256) 0 (λ e. omega arith)
       ∙ get_or-set_same stored 4 (a / 1 % 256) 0 (simp length-set (omega arith))
       ∙ (omega arith)
@@ -68,51 +68,51 @@ module _ (s : List ℕ) (n hash : ℕ) where
   abbrev typed : List ℕ
   typed = set (set s 32 0xC0) 35 n
 
-  length-typed : length (put_le 2 typed 36 hash) ≡ length s
-  length-typed = simp (length_put, length-set)
+  length_typed : length (put_le 2 typed 36 hash) ≡ length s
+  length_typed = simp (length_put, length-set)
 
-  pub length-extension : length (new_stream_entry s n hash) ≡ length s
+  pub length_extension : length (new_stream_entry s n hash) ≡ length s
   unfolding new_stream_entry
-  length-extension = simp (length-stream, length_put, length-set)
+  length_extension = simp (length_stream, length_put, length-set)
 
-  pub extension-off : (j : ℕ) → (32 ≤ j → j < 64 → ⊥) → get_or (new_stream_entry s n hash) j 0 ≡ get_or s j 0
+  pub extension_off : (j : ℕ) → (32 ≤ j → j < 64 → ⊥) → get_or (new_stream_entry s n hash) j 0 ≡ get_or s j 0
   unfolding new_stream_entry
-  extension-off j h =
-      stream-off (put_le 2 typed 36 hash) 0 false 0 0 j (λ e. h (omega arith) (omega arith)) (λ x y. h (omega arith) y)
+  extension_off j h =
+      stream_off (put_le 2 typed 36 hash) 0 false 0 0 j (λ e. h (omega arith) (omega arith)) (λ x y. h (omega arith) y)
       ∙ put_off 2 typed 36 hash j (λ r b e. h (omega arith) (omega arith))
       ∙ get_or-set_other (set s 32 0xC0) 35 j n 0 (λ e. h (omega arith) (omega arith))
       ∙ get_or-set_other s 32 j 0xC0 0 (λ e. h (omega arith) (omega arith))
 
-  pub extension-type : 64 ≤ length s → get_or (new_stream_entry s n hash) 32 0 ≡ 0xC0
+  pub extension_type : 64 ≤ length s → get_or (new_stream_entry s n hash) 32 0 ≡ 0xC0
   unfolding new_stream_entry
-  extension-type h =
-      stream-off (put_le 2 typed 36 hash) 0 false 0 0 32 (λ e. omega arith) (λ x y. omega arith)
+  extension_type h =
+      stream_off (put_le 2 typed 36 hash) 0 false 0 0 32 (λ e. omega arith) (λ x y. omega arith)
       ∙ put_off 2 typed 36 hash 32 (λ r b e. omega arith)
       ∙ get_or-set_other (set s 32 0xC0) 35 32 n 0 (λ e. omega arith)
       ∙ get_or-set_same s 32 0xC0 0 (omega arith)
 
-  pub extension-name : 64 ≤ length s → get_or (new_stream_entry s n hash) 35 0 ≡ n
+  pub extension_name : 64 ≤ length s → get_or (new_stream_entry s n hash) 35 0 ≡ n
   unfolding new_stream_entry
-  extension-name h =
-      stream-off (put_le 2 typed 36 hash) 0 false 0 0 35 (λ e. omega arith) (λ x y. omega arith)
+  extension_name h =
+      stream_off (put_le 2 typed 36 hash) 0 false 0 0 35 (λ e. omega arith) (λ x y. omega arith)
       ∙ put_off 2 typed 36 hash 35 (λ r b e. omega arith)
       ∙ get_or-set_same (set s 32 0xC0) 35 n 0 (simp length-set (omega arith))
 
-  pub extension-flags : 64 ≤ length s → get_or (new_stream_entry s n hash) 33 0 ≡ 1
+  pub extension_flags : 64 ≤ length s → get_or (new_stream_entry s n hash) 33 0 ≡ 1
   unfolding new_stream_entry
-  extension-flags h = stream-flags (put_le 2 typed 36 hash) 0 false 0 0 (omega (arith, length-typed))
+  extension_flags h = stream_flags (put_le 2 typed 36 hash) 0 false 0 0 (omega (arith, length_typed))
 
-  pub extension-valid : 64 ≤ length s → get_le 8 (new_stream_entry s n hash) 40 ≡ 0
+  pub extension_valid : 64 ≤ length s → get_le 8 (new_stream_entry s n hash) 40 ≡ 0
   unfolding new_stream_entry
-  extension-valid h = stream-valid (put_le 2 typed 36 hash) 0 false 0 0 (omega (arith, length-typed))
+  extension_valid h = stream_valid (put_le 2 typed 36 hash) 0 false 0 0 (omega (arith, length_typed))
 
-  pub extension-first : 64 ≤ length s → get_le 4 (new_stream_entry s n hash) 52 ≡ 0
+  pub extension_first : 64 ≤ length s → get_le 4 (new_stream_entry s n hash) 52 ≡ 0
   unfolding new_stream_entry
-  extension-first h = stream-first (put_le 2 typed 36 hash) 0 false 0 0 (omega (arith, length-typed))
+  extension_first h = stream_first (put_le 2 typed 36 hash) 0 false 0 0 (omega (arith, length_typed))
 
-  pub extension-length : 64 ≤ length s → get_le 8 (new_stream_entry s n hash) 56 ≡ 0
+  pub extension_length : 64 ≤ length s → get_le 8 (new_stream_entry s n hash) 56 ≡ 0
   unfolding new_stream_entry
-  extension-length h = stream-length (put_le 2 typed 36 hash) 0 false 0 0 (omega (arith, length-typed))
+  extension_length h = stream_length (put_le 2 typed 36 hash) 0 false 0 0 (omega (arith, length_typed))
 
 -- ---- the name entries
 

@@ -73,13 +73,13 @@ module _ (s : List ℕ) where
         named = eqb-false _ _ (not-true _ (and_right f g e₃));
       }
 
-  pub of-head : Head s → head_ok s ≡ true
+  pub of_head : Head s → head_ok s ≡ true
   unfolding head_ok
-  of-head h =
+  of_head h =
       rw (eq-eqb _ _ h.file, le-leb _ _ h.low, le-leb _ _ h.high, eq-eqb _ _ h.fits, ne_eqb _ _ h.named) refl
 
-  pub not-head : (Head s → ⊥) → head_ok s ≡ false
-  not-head n = not_so (head_ok s) (λ e. n (head_of e))
+  pub not_head : (Head s → ⊥) → head_ok s ≡ false
+  not_head n = not_so (head_ok s) (λ e. n (head_of e))
 
 -- all but the last test passed
 pub head_rest : (s : List ℕ) → entry_type s 0 ≡ 0x85 → 2 ≤ secondary_count s → secondary_count s ≤ 18
@@ -95,9 +95,9 @@ pub record StreamEntry (s : List ℕ) : Type 0 where
   pub possible : allocation_possible s ≡ true
 
 module _ (s : List ℕ) where
-  pub stream-of : stream_entry_ok s ≡ true → StreamEntry s
+  pub stream_of_lem : stream_entry_ok s ≡ true → StreamEntry s
   unfolding stream_entry_ok
-  stream-of e =
+  stream_of_lem e =
       let a = eqb (set_checksum s) (checksum s (32 * (1 + secondary_count s))) in
       let b = eqb (entry_type s 1) 0xC0 in
       let e₁ = and_right a (b && allocation_possible s) e in
@@ -107,12 +107,12 @@ module _ (s : List ℕ) where
         possible = and_right b (allocation_possible s) e₁;
       }
 
-  pub of-stream : StreamEntry s → stream_entry_ok s ≡ true
+  pub of_stream : StreamEntry s → stream_entry_ok s ≡ true
   unfolding stream_entry_ok
-  of-stream h = rw (eq-eqb _ _ h.sum, eq-eqb _ _ h.stream) h.possible
+  of_stream h = rw (eq-eqb _ _ h.sum, eq-eqb _ _ h.stream) h.possible
 
-  pub not-stream : (StreamEntry s → ⊥) → stream_entry_ok s ≡ false
-  not-stream n = not_so (stream_entry_ok s) (λ e. n (stream-of e))
+  pub not_stream : (StreamEntry s → ⊥) → stream_entry_ok s ≡ false
+  not_stream n = not_so (stream_entry_ok s) (λ e. n (stream_of_lem e))
 
 pub stream_rest : (s : List ℕ) → set_checksum s ≡ checksum s (32 * (1 + secondary_count s)) → entry_type s 1 ≡ 0xC0
     → stream_entry_ok s ≡ allocation_possible s
@@ -146,15 +146,15 @@ module _ (s : List ℕ) where
           let e₁ = and_right (names_ok s n) (a && b) e in
           record { name = eqb-true _ _ (and_left a b e₁); flags = eqb-true _ _ (and_right a b e₁) }
 
-  pub of-names : (n : ℕ) → ((i : ℕ) → i < n → NameEntry s i) → names_ok s n ≡ true
+  pub of_names : (n : ℕ) → ((i : ℕ) → i < n → NameEntry s i) → names_ok s n ≡ true
   unfolding names_ok
-  of-names zero h = refl
-  of-names (suc n) h =
+  of_names zero h = refl
+  of_names (suc n) h =
       let l = h n (omega arith) in
-      rw (of-names n (λ i b. h i (omega arith)), eq-eqb _ _ l.name, eq-eqb _ _ l.flags) refl
+      rw (of_names n (λ i b. h i (omega arith)), eq-eqb _ _ l.name, eq-eqb _ _ l.flags) refl
 
-  pub not-names : (n i : ℕ) → i < n → (NameEntry s i → ⊥) → names_ok s n ≡ false
-  not-names n i h d = not_so (names_ok s n) (λ e. d (names_of n e i h))
+  pub not_names : (n i : ℕ) → i < n → (NameEntry s i → ⊥) → names_ok s n ≡ false
+  not_names n i h d = not_so (names_ok s n) (λ e. d (names_of n e i h))
 
 -- ---- the lengths
 
@@ -166,9 +166,9 @@ pub record Lengths (C size : ℕ) (s : List ℕ) : Type 0 where
   pub run : (data_length s ≡ 0 → ⊥) → no_fat_chain s ≡ true → first_cluster s + clusters_for size (data_length s) ≤ C + 2
 
 module _ (C size : ℕ) (s : List ℕ) where
-  pub lengths-of : lengths_ok C size s ≡ true → Lengths C size s
+  pub lengths_of : lengths_ok C size s ≡ true → Lengths C size s
   unfolding lengths_ok
-  lengths-of e =
+  lengths_of e =
       let v = leb (valid_length s) (data_length s) in
       let z = eqb (data_length s) 0 in
       let a = eqb (first_cluster s) 0 in
@@ -189,9 +189,9 @@ module _ (C size : ℕ) (s : List ℕ) where
         run = λ q t. leb-true _ _ (rw t at (and_right k (not r || l) (more q)));
       }
 
-  pub of-lengths : Lengths C size s → lengths_ok C size s ≡ true
+  pub of_lengths : Lengths C size s → lengths_ok C size s ≡ true
   unfolding lengths_ok
-  of-lengths h =
+  of_lengths h =
       rw (le-leb _ _ h.valid)
       (elim (ℕ_discrete (data_length s) 0) [
         | yes z ↦ rw (eq-eqb _ _ z, eq-eqb _ _ (h.empty z).0, (h.empty z).1) refl
@@ -206,13 +206,13 @@ module _ (C size : ℕ) (s : List ℕ) where
 -- ---- the lengths as the code tests them
 
 module _ (C size : ℕ) (s : List ℕ) where
-  pub lengths-over : data_length s < valid_length s → lengths_ok C size s ≡ false
+  pub lengths_over : data_length s < valid_length s → lengths_ok C size s ≡ false
   unfolding lengths_ok
-  lengths-over h = rw (lt-leb _ _ h) refl
+  lengths_over h = rw (lt-leb _ _ h) refl
 
-  pub lengths-empty : valid_length s ≤ data_length s → data_length s ≡ 0 → lengths_ok C size s ≡ eqb (first_cluster s) 0 && not (no_fat_chain s)
+  pub lengths_empty : valid_length s ≤ data_length s → data_length s ≡ 0 → lengths_ok C size s ≡ eqb (first_cluster s) 0 && not (no_fat_chain s)
   unfolding lengths_ok
-  lengths-empty h z = rw (le-leb _ _ h, eq-eqb _ _ z) refl
+  lengths_empty h z = rw (le-leb _ _ h, eq-eqb _ _ z) refl
 
   pub lengths_some : valid_length s ≤ data_length s → (data_length s ≡ 0 → ⊥)
       → lengths_ok C size s
@@ -230,42 +230,42 @@ pub record WellFormed (C size : ℕ) (s : List ℕ) : Type 0 where
   pub lengths : Lengths C size s
 
 module _ (C size : ℕ) (s : List ℕ) where
-  pub formed-of : well_formed C size s ≡ true → WellFormed C size s
+  pub formed_of : well_formed C size s ≡ true → WellFormed C size s
   unfolding well_formed
-  formed-of e =
+  formed_of e =
       let n = names_ok s (name_entries (name_length s)) in
       let l = lengths_ok C size s in
       let e₁ = and_right (head_ok s) (stream_entry_ok s && (n && l)) e in
       let e₂ = and_right (stream_entry_ok s) (n && l) e₁ in
       record {
         head = head_of s (and_left (head_ok s) (stream_entry_ok s && (n && l)) e);
-        stream = stream-of s (and_left (stream_entry_ok s) (n && l) e₁);
+        stream = stream_of_lem s (and_left (stream_entry_ok s) (n && l) e₁);
         names = names_of s (name_entries (name_length s)) (and_left n l e₂);
-        lengths = lengths-of C size s (and_right n l e₂);
+        lengths = lengths_of C size s (and_right n l e₂);
       }
 
-  pub of-formed : WellFormed C size s → well_formed C size s ≡ true
+  pub of_formed : WellFormed C size s → well_formed C size s ≡ true
   unfolding well_formed
-  of-formed h =
-      rw (of-head s h.head, of-stream s h.stream, of-names s (name_entries (name_length s)) h.names) (of-lengths C size s h.lengths)
+  of_formed h =
+      rw (of_head s h.head, of_stream s h.stream, of_names s (name_entries (name_length s)) h.names) (of_lengths C size s h.lengths)
 
 -- ---- the conditions as the code tests them, one after the other
 
 module _ (C size : ℕ) (s : List ℕ) where
-  pub formed-head : head_ok s ≡ false → well_formed C size s ≡ false
+  pub formed_head : head_ok s ≡ false → well_formed C size s ≡ false
   unfolding well_formed
-  formed-head e = rw e refl
+  formed_head e = rw e refl
 
-  pub formed-stream : head_ok s ≡ true → stream_entry_ok s ≡ false → well_formed C size s ≡ false
+  pub formed_stream : head_ok s ≡ true → stream_entry_ok s ≡ false → well_formed C size s ≡ false
   unfolding well_formed
-  formed-stream h e = rw (h, e) refl
+  formed_stream h e = rw (h, e) refl
 
-  pub formed-names : (n : ℕ) → n ≡ name_entries (name_length s) → head_ok s ≡ true → stream_entry_ok s ≡ true → names_ok s n ≡ false
+  pub formed_names : (n : ℕ) → n ≡ name_entries (name_length s) → head_ok s ≡ true → stream_entry_ok s ≡ true → names_ok s n ≡ false
       → well_formed C size s ≡ false
   unfolding well_formed
-  formed-names n q h t e = rw (h, t, ← q, e) refl
+  formed_names n q h t e = rw (h, t, ← q, e) refl
 
-  pub formed-rest : (n : ℕ) → n ≡ name_entries (name_length s) → head_ok s ≡ true → stream_entry_ok s ≡ true → names_ok s n ≡ true
+  pub formed_rest : (n : ℕ) → n ≡ name_entries (name_length s) → head_ok s ≡ true → stream_entry_ok s ≡ true → names_ok s n ≡ true
       → well_formed C size s ≡ lengths_ok C size s
   unfolding well_formed
-  formed-rest n q h t e = rw (h, t, ← q, e) refl
+  formed_rest n q h t e = rw (h, t, ← q, e) refl

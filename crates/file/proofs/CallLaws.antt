@@ -1,7 +1,7 @@
 -- What the file calls begin with: the root, and a refusal. Assumes nothing.
 use Rattle.std.proofs.Common.{◌≡◌, ℕ, Bool, true, false, cond, not, List, [], ◌∷◌, sym, refl, ◌∙◌, arith}
 use Rattle.tables.specs.Lists.{every}
-use Rattle.tables.proofs.ListLaws.{every-mem, mem-every}
+use Rattle.tables.proofs.ListLaws.{every_mem, mem_every}
 use Rattle.boot.specs.declared.layout.Layout.{Layout}
 use Rattle.boot.specs.Layout.{in_heap, is_bitmap_cluster}
 use Rattle.tables.proofs.Cases.{and_both}
@@ -9,7 +9,7 @@ use Rattle.boot.proofs.CauseLaws.{cause_last, cause_none}
 use Rattle.metadata.proofs.View.{plain}
 use Rattle.stream.specs.declared.allocation.Allocation.{Allocation}
 use Rattle.stream.specs.Stream.{number_of, stream_of, clusters_of, clusters_in}
-use Rattle.stream.proofs.ListingLaws.{stream-read}
+use Rattle.stream.proofs.ListingLaws.{stream_read}
 use Rattle.directory.specs.Directory.{bitmap_cause, directory_cause}
 use Rattle.file.specs.declared.answer.FileAnswer.{FileAnswer}
 use Rattle.file.specs.Outcome.{refuse}
@@ -17,12 +17,12 @@ use Rattle.file.specs.Outcome.{refuse}
 -- ---- a directory that opens
 
 module _ (y : Layout) (d : List ℕ) (a : Allocation) (e : directory_cause y d a ≡ 0) where
-  pub directory-reads : number_of (stream_of y d a) ≡ 0
-  directory-reads = (cause_none (number_of (stream_of y d a)) (bitmap_cause y (clusters_of (stream_of y d a)) ∷ []) (unfold directory_cause in e)).0
+  pub directory_reads : number_of (stream_of y d a) ≡ 0
+  directory_reads = (cause_none (number_of (stream_of y d a)) (bitmap_cause y (clusters_of (stream_of y d a)) ∷ []) (unfold directory_cause in e)).0
 
-  no-bitmap : bitmap_cause y (clusters_in y d a) ≡ 0
+  no_bitmap : bitmap_cause y (clusters_in y d a) ≡ 0
   unfolding clusters_in
-  no-bitmap =
+  no_bitmap =
       let b = bitmap_cause y (clusters_of (stream_of y d a)) in
       sym (cause_last b) ∙ (cause_none (number_of (stream_of y d a)) (b ∷ []) (unfold directory_cause in e)).1
 
@@ -31,14 +31,14 @@ module _ (y : Layout) (d : List ℕ) (a : Allocation) (e : directory_cause y d a
   if_clear false q = absurd (omega arith)
 
   -- its clusters are no bitmap's
-  pub directory-plain : every (plain y) (clusters_in y d a) ≡ true
+  pub directory_plain : every (plain y) (clusters_in y d a) ≡ true
   unfolding plain bitmap_cause
-  directory-plain =
-      let off = if_clear (every (λ k. not (is_bitmap_cluster y k)) (clusters_in y d a)) (unfold bitmap_cause in no-bitmap) in
-      let heap : every (in_heap y.count) (clusters_in y d a) ≡ true = unfold clusters_in in (stream-read y d a directory-reads).heap in
-      mem-every _ (clusters_in y d a)
-      (λ k i. and_both (in_heap y.count k) (not (is_bitmap_cluster y k)) (every-mem (in_heap y.count) (clusters_in y d a) heap k i)
-      (every-mem (λ k. not (is_bitmap_cluster y k)) (clusters_in y d a) off k i))
+  directory_plain =
+      let off = if_clear (every (λ k. not (is_bitmap_cluster y k)) (clusters_in y d a)) (unfold bitmap_cause in no_bitmap) in
+      let heap : every (in_heap y.count) (clusters_in y d a) ≡ true = unfold clusters_in in (stream_read y d a directory_reads).heap in
+      mem_every _ (clusters_in y d a)
+      (λ k i. and_both (in_heap y.count k) (not (is_bitmap_cluster y k)) (every_mem (in_heap y.count) (clusters_in y d a) heap k i)
+      (every_mem (λ k. not (is_bitmap_cluster y k)) (clusters_in y d a) off k i))
 
 -- ---- a refusal
 

@@ -5,7 +5,7 @@ use mathlib.Core.Bool.{false≢true}
 use Rattle.tables.specs.Lists.{Mem, every}
 use Rattle.tables.specs.Count.{count}
 use Rattle.tables.proofs.Cases.{not_so, and_both}
-use Rattle.tables.proofs.ListLaws.{every-mem, mem-every, mem_append}
+use Rattle.tables.proofs.ListLaws.{every_mem, mem_every, mem_append}
 use Rattle.boot.specs.declared.layout.Layout.{Layout}
 use Rattle.boot.specs.Limits.{in_map}
 use Rattle.boot.specs.Layout.{in_heap, is_bitmap_cluster}
@@ -13,26 +13,26 @@ use Rattle.metadata.specs.Usable.{is_usable}
 use Rattle.metadata.proofs.Frame.{Fits}
 use Rattle.metadata.proofs.View.{plain}
 use Rattle.metadata.proofs.Counting.{usable_facts}
-use Rattle.metadata.proofs.Keeps.{Keeps, Went, went-none}
+use Rattle.metadata.proofs.Keeps.{Keeps, Went, went_none}
 use Rattle.stream.specs.declared.allocation.Allocation.{Allocation}
 use Rattle.stream.specs.Chain.{Clusters}
 use Rattle.stream.specs.Stream.{number_of, stream_of, clusters_of, clusters_in}
 use Rattle.stream.specs.Bytes.{store_at}
-use Rattle.stream.proofs.ListingLaws.{stream-read}
+use Rattle.stream.proofs.ListingLaws.{stream_read}
 use Rattle.stream.proofs.KeepLaws.{store_on, stream_store}
 use Rattle.entry_set.specs.declared.stamp.Stamp.{Stamp}
 use Rattle.entry_set.specs.Fields.{valid_length, data_length}
 use Rattle.write_alloc.specs.Outcome as alloc
 use Rattle.write_alloc.proofs.KeepLaws.{Taking}
 use Rattle.write_extend.specs.Extend.{extend_in}
-use Rattle.write_extend.proofs.EnoughLaws.{Extended, extend-done}
-use Rattle.write_extend.proofs.KeepLaws.{extend-on}
+use Rattle.write_extend.proofs.EnoughLaws.{Extended, extend_done}
+use Rattle.write_extend.proofs.KeepLaws.{extend_on}
 use Rattle.directory.specs.Directory.{directory_cause}
 use Rattle.file.specs.Outcome.{carried}
 use Rattle.directory.specs.Open.{file_record}
 use Rattle.file.specs.Refresh.{stored, refreshed_only}
 use Rattle.file.proofs.RefreshLaws.{stream_is}
-use Rattle.file.proofs.CallLaws.{directory-plain}
+use Rattle.file.proofs.CallLaws.{directory_plain}
 
 -- directory a opens in a volume in the limits, and its clusters and the usable ones may be stored to
 pub record DirectoryOwn (y : Layout) (P : ℕ → Type 0) (d m : List ℕ) (a : Allocation) : Type 0 where
@@ -54,25 +54,25 @@ pub own_after : (y : Layout) (P : ℕ → Type 0) (d m : List ℕ) (a : Allocati
 own_after y P d m a r b f at bs k q =
     f.own k
     (unfold clusters_in in
-    (subst (λ (c : Clusters). Mem k (clusters_of c)) (stream_store y d r.fits (clusters_in y d a) (directory-plain y d a r.opens) at bs b f.reads) q))
+    (subst (λ (c : Clusters). Mem k (clusters_of c)) (stream_store y d r.fits (clusters_in y d a) (directory_plain y d a r.opens) at bs b f.reads) q))
 
 module _ (y : Layout) (P : ℕ → Type 0) (K : List ℕ → List ℕ → Type 0) (s : Keeps y P K) (d m : List ℕ) (a : Allocation) (r : DirectoryOwn y P d m a) where
-  pub own-start : Went y K d d
-  own-start = went-none y P K s d r.fits
+  pub own_start : Went y K d d
+  own_start = went_none y P K s d r.fits
 
   -- bytes stored in the directory
-  pub entries-on : (v : List ℕ) → Went y K d v → (at : ℕ) (bs : List ℕ) → Went y K d (store_at y v (clusters_in y d a) at bs)
-  entries-on v w at bs = store_on y P K s d v w (clusters_in y d a) (directory-plain y d a r.opens) r.own at bs
+  pub entries_on : (v : List ℕ) → Went y K d v → (at : ℕ) (bs : List ℕ) → Went y K d (store_at y v (clusters_in y d a) at bs)
+  entries_on v w at bs = store_on y P K s d v w (clusters_in y d a) (directory_plain y d a r.opens) r.own at bs
 
   -- a set stored
   pub stored_on : (v : List ℕ) → Went y K d v → (i : ℕ) (x : List ℕ) (c : Allocation) (valid len : ℕ) (t : Stamp)
       → Went y K d (stored y v (clusters_in y d a) i x c valid len t)
   unfolding stored
-  stored_on v w i x c valid len t = entries-on v w _ _
+  stored_on v w i x c valid len t = entries_on v w _ _
 
-  pub refreshed-on : (i : ℕ) (x : List ℕ) (t : Stamp) (hint : ℕ) → Went y K d (refreshed_only y d a i x t hint).volume
+  pub refreshed_on : (i : ℕ) (x : List ℕ) (t : Stamp) (hint : ℕ) → Went y K d (refreshed_only y d a i x t hint).volume
   unfolding refreshed_only carried
-  refreshed-on i x t hint = stored_on d own-start i x (file_record y d x) (valid_length x) (data_length x) t
+  refreshed_on i x t hint = stored_on d own_start i x (file_record y d x) (valid_length x) (data_length x) t
 
   -- a cluster of the heap off the map is no bitmap's
   plain_off_map : (k : ℕ) → in_heap y.count k ≡ true → in_map m k ≡ false → plain y k ≡ true
@@ -89,31 +89,31 @@ module _ (y : Layout) (P : ℕ → Type 0) (K : List ℕ → List ℕ → Type 0
     abbrev js : List ℕ
     js = clusters_in y (extend_in y d m b n hint).volume (extend_in y d m b n hint).answer.allocation
 
-    abbrev old-list : List ℕ
-    old-list = clusters_of (stream_of y d b)
+    abbrev old_list : List ℕ
+    old_list = clusters_of (stream_of y d b)
 
-    took : Extended y d m o old-list n
-    took = extend-done y d m r.fits b old-list (stream_is y d b f.reads) n hint hint_in enough
+    took : Extended y d m o old_list n
+    took = extend_done y d m r.fits b old_list (stream_is y d b f.reads) n hint hint_in enough
 
-    pub longer-on : Went y K d (extend_in y d m b n hint).volume
-    longer-on = extend-on y P K s d m d own-start r.usable b f.reads (λ k i. f.own k (unfold clusters_in in i)) n hint hint_in enough
+    pub longer_on : Went y K d (extend_in y d m b n hint).volume
+    longer_on = extend_on y P K s d m d own_start r.usable b f.reads (λ k i. f.own k (unfold clusters_in in i)) n hint hint_in enough
 
     -- its clusters: those that it had, and then usable ones
-    each-js : (Q : ℕ → Type 0) → ((k : ℕ) → Mem k (clusters_in y d b) → Q k) → ((k : ℕ) → in_heap y.count k ≡ true → is_usable y d m k ≡ true → Q k)
+    each_js : (Q : ℕ → Type 0) → ((k : ℕ) → Mem k (clusters_in y d b) → Q k) → ((k : ℕ) → in_heap y.count k ≡ true → is_usable y d m k ≡ true → Q k)
         → (k : ℕ) → Mem k js → Q k
     unfolding clusters_in
-    each-js Q old new k i =
+    each_js Q old new k i =
         ⊎_elim (old k)
-        (λ q. new k (every-mem (in_heap y.count) took.new took.grows.fresh.heap k q) (every-mem (is_usable y d m) took.new took.grows.fresh.usable k q))
-        (mem_append old-list (subst (Mem k) (ap clusters_of took.grows.reads) i))
+        (λ q. new k (every_mem (in_heap y.count) took.new took.grows.fresh.heap k q) (every_mem (is_usable y d m) took.new took.grows.fresh.usable k q))
+        (mem_append old_list (subst (Mem k) (ap clusters_of took.grows.reads) i))
 
-    js-plain : every (plain y) js ≡ true
-    js-plain =
-        mem-every (plain y) js
-        (each-js (λ k. plain y k ≡ true)
-        (λ k i. plain_off_map k (every-mem (in_heap y.count) old-list (stream-read y d b f.reads).heap k (unfold clusters_in in i)) (f.off k i))
+    js_plain : every (plain y) js ≡ true
+    js_plain =
+        mem_every (plain y) js
+        (each_js (λ k. plain y k ≡ true)
+        (λ k i. plain_off_map k (every_mem (in_heap y.count) old_list (stream_read y d b f.reads).heap k (unfold clusters_in in i)) (f.off k i))
         (λ k h e. plain_off_map k h (usable_facts y d m k e).1))
 
-    pub data-on : (v : List ℕ) → Went y K d v → (at : ℕ) (bs : List ℕ)
+    pub data_on : (v : List ℕ) → Went y K d v → (at : ℕ) (bs : List ℕ)
         → Went y K d (store_at y v (clusters_in y (extend_in y d m b n hint).volume (extend_in y d m b n hint).answer.allocation) at bs)
-    data-on v w at bs = store_on y P K s d v w js js-plain (each-js P f.own r.usable) at bs
+    data_on v w at bs = store_on y P K s d v w js js_plain (each_js P f.own r.usable) at bs

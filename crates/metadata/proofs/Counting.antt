@@ -21,8 +21,8 @@ use Rattle.boot.proofs.Apart.{in_heap_lem}
 use Rattle.metadata.specs.Fat.{BAD, fat_entry, set_fat}
 use Rattle.metadata.specs.Marks.{mark_byte, marked, set_mark, allocated_count, free_count}
 use Rattle.metadata.specs.Usable.{is_free, is_usable}
-use Rattle.metadata.proofs.Frame.{Fits, fat-fat-other, mark-fat, mark-mark-other, fat-mark}
-use Rattle.metadata.proofs.Stores.{usable-not-free, free-marked}
+use Rattle.metadata.proofs.Frame.{Fits, fat_fat_other, mark_fat, mark_mark_other, fat_mark}
+use Rattle.metadata.proofs.Stores.{usable-not_free, free_marked}
 
 -- how many clusters are marked, and how many may be taken
 unfoldable pub marked_count : Layout → List ℕ → ℕ
@@ -62,31 +62,31 @@ free_is_unmarked y d = omega (arith, allocated_is y d, count_le (marked y d) 2 y
 -- ---- a store's effect on the counts
 
 module _ (y : Layout) (d : List ℕ) (w : Fits y d) where
-  pub fat-counts : (k v : ℕ) → k < y.count + 2 → marked_count y (set_fat y d k v) ≡ marked_count y d
+  pub fat_counts : (k v : ℕ) → k < y.count + 2 → marked_count y (set_fat y d k v) ≡ marked_count y d
   unfolding marked_count
-  fat-counts k v h = count_cong (marked y d) (marked y (set_fat y d k v)) 2 y.count (λ j l b. mark-fat y d w k v j h)
+  fat_counts k v h = count_cong (marked y d) (marked y (set_fat y d k v)) 2 y.count (λ j l b. mark_fat y d w k v j h)
 
   -- ---- and on which clusters may be taken
 
-  pub usable-mark-other : (m : List ℕ) (k : ℕ) (on : Bool) (j : ℕ) → in_heap y.count k ≡ true → in_heap y.count j ≡ true → j ≢ k
+  pub usable_mark_other : (m : List ℕ) (k : ℕ) (on : Bool) (j : ℕ) → in_heap y.count k ≡ true → in_heap y.count j ≡ true → j ≢ k
       → is_usable y (set_mark y d k on) m j ≡ is_usable y d m j
   unfolding is_usable is_free
-  usable-mark-other m k on j h i n = rw (mark-mark-other y d w k on j h i n, fat-mark y d w k on j (in_heap_lem y.count j i).1) refl
+  usable_mark_other m k on j h i n = rw (mark_mark_other y d w k on j h i n, fat_mark y d w k on j (in_heap_lem y.count j i).1) refl
 
-  pub usable-fat-other : (m : List ℕ) (k v j : ℕ) → k < y.count + 2 → j < y.count + 2 → j ≢ k
+  pub usable_fat_other : (m : List ℕ) (k v j : ℕ) → k < y.count + 2 → j < y.count + 2 → j ≢ k
       → is_usable y (set_fat y d k v) m j ≡ is_usable y d m j
   unfolding is_usable is_free
-  usable-fat-other m k v j h i n = rw (mark-fat y d w k v j h, fat-fat-other y d w k v j h i n) refl
+  usable_fat_other m k v j h i n = rw (mark_fat y d w k v j h, fat_fat_other y d w k v j h i n) refl
 
   -- the entry of a marked cluster does not matter: it may not be taken, before or after
-  pub usable-fat-marked : (m : List ℕ) (k v j : ℕ) → k < y.count + 2 → marked y d k ≡ true → j < y.count + 2
+  pub usable_fat_marked : (m : List ℕ) (k v j : ℕ) → k < y.count + 2 → marked y d k ≡ true → j < y.count + 2
       → is_usable y (set_fat y d k v) m j ≡ is_usable y d m j
-  usable-fat-marked m k v j h e i =
+  usable_fat_marked m k v j h e i =
       elim (ℕ_discrete j k) [
         | yes q ↦ rw q
-            (usable-not-free y (set_fat y d k v) m k (free-marked y (set_fat y d k v) m k (mark-fat y d w k v k h ∙ e))
-            ∙ sym (usable-not-free y d m k (free-marked y d m k e)))
-        | no n ↦ usable-fat-other m k v j h i n
+            (usable-not_free y (set_fat y d k v) m k (free_marked y (set_fat y d k v) m k (mark_fat y d w k v k h ∙ e))
+            ∙ sym (usable-not_free y d m k (free_marked y d m k e)))
+        | no n ↦ usable_fat_other m k v j h i n
       ]
 
 -- ---- the usable clusters
@@ -107,7 +107,7 @@ usable_facts y d m k e =
 
 module _ (y : Layout) (d m : List ℕ) where
   -- never more than the free count says
-  pub usable-free : usable_count y d m ≤ free_count y d
+  pub usable_free : usable_count y d m ≤ free_count y d
   unfolding usable_count marked_count
-  usable-free =
+  usable_free =
       omega (arith, free_is_unmarked y d, count_split (is_usable y d m) (marked y d) 2 y.count (λ k e. (usable_facts y d m k e).0))

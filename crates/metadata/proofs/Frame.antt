@@ -16,16 +16,16 @@ use Rattle.primitives.specs.Words.{get_le, put_le}
 use Rattle.primitives.specs.Splice.{splice}
 use Rattle.primitives.proofs.BitLaws.{put_same, put_other}
 use Rattle.primitives.proofs.WordLaws.{length_put, put_off, get_same, get_put, get_put_below}
-use Rattle.primitives.proofs.SpliceLaws.{length-splice, splice-off}
+use Rattle.primitives.proofs.SpliceLaws.{length-splice, splice_off}
 use Rattle.boot.specs.declared.layout.Layout.{Layout}
 use Rattle.boot.specs.Geometry.{bitmap_bytes}
 use Rattle.boot.specs.Internal.{Laid, Apart}
 use Rattle.boot.specs.Layout.{cluster_at, in_heap, is_bitmap_cluster}
-use Rattle.boot.proofs.Apart.{in_heap_lem, cluster-start, cluster-end, cluster-cluster, bitmap0-cluster, bitmap1-cluster, bitmap-bitmap, fat-bitmap}
+use Rattle.boot.proofs.Apart.{in_heap_lem, cluster_start_lem, cluster_end, cluster_cluster, bitmap0_cluster, bitmap1_cluster, bitmap_bitmap, fat_bitmap}
 use Rattle.metadata.specs.Fat.{END, fat_entry, set_fat}
 use Rattle.metadata.specs.Marks.{mark_byte, marked, put_byte, set_mark}
 use Rattle.metadata.specs.Cluster.{cluster_byte, put_bytes}
-use Rattle.metadata.proofs.Stores.{fat-two, fat-one, byte-two, byte_one}
+use Rattle.metadata.proofs.Stores.{fat_two, fat_one, byte_two, byte_one}
 
 -- a volume that a layout fits
 pub record Fits (y : Layout) (d : List ℕ) : Type 0 where
@@ -48,189 +48,189 @@ by_two {P = P} y t f = go y.two refl
 -- ---- lengths
 
 module _ (y : Layout) (d : List ℕ) where
-  pub length-fat : (k v : ℕ) → length (set_fat y d k v) ≡ length d
-  length-fat k v =
-      by_two y (λ t. rw (fat-two y d k v t) (length_put 4 (put_le 4 d (y.fat0 + 4 * k) v) (y.fat1 + 4 * k) v ∙ length_put 4 d (y.fat0 + 4 * k) v))
-      (λ t. rw (fat-one y d k v t) (length_put 4 d (y.fat0 + 4 * k) v))
+  pub length_fat : (k v : ℕ) → length (set_fat y d k v) ≡ length d
+  length_fat k v =
+      by_two y (λ t. rw (fat_two y d k v t) (length_put 4 (put_le 4 d (y.fat0 + 4 * k) v) (y.fat1 + 4 * k) v ∙ length_put 4 d (y.fat0 + 4 * k) v))
+      (λ t. rw (fat_one y d k v t) (length_put 4 d (y.fat0 + 4 * k) v))
 
-  pub length-byte : (i b : ℕ) → length (put_byte y d i b) ≡ length d
-  length-byte i b = by_two y (λ t. rw (byte-two y d i b t) (simp length-set)) (λ t. rw (byte_one y d i b t) (simp length-set))
+  pub length_byte : (i b : ℕ) → length (put_byte y d i b) ≡ length d
+  length_byte i b = by_two y (λ t. rw (byte_two y d i b t) (simp length-set)) (λ t. rw (byte_one y d i b t) (simp length-set))
 
-  pub length-mark : (k : ℕ) (on : Bool) → length (set_mark y d k on) ≡ length d
+  pub length_mark : (k : ℕ) (on : Bool) → length (set_mark y d k on) ≡ length d
   unfolding set_mark
-  length-mark k on = length-byte ((k - 2) / 8) (put_bit (mark_byte y d k) ((k - 2) % 8) on)
+  length_mark k on = length_byte ((k - 2) / 8) (put_bit (mark_byte y d k) ((k - 2) % 8) on)
 
   -- ---- what a store leaves as it was, byte by byte
 
-  pub fat-out : (k v p : ℕ) → ((r : ℕ) → r < 4 → p ≡ y.fat0 + 4 * k + r → ⊥) → (y.two ≡ true → (r : ℕ) → r < 4 → p ≡ y.fat1 + 4 * k + r → ⊥)
+  pub fat_out : (k v p : ℕ) → ((r : ℕ) → r < 4 → p ≡ y.fat0 + 4 * k + r → ⊥) → (y.two ≡ true → (r : ℕ) → r < 4 → p ≡ y.fat1 + 4 * k + r → ⊥)
       → get_or (set_fat y d k v) p 0 ≡ get_or d p 0
-  fat-out k v p h i =
-      by_two y (λ t. rw (fat-two y d k v t) (put_off 4 (put_le 4 d (y.fat0 + 4 * k) v) (y.fat1 + 4 * k) v p (i t) ∙ put_off 4 d (y.fat0 + 4 * k) v p h))
-      (λ t. rw (fat-one y d k v t) (put_off 4 d (y.fat0 + 4 * k) v p h))
+  fat_out k v p h i =
+      by_two y (λ t. rw (fat_two y d k v t) (put_off 4 (put_le 4 d (y.fat0 + 4 * k) v) (y.fat1 + 4 * k) v p (i t) ∙ put_off 4 d (y.fat0 + 4 * k) v p h))
+      (λ t. rw (fat_one y d k v t) (put_off 4 d (y.fat0 + 4 * k) v p h))
 
-  pub byte-out : (i b p : ℕ) → p ≢ y.bitmap0 + i → (y.two ≡ true → p ≢ y.bitmap1 + i) → get_or (put_byte y d i b) p 0 ≡ get_or d p 0
-  byte-out i b p h j =
+  pub byte_out : (i b p : ℕ) → p ≢ y.bitmap0 + i → (y.two ≡ true → p ≢ y.bitmap1 + i) → get_or (put_byte y d i b) p 0 ≡ get_or d p 0
+  byte_out i b p h j =
       by_two y
-      (λ t. rw (byte-two y d i b t) (get_or-set_other (set d (y.bitmap0 + i) b) (y.bitmap1 + i) p b 0 (j t) ∙ get_or-set_other d (y.bitmap0 + i) p b 0 h))
+      (λ t. rw (byte_two y d i b t) (get_or-set_other (set d (y.bitmap0 + i) b) (y.bitmap1 + i) p b 0 (j t) ∙ get_or-set_other d (y.bitmap0 + i) p b 0 h))
       (λ t. rw (byte_one y d i b t) (get_or-set_other d (y.bitmap0 + i) p b 0 h))
 
 module _ (y : Layout) (d : List ℕ) (w : Fits y d) where
   -- the active FAT and bitmap are the first ones, or the second ones of two
-  pub by-active {ℓ} : {P : Type ℓ} → (y.fat ≡ y.fat0 → y.bitmap ≡ y.bitmap0 → P)
+  pub by_active {ℓ} : {P : Type ℓ} → (y.fat ≡ y.fat0 → y.bitmap ≡ y.bitmap0 → P)
       → (y.two ≡ true → y.fat ≡ y.fat1 → y.bitmap ≡ y.bitmap1 → P) → P
-  by-active f s = ⊎_elim (λ a. f a.0 a.1) (λ a. s a.0 a.1 a.2) w.apart.active
+  by_active f s = ⊎_elim (λ a. f a.0 a.1) (λ a. s a.0 a.1 a.2) w.apart.active
 
   -- ---- a FAT entry stored
 
   -- both FATs have the entry
-  fat-first : (k v : ℕ) → k < y.count + 2 → get_le 4 (set_fat y d k v) (y.fat0 + 4 * k) ≡ v % 256 ^ 4
-  fat-first k v h =
+  fat_first : (k v : ℕ) → k < y.count + 2 → get_le 4 (set_fat y d k v) (y.fat0 + 4 * k) ≡ v % 256 ^ 4
+  fat_first k v h =
       let l = w.laid in
       let n = w.long in
       by_two y
       (λ t. let f = w.apart.fats t in
-      rw (fat-two y d k v t)
+      rw (fat_two y d k v t)
       (get_put_below 4 4 (put_le 4 d (y.fat0 + 4 * k) v) (y.fat0 + 4 * k) (y.fat1 + 4 * k) v (omega arith) ∙ get_put 4 d (y.fat0 + 4 * k) v (omega arith)))
-      (λ t. rw (fat-one y d k v t) (get_put 4 d (y.fat0 + 4 * k) v (omega arith)))
+      (λ t. rw (fat_one y d k v t) (get_put 4 d (y.fat0 + 4 * k) v (omega arith)))
 
-  fat-second : (k v : ℕ) → k < y.count + 2 → y.two ≡ true → get_le 4 (set_fat y d k v) (y.fat1 + 4 * k) ≡ v % 256 ^ 4
-  fat-second k v h t =
+  fat_second : (k v : ℕ) → k < y.count + 2 → y.two ≡ true → get_le 4 (set_fat y d k v) (y.fat1 + 4 * k) ≡ v % 256 ^ 4
+  fat_second k v h t =
       let l = w.laid in
       let n = w.long in
-      rw (fat-two y d k v t) (get_put 4 (put_le 4 d (y.fat0 + 4 * k) v) (y.fat1 + 4 * k) v (omega (arith, length_put 4 d (y.fat0 + 4 * k) v)))
+      rw (fat_two y d k v t) (get_put 4 (put_le 4 d (y.fat0 + 4 * k) v) (y.fat1 + 4 * k) v (omega (arith, length_put 4 d (y.fat0 + 4 * k) v)))
 
-  pub fat-fat-same : (k v : ℕ) → k < y.count + 2 → v < 2 ^ 32 → fat_entry y (set_fat y d k v) k ≡ v
+  pub fat_fat_same : (k v : ℕ) → k < y.count + 2 → v < 2 ^ 32 → fat_entry y (set_fat y d k v) k ≡ v
   unfolding fat_entry
-  fat-fat-same k v h b =
+  fat_fat_same k v h b =
       let at : (x : ℕ) → y.fat ≡ x → get_le 4 (set_fat y d k v) (x + 4 * k) ≡ v % 256 ^ 4 → get_le 4 (set_fat y d k v) (y.fat + 4 * k) ≡ v
       = λ x e g. ap (λ (x : ℕ). get_le 4 (set_fat y d k v) (x + 4 * k)) e ∙ g ∙ mod-eq_of_lt b in
-      by-active (λ f _. at y.fat0 f (fat-first k v h)) (λ t f _. at y.fat1 f (fat-second k v h t))
+      by_active (λ f _. at y.fat0 f (fat_first k v h)) (λ t f _. at y.fat1 f (fat_second k v h t))
 
-  pub fat-fat-other : (k v j : ℕ) → k < y.count + 2 → j < y.count + 2 → j ≢ k → fat_entry y (set_fat y d k v) j ≡ fat_entry y d j
+  pub fat_fat_other : (k v j : ℕ) → k < y.count + 2 → j < y.count + 2 → j ≢ k → fat_entry y (set_fat y d k v) j ≡ fat_entry y d j
   unfolding fat_entry
-  fat-fat-other k v j h i n =
+  fat_fat_other k v j h i n =
       get_same 4 (set_fat y d k v) d (y.fat + 4 * j) (y.fat + 4 * j)
-      (λ r b. fat-out y d k v (y.fat + 4 * j + r)
-      (λ s c e. by-active (λ f _. omega arith) (λ t f _. let g = w.apart.fats t in omega arith))
-      (λ t s c e. let g = w.apart.fats t in by-active (λ f _. omega arith) (λ _ f _. omega arith)))
+      (λ r b. fat_out y d k v (y.fat + 4 * j + r)
+      (λ s c e. by_active (λ f _. omega arith) (λ t f _. let g = w.apart.fats t in omega arith))
+      (λ t s c e. let g = w.apart.fats t in by_active (λ f _. omega arith) (λ _ f _. omega arith)))
 
-  pub mark-fat : (k v j : ℕ) → k < y.count + 2 → marked y (set_fat y d k v) j ≡ marked y d j
+  pub mark_fat : (k v j : ℕ) → k < y.count + 2 → marked y (set_fat y d k v) j ≡ marked y d j
   unfolding marked mark_byte
-  mark-fat k v j h =
+  mark_fat k v j h =
       let a = w.apart in
-      let z = fat-bitmap y w.laid w.apart ((j - 2) / 8) in
-      let past : y.heap ≤ y.bitmap + (j - 2) / 8 = by-active (λ _ b. omega arith) (λ _ _ b. omega arith) in
+      let z = fat_bitmap y w.laid w.apart ((j - 2) / 8) in
+      let past : y.heap ≤ y.bitmap + (j - 2) / 8 = by_active (λ _ b. omega arith) (λ _ _ b. omega arith) in
       ap (λ (x : ℕ). eqb (bit_of x ((j - 2) % 8)) 1)
-      (fat-out y d k v (y.bitmap + (j - 2) / 8) (λ r b e. omega arith) (λ t r b e. omega arith))
+      (fat_out y d k v (y.bitmap + (j - 2) / 8) (λ r b e. omega arith) (λ t r b e. omega arith))
 
-  pub cluster-fat : (k v j r : ℕ) → k < y.count + 2 → cluster_byte y (set_fat y d k v) j r ≡ cluster_byte y d j r
+  pub cluster_fat : (k v j r : ℕ) → k < y.count + 2 → cluster_byte y (set_fat y d k v) j r ≡ cluster_byte y d j r
   unfolding cluster_byte
-  cluster-fat k v j r h =
+  cluster_fat k v j r h =
       let a = w.apart in
-      let z = cluster-start y w.laid w.apart j in
-      fat-out y d k v (cluster_at y j + r) (λ s b e. omega arith) (λ t s b e. omega arith)
+      let z = cluster_start_lem y w.laid w.apart j in
+      fat_out y d k v (cluster_at y j + r) (λ s b e. omega arith) (λ t s b e. omega arith)
 
   -- ---- a mark stored
 
   -- the active bitmap has the byte
-  pub byte-active : (i b : ℕ) → i < bitmap_bytes y.count → get_or (put_byte y d i b) (y.bitmap + i) 0 ≡ b
-  byte-active i b h =
+  pub byte_active : (i b : ℕ) → i < bitmap_bytes y.count → get_or (put_byte y d i b) (y.bitmap + i) 0 ≡ b
+  byte_active i b h =
       let l = w.laid in
       let n = w.long in
       let at0 : get_or (set d (y.bitmap0 + i) b) (y.bitmap0 + i) 0 ≡ b = get_or-set_same d (y.bitmap0 + i) b 0 (omega arith) in
       let first : get_or (put_byte y d i b) (y.bitmap0 + i) 0 ≡ b =
       by_two y
-      (λ t. rw (byte-two y d i b t)
-      (get_or-set_other (set d (y.bitmap0 + i) b) (y.bitmap1 + i) (y.bitmap0 + i) b 0 (bitmap-bitmap y w.laid w.apart i i t h h) ∙ at0))
+      (λ t. rw (byte_two y d i b t)
+      (get_or-set_other (set d (y.bitmap0 + i) b) (y.bitmap1 + i) (y.bitmap0 + i) b 0 (bitmap_bitmap y w.laid w.apart i i t h h) ∙ at0))
       (λ t. rw (byte_one y d i b t) at0) in
       let second : y.two ≡ true → get_or (put_byte y d i b) (y.bitmap1 + i) 0 ≡ b =
-      λ t. rw (byte-two y d i b t) (get_or-set_same (set d (y.bitmap0 + i) b) (y.bitmap1 + i) b 0 (rw length-set (omega arith))) in
+      λ t. rw (byte_two y d i b t) (get_or-set_same (set d (y.bitmap0 + i) b) (y.bitmap1 + i) b 0 (rw length-set (omega arith))) in
       let at : (x : ℕ) → y.bitmap ≡ x → get_or (put_byte y d i b) (x + i) 0 ≡ b → get_or (put_byte y d i b) (y.bitmap + i) 0 ≡ b
       = λ x e g. ap (λ (x : ℕ). get_or (put_byte y d i b) (x + i) 0) e ∙ g in
-      by-active (λ _ e. at y.bitmap0 e first) (λ t _ e. at y.bitmap1 e (second t))
+      by_active (λ _ e. at y.bitmap0 e first) (λ t _ e. at y.bitmap1 e (second t))
 
   -- and its other bytes stay
-  pub byte-other : (i j b : ℕ) → i < bitmap_bytes y.count → j < bitmap_bytes y.count → j ≢ i
+  pub byte_other : (i j b : ℕ) → i < bitmap_bytes y.count → j < bitmap_bytes y.count → j ≢ i
       → get_or (put_byte y d i b) (y.bitmap + j) 0 ≡ get_or d (y.bitmap + j) 0
-  byte-other i j b h g n =
-      byte-out y d i b (y.bitmap + j)
-      (λ e. by-active (λ _ f. omega arith) (λ t _ f. bitmap-bitmap y w.laid w.apart i j t h g (omega arith)))
-      (λ t e. by-active (λ _ f. bitmap-bitmap y w.laid w.apart j i t g h (omega arith)) (λ _ _ f. omega arith))
+  byte_other i j b h g n =
+      byte_out y d i b (y.bitmap + j)
+      (λ e. by_active (λ _ f. omega arith) (λ t _ f. bitmap_bitmap y w.laid w.apart i j t h g (omega arith)))
+      (λ t e. by_active (λ _ f. bitmap_bitmap y w.laid w.apart j i t g h (omega arith)) (λ _ _ f. omega arith))
 
-  pub mark-mark-same : (k : ℕ) (on : Bool) → in_heap y.count k ≡ true → marked y (set_mark y d k on) k ≡ on
+  pub mark_mark_same : (k : ℕ) (on : Bool) → in_heap y.count k ≡ true → marked y (set_mark y d k on) k ≡ on
   unfolding marked mark_byte set_mark
-  mark-mark-same k on h =
+  mark_mark_same k on h =
       let i = in_heap_lem y.count k h in
-      rw (byte-active ((k - 2) / 8) (put_bit (get_or d (y.bitmap + (k - 2) / 8) 0) ((k - 2) % 8) on) (omega arith))
+      rw (byte_active ((k - 2) / 8) (put_bit (get_or d (y.bitmap + (k - 2) / 8) 0) ((k - 2) % 8) on) (omega arith))
       (put_same (get_or d (y.bitmap + (k - 2) / 8) 0) ((k - 2) % 8) on)
 
-  pub mark-mark-other : (k : ℕ) (on : Bool) (j : ℕ) → in_heap y.count k ≡ true → in_heap y.count j ≡ true → j ≢ k
+  pub mark_mark_other : (k : ℕ) (on : Bool) (j : ℕ) → in_heap y.count k ≡ true → in_heap y.count j ≡ true → j ≢ k
       → marked y (set_mark y d k on) j ≡ marked y d j
   unfolding marked mark_byte set_mark
-  mark-mark-other k on j h g n =
+  mark_mark_other k on j h g n =
       let u = in_heap_lem y.count k h in
       let v = in_heap_lem y.count j g in
       let b = put_bit (get_or d (y.bitmap + (k - 2) / 8) 0) ((k - 2) % 8) on in
       elim (ℕ_discrete ((j - 2) / 8) ((k - 2) / 8)) [
-        | yes e ↦ rw (e, byte-active ((k - 2) / 8) b (omega arith))
+        | yes e ↦ rw (e, byte_active ((k - 2) / 8) b (omega arith))
             (ap (λ (x : ℕ). eqb x 1) (put_other (get_or d (y.bitmap + (k - 2) / 8) 0) ((k - 2) % 8) on ((j - 2) % 8) (λ q. n (omega arith))))
-        | no e ↦ rw (byte-other ((k - 2) / 8) ((j - 2) / 8) b (omega arith) (omega arith) e) refl
+        | no e ↦ rw (byte_other ((k - 2) / 8) ((j - 2) / 8) b (omega arith) (omega arith) e) refl
       ]
 
-  pub fat-mark : (k : ℕ) (on : Bool) (j : ℕ) → j < y.count + 2 → fat_entry y (set_mark y d k on) j ≡ fat_entry y d j
+  pub fat_mark : (k : ℕ) (on : Bool) (j : ℕ) → j < y.count + 2 → fat_entry y (set_mark y d k on) j ≡ fat_entry y d j
   unfolding fat_entry set_mark
-  fat-mark k on j h =
+  fat_mark k on j h =
       let a = w.apart in
-      let z = fat-bitmap y w.laid w.apart ((k - 2) / 8) in
-      let end : y.fat + 4 * (y.count + 2) ≤ y.heap = by-active (λ f _. omega arith) (λ _ f _. omega arith) in
+      let z = fat_bitmap y w.laid w.apart ((k - 2) / 8) in
+      let end : y.fat + 4 * (y.count + 2) ≤ y.heap = by_active (λ f _. omega arith) (λ _ f _. omega arith) in
       get_same 4 (put_byte y d ((k - 2) / 8) (put_bit (mark_byte y d k) ((k - 2) % 8) on)) d (y.fat + 4 * j) (y.fat + 4 * j)
-      (λ r b. byte-out y d ((k - 2) / 8) (put_bit (mark_byte y d k) ((k - 2) % 8) on) (y.fat + 4 * j + r) (omega arith) (λ t. omega arith))
+      (λ r b. byte_out y d ((k - 2) / 8) (put_bit (mark_byte y d k) ((k - 2) % 8) on) (y.fat + 4 * j + r) (omega arith) (λ t. omega arith))
 
-  pub cluster-mark : (k : ℕ) (on : Bool) (j r : ℕ) → in_heap y.count k ≡ true → in_heap y.count j ≡ true → is_bitmap_cluster y j ≡ false
+  pub cluster_mark : (k : ℕ) (on : Bool) (j r : ℕ) → in_heap y.count k ≡ true → in_heap y.count j ≡ true → is_bitmap_cluster y j ≡ false
       → r < y.size → cluster_byte y (set_mark y d k on) j r ≡ cluster_byte y d j r
   unfolding cluster_byte set_mark
-  cluster-mark k on j r h g o b =
+  cluster_mark k on j r h g o b =
       let u = in_heap_lem y.count k h in
-      byte-out y d ((k - 2) / 8) (put_bit (mark_byte y d k) ((k - 2) % 8) on) (cluster_at y j + r)
-      (λ e. bitmap0-cluster y w.laid w.apart j ((k - 2) / 8) r g o (omega arith) b (sym e))
-      (λ t e. bitmap1-cluster y w.laid w.apart j ((k - 2) / 8) r g o (omega arith) b (sym e))
+      byte_out y d ((k - 2) / 8) (put_bit (mark_byte y d k) ((k - 2) % 8) on) (cluster_at y j + r)
+      (λ e. bitmap0_cluster y w.laid w.apart j ((k - 2) / 8) r g o (omega arith) b (sym e))
+      (λ t e. bitmap1_cluster y w.laid w.apart j ((k - 2) / 8) r g o (omega arith) b (sym e))
 
   -- ---- bytes stored in a cluster
 
   pub fits_in : (k j : ℕ) (bs : List ℕ) → in_heap y.count k ≡ true → j + length bs ≤ y.size → cluster_at y k + j + length bs ≤ length d
-  fits_in k j bs h f = let n = w.long in omega (arith, cluster-end y w.laid w.apart k h)
+  fits_in k j bs h f = let n = w.long in omega (arith, cluster_end y w.laid w.apart k h)
 
-  pub length-bytes : (k j : ℕ) (bs : List ℕ) → in_heap y.count k ≡ true → j + length bs ≤ y.size → length (put_bytes y d k j bs) ≡ length d
+  pub length_bytes : (k j : ℕ) (bs : List ℕ) → in_heap y.count k ≡ true → j + length bs ≤ y.size → length (put_bytes y d k j bs) ≡ length d
   unfolding put_bytes
-  length-bytes k j bs h f = length-splice d (cluster_at y k + j) bs (fits_in k j bs h f)
+  length_bytes k j bs h f = length-splice d (cluster_at y k + j) bs (fits_in k j bs h f)
 
-  pub bytes-other : (k j : ℕ) (bs : List ℕ) (i r : ℕ) → in_heap y.count k ≡ true → in_heap y.count i ≡ true → i ≢ k
+  pub bytes_other : (k j : ℕ) (bs : List ℕ) (i r : ℕ) → in_heap y.count k ≡ true → in_heap y.count i ≡ true → i ≢ k
       → j + length bs ≤ y.size → r < y.size → cluster_byte y (put_bytes y d k j bs) i r ≡ cluster_byte y d i r
   unfolding cluster_byte put_bytes
-  bytes-other k j bs i r h g n f b =
-      splice-off d (cluster_at y k + j) bs (fits_in k j bs h f) (cluster_at y i + r)
-      (λ s c e. cluster-cluster y w.laid w.apart i k r (j + s) g h n b (omega arith) (omega arith))
+  bytes_other k j bs i r h g n f b =
+      splice_off d (cluster_at y k + j) bs (fits_in k j bs h f) (cluster_at y i + r)
+      (λ s c e. cluster_cluster y w.laid w.apart i k r (j + s) g h n b (omega arith) (omega arith))
 
-  pub fat-bytes : (k j : ℕ) (bs : List ℕ) (i : ℕ) → in_heap y.count k ≡ true → j + length bs ≤ y.size → i < y.count + 2
+  pub fat_bytes_lem : (k j : ℕ) (bs : List ℕ) (i : ℕ) → in_heap y.count k ≡ true → j + length bs ≤ y.size → i < y.count + 2
       → fat_entry y (put_bytes y d k j bs) i ≡ fat_entry y d i
   unfolding fat_entry put_bytes
-  fat-bytes k j bs i h f b =
+  fat_bytes_lem k j bs i h f b =
       let a = w.apart in
-      let z = cluster-start y w.laid w.apart k in
-      let end : y.fat + 4 * (y.count + 2) ≤ y.heap = by-active (λ p _. omega arith) (λ _ p _. omega arith) in
+      let z = cluster_start_lem y w.laid w.apart k in
+      let end : y.fat + 4 * (y.count + 2) ≤ y.heap = by_active (λ p _. omega arith) (λ _ p _. omega arith) in
       get_same 4 (splice d (cluster_at y k + j) bs) d (y.fat + 4 * i) (y.fat + 4 * i)
-      (λ r c. splice-off d (cluster_at y k + j) bs (fits_in k j bs h f) (y.fat + 4 * i + r) (λ s q e. omega arith))
+      (λ r c. splice_off d (cluster_at y k + j) bs (fits_in k j bs h f) (y.fat + 4 * i + r) (λ s q e. omega arith))
 
-  pub mark-bytes : (k j : ℕ) (bs : List ℕ) (i : ℕ) → in_heap y.count k ≡ true → is_bitmap_cluster y k ≡ false → j + length bs ≤ y.size
+  pub mark_bytes : (k j : ℕ) (bs : List ℕ) (i : ℕ) → in_heap y.count k ≡ true → is_bitmap_cluster y k ≡ false → j + length bs ≤ y.size
       → in_heap y.count i ≡ true → marked y (put_bytes y d k j bs) i ≡ marked y d i
   unfolding marked mark_byte put_bytes
-  mark-bytes k j bs i h o f g =
+  mark_bytes k j bs i h o f g =
       let u = in_heap_lem y.count i g in
       ap (λ (x : ℕ). eqb (bit_of x ((i - 2) % 8)) 1)
-      (splice-off d (cluster_at y k + j) bs (fits_in k j bs h f) (y.bitmap + (i - 2) / 8)
-      (λ s b e. by-active
-      (λ _ p. bitmap0-cluster y w.laid w.apart k ((i - 2) / 8) (j + s) h o (omega arith) (omega arith) (omega arith))
-      (λ _ _ p. bitmap1-cluster y w.laid w.apart k ((i - 2) / 8) (j + s) h o (omega arith) (omega arith) (omega arith))))
+      (splice_off d (cluster_at y k + j) bs (fits_in k j bs h f) (y.bitmap + (i - 2) / 8)
+      (λ s b e. by_active
+      (λ _ p. bitmap0_cluster y w.laid w.apart k ((i - 2) / 8) (j + s) h o (omega arith) (omega arith) (omega arith))
+      (λ _ _ p. bitmap1_cluster y w.laid w.apart k ((i - 2) / 8) (j + s) h o (omega arith) (omega arith) (omega arith))))
 
 -- the clusters of a heap are not the end of a chain
 pub small : (y : Layout) (d : List ℕ) → Fits y d → y.count + 2 ≤ END

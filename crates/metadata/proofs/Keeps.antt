@@ -10,7 +10,7 @@ use Rattle.boot.specs.Layout.{in_heap}
 use Rattle.metadata.specs.Fat.{set_fat}
 use Rattle.metadata.specs.Marks.{set_mark}
 use Rattle.metadata.specs.Cluster.{put_bytes}
-use Rattle.metadata.proofs.Frame.{Fits, fits_kept, length-fat, length-mark, length-bytes}
+use Rattle.metadata.proofs.Frame.{Fits, fits_kept, length_fat, length_mark, length_bytes}
 use Rattle.metadata.proofs.View.{plain, plain_heap}
 
 -- cluster k is in the heap, and one that may be stored to
@@ -31,23 +31,23 @@ pub record Went (y : Layout) (K : List ℕ → List ℕ → Type 0) (d e : List 
   pub kept : K d e
 
 module _ (y : Layout) (P : ℕ → Type 0) (K : List ℕ → List ℕ → Type 0) (s : Keeps y P K) (d : List ℕ) where
-  pub went-none : Fits y d → Went y K d d
-  went-none w = record { fits = w; kept = s.same d }
+  pub went_none : Fits y d → Went y K d d
+  went_none w = record { fits = w; kept = s.same d }
 
-  pub fat-on : (e : List ℕ) → Went y K d e → (k v : ℕ) → Own y P k → Went y K d (set_fat y e k v)
-  fat-on e w k v o = record {
-    fits = fits_kept y e (set_fat y e k v) (length-fat y e k v) w.fits;
+  pub fat_on : (e : List ℕ) → Went y K d e → (k v : ℕ) → Own y P k → Went y K d (set_fat y e k v)
+  fat_on e w k v o = record {
+    fits = fits_kept y e (set_fat y e k v) (length_fat y e k v) w.fits;
     kept = s.again d e (set_fat y e k v) w.kept (s.fat e w.fits k v o);
   }
 
   pub mark_on : (e : List ℕ) → Went y K d e → (k : ℕ) (on : Bool) → Own y P k → Went y K d (set_mark y e k on)
   mark_on e w k on o = record {
-    fits = fits_kept y e (set_mark y e k on) (length-mark y e k on) w.fits;
+    fits = fits_kept y e (set_mark y e k on) (length_mark y e k on) w.fits;
     kept = s.again d e (set_mark y e k on) w.kept (s.mark e w.fits k on o);
   }
 
   pub put_on : (e : List ℕ) → Went y K d e → (k j : ℕ) (bs : List ℕ) → plain y k ≡ true → P k → j + length bs ≤ y.size → Went y K d (put_bytes y e k j bs)
   put_on e w k j bs p o r = record {
-    fits = fits_kept y e (put_bytes y e k j bs) (length-bytes y e w.fits k j bs (plain_heap y k p) r) w.fits;
+    fits = fits_kept y e (put_bytes y e k j bs) (length_bytes y e w.fits k j bs (plain_heap y k p) r) w.fits;
     kept = s.again d e (put_bytes y e k j bs) w.kept (s.put e w.fits k j bs p o r);
   }

@@ -29,26 +29,26 @@ use Rattle.metadata.specs.Free.{free_clusters}
 -- ---- stores to one copy or two
 
 module _ (y : Layout) (d : List ℕ) where
-  pub fat-two : (k v : ℕ) → y.two ≡ true → set_fat y d k v ≡ put_le 4 (put_le 4 d (y.fat0 + 4 * k) v) (y.fat1 + 4 * k) v
+  pub fat_two : (k v : ℕ) → y.two ≡ true → set_fat y d k v ≡ put_le 4 (put_le 4 d (y.fat0 + 4 * k) v) (y.fat1 + 4 * k) v
   unfolding set_fat
-  fat-two k v e = rw e refl
+  fat_two k v e = rw e refl
 
-  pub fat-one : (k v : ℕ) → y.two ≡ false → set_fat y d k v ≡ put_le 4 d (y.fat0 + 4 * k) v
+  pub fat_one : (k v : ℕ) → y.two ≡ false → set_fat y d k v ≡ put_le 4 d (y.fat0 + 4 * k) v
   unfolding set_fat
-  fat-one k v e = rw e refl
+  fat_one k v e = rw e refl
 
-  pub byte-two : (i b : ℕ) → y.two ≡ true → put_byte y d i b ≡ set (set d (y.bitmap0 + i) b) (y.bitmap1 + i) b
+  pub byte_two : (i b : ℕ) → y.two ≡ true → put_byte y d i b ≡ set (set d (y.bitmap0 + i) b) (y.bitmap1 + i) b
   unfolding put_byte
-  byte-two i b e = rw e refl
+  byte_two i b e = rw e refl
 
   pub byte_one : (i b : ℕ) → y.two ≡ false → put_byte y d i b ≡ set d (y.bitmap0 + i) b
   unfolding put_byte
   byte_one i b e = rw e refl
 
   -- the count of the bitmap's part
-  pub count-part : (n : ℕ) → y.count ≤ 8 * n → count_bits (take n (drop y.bitmap d)) y.count ≡ allocated_count y d
+  pub count_part : (n : ℕ) → y.count ≤ 8 * n → count_bits (take n (drop y.bitmap d)) y.count ≡ allocated_count y d
   unfolding allocated_count
-  count-part n h = count-take (drop y.bitmap d) n y.count h
+  count_part n h = count-take (drop y.bitmap d) n y.count h
 
 -- ---- the search for a bad entry
 
@@ -84,34 +84,34 @@ bad_part y d a n k c e h =
 -- ---- free and usable
 
 module _ (y : Layout) (d m : List ℕ) (k : ℕ) where
-  pub free-marked : marked y d k ≡ true → is_free y d m k ≡ false
+  pub free_marked : marked y d k ≡ true → is_free y d m k ≡ false
   unfolding is_free
-  free-marked e = rw e refl
+  free_marked e = rw e refl
 
-  pub free-system : marked y d k ≡ false → in_map m k ≡ true → is_free y d m k ≡ false
+  pub free_system : marked y d k ≡ false → in_map m k ≡ true → is_free y d m k ≡ false
   unfolding is_free
-  free-system e f = rw (e, f) refl
+  free_system e f = rw (e, f) refl
 
-  pub free-yes : marked y d k ≡ false → in_map m k ≡ false → is_free y d m k ≡ true
+  pub free_yes : marked y d k ≡ false → in_map m k ≡ false → is_free y d m k ≡ true
   unfolding is_free
-  free-yes e f = rw (e, f) refl
+  free_yes e f = rw (e, f) refl
 
-  pub usable-not-free : is_free y d m k ≡ false → is_usable y d m k ≡ false
+  pub usable-not_free : is_free y d m k ≡ false → is_usable y d m k ≡ false
   unfolding is_usable
-  usable-not-free e = rw e refl
+  usable-not_free e = rw e refl
 
   -- by what the search of one entry found
-  pub usable-found : (f : Found) (j : ℕ) → is_free y d m k ≡ true → f ≡ first_bad (fat_entry y d) k 1 → f ≡ At j → is_usable y d m k ≡ false
+  pub usable_found : (f : Found) (j : ℕ) → is_free y d m k ≡ true → f ≡ first_bad (fat_entry y d) k 1 → f ≡ At j → is_usable y d m k ≡ false
   unfolding is_usable first_bad
-  usable-found f j e p q = by (eqb (fat_entry y d k) BAD) refl
+  usable_found f j e p q = by (eqb (fat_entry y d k) BAD) refl
     where
       by : (b : Bool) → eqb (fat_entry y d k) BAD ≡ b → is_usable y d m k ≡ false
       by true r = rw (e, r) refl
       by false r = let z : At j ≡ cond false (At k) Nothing = sym q ∙ p ∙ rw r refl in let w : ◌≡◌ {A = ℕ} 0 1 = cc in absurd (omega arith)
 
-  pub usable-nothing : (f : Found) → is_free y d m k ≡ true → f ≡ first_bad (fat_entry y d) k 1 → f ≡ Nothing → is_usable y d m k ≡ true
+  pub usable_nothing : (f : Found) → is_free y d m k ≡ true → f ≡ first_bad (fat_entry y d) k 1 → f ≡ Nothing → is_usable y d m k ≡ true
   unfolding is_usable first_bad
-  usable-nothing f e p q = by (eqb (fat_entry y d k) BAD) refl
+  usable_nothing f e p q = by (eqb (fat_entry y d k) BAD) refl
     where
       by : (b : Bool) → eqb (fat_entry y d k) BAD ≡ b → is_usable y d m k ≡ true
       by true r = let z : Nothing ≡ cond true (At k) Nothing = sym q ∙ p ∙ rw r refl in let w : ◌≡◌ {A = ℕ} 0 1 = cc in absurd (omega arith)
@@ -119,9 +119,9 @@ module _ (y : Layout) (d m : List ℕ) (k : ℕ) where
 
 -- ---- the free count
 
-pub free_not-admitted : (g : Geometry) (d m : List ℕ) (n : ℕ) → n ≡ admit_cause g d m → n ≢ 0 → free_clusters g d m ≡ record { number = n; count = 0 }
+pub free_not_admitted : (g : Geometry) (d m : List ℕ) (n : ℕ) → n ≡ admit_cause g d m → n ≢ 0 → free_clusters g d m ≡ record { number = n; count = 0 }
 unfolding free_clusters
-free_not-admitted g d m n e z = rw (← e, ne_eqb n 0 z) refl
+free_not_admitted g d m n e z = rw (← e, ne_eqb n 0 z) refl
 
 pub free_is : (g : Geometry) (d m : List ℕ) (y : Layout) → Admits g d m y → free_clusters g d m ≡ record { number = 0; count = free_count y d }
 unfolding free_clusters

@@ -9,37 +9,37 @@ use lib.ListN.{take, drop}
 use Rattle.primitives.specs.Internal.{bit_is}
 use Rattle.primitives.proofs.ByteLaws.{clear_bit_lem}
 use Rattle.search.specs.Search.{fewest}
-use Rattle.search.proofs.Lowest.{fewest-bounds, fewest-before, fewest-at, fewest-shift}
+use Rattle.search.proofs.Lowest.{fewest_bounds, fewest_before, fewest_at, fewest_shift}
 use Rattle.boot.specs.declared.layout.Layout.{Layout}
 use Rattle.metadata.specs.Marks.{marked}
 use Rattle.metadata.specs.Internal.{first_unmarked}
 use Rattle.metadata.specs.Usable.{is_usable}
-use Rattle.metadata.proofs.Stores.{free-marked, usable-not-free}
+use Rattle.metadata.proofs.Stores.{free_marked, usable-not_free}
 use Rattle.metadata.proofs.WindowLaws.{bit_mark}
 
 module _ (y : Layout) (d : List ℕ) where
   -- the search of the bitmap's part
-  pub unmarked-part : (c k n r : ℕ) → 2 ≤ k → k - 2 + n ≤ 8 * c → r ≡ fewest (bit_is (take c (drop y.bitmap d)) 0) n (k - 2) → r + 2 ≡ first_unmarked y d k n
+  pub unmarked_part : (c k n r : ℕ) → 2 ≤ k → k - 2 + n ≤ 8 * c → r ≡ fewest (bit_is (take c (drop y.bitmap d)) 0) n (k - 2) → r + 2 ≡ first_unmarked y d k n
   unfolding first_unmarked
-  unmarked-part c k n r l h q =
+  unmarked_part c k n r l h q =
       let e : k - 2 + 2 ≡ k = omega arith in
       ap (λ (x : ℕ). x + 2) q
-      ∙ fewest-shift _ (λ j. not (marked y d j)) 2 n (k - 2) (λ j a b. clear_bit_lem (take c (drop y.bitmap d)) j ∙ ap not (bit_mark y d c j (omega arith)))
+      ∙ fewest_shift _ (λ j. not (marked y d j)) 2 n (k - 2) (λ j a b. clear_bit_lem (take c (drop y.bitmap d)) j ∙ ap not (bit_mark y d c j (omega arith)))
       ∙ ap (fewest (λ j. not (marked y d j)) n) e
 
-  pub unmarked-bounds : (k n : ℕ) → (k ≤ first_unmarked y d k n) × (first_unmarked y d k n ≤ k + n)
+  pub unmarked_bounds : (k n : ℕ) → (k ≤ first_unmarked y d k n) × (first_unmarked y d k n ≤ k + n)
   unfolding first_unmarked
-  unmarked-bounds k n = fewest-bounds (λ j. not (marked y d j)) n k
+  unmarked_bounds k n = fewest_bounds (λ j. not (marked y d j)) n k
 
   -- each cluster before it is marked
-  pub unmarked-before : (k n j : ℕ) → k ≤ j → j < first_unmarked y d k n → marked y d j ≡ true
+  pub unmarked_before : (k n j : ℕ) → k ≤ j → j < first_unmarked y d k n → marked y d j ≡ true
   unfolding first_unmarked
-  unmarked-before k n j l h = not-false (marked y d j) (fewest-before (λ j. not (marked y d j)) n k j l h)
+  unmarked_before k n j l h = not-false (marked y d j) (fewest_before (λ j. not (marked y d j)) n k j l h)
 
   -- it is not, where there is one
-  pub unmarked-at : (k n : ℕ) → first_unmarked y d k n < k + n → marked y d (first_unmarked y d k n) ≡ false
+  pub unmarked_at : (k n : ℕ) → first_unmarked y d k n < k + n → marked y d (first_unmarked y d k n) ≡ false
   unfolding first_unmarked
-  unmarked-at k n h = not-true (marked y d (fewest (λ j. not (marked y d j)) n k)) (fewest-at (λ j. not (marked y d j)) n k h)
+  unmarked_at k n h = not-true (marked y d (fewest (λ j. not (marked y d j)) n k)) (fewest_at (λ j. not (marked y d j)) n k h)
 
-  pub before-unusable : (m : List ℕ) (k n j : ℕ) → k ≤ j → j < first_unmarked y d k n → is_usable y d m j ≡ false
-  before-unusable m k n j l h = usable-not-free y d m j (free-marked y d m j (unmarked-before k n j l h))
+  pub before_unusable : (m : List ℕ) (k n j : ℕ) → k ≤ j → j < first_unmarked y d k n → is_usable y d m j ≡ false
+  before_unusable m k n j l h = usable-not_free y d m j (free_marked y d m j (unmarked_before k n j l h))

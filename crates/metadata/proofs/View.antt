@@ -8,7 +8,7 @@ use lib.Dec.{ltb}
 use borrow.Author.Tests.{ltb-true, lt-ltb, not-true}
 use Rattle.tables.specs.Table.{upd}
 use Rattle.tables.specs.Internal.{only}
-use Rattle.tables.proofs.TableLaws.{only-in, only-cong, only-upd}
+use Rattle.tables.proofs.TableLaws.{only_in, only_cong, only-upd}
 use Rattle.boot.specs.declared.layout.Layout.{Layout}
 use Rattle.boot.specs.Layout.{in_heap, is_bitmap_cluster}
 use Rattle.tables.proofs.Cases.{and_left, and_right}
@@ -16,7 +16,7 @@ use Rattle.boot.proofs.Apart.{in_heap_lem}
 use Rattle.metadata.specs.Fat.{fat_entry, set_fat}
 use Rattle.metadata.specs.Marks.{marked, set_mark}
 use Rattle.metadata.specs.Cluster.{cluster_byte}
-use Rattle.metadata.proofs.Frame.{Fits, fat-fat-same, fat-fat-other, mark-fat, cluster-fat, mark-mark-same, mark-mark-other, fat-mark, cluster-mark}
+use Rattle.metadata.proofs.Frame.{Fits, fat_fat_same, fat_fat_other, mark_fat, cluster_fat, mark_mark_same, mark_mark_other, fat_mark, cluster_mark}
 
 -- FAT entries, marks, and bytes of clusters
 pub record Tables : Type 0 where
@@ -57,42 +57,42 @@ with_mark a k on = record { fat = a.fat; mark = upd a.mark k on; byte = a.byte }
 -- ---- what the tables have at a key that exists
 
 module _ (y : Layout) (d : List ℕ) where
-  pub view-fat-at : (k : ℕ) → in_heap y.count k ≡ true → (view y d).fat k ≡ fat_entry y d k
+  pub view_fat_at : (k : ℕ) → in_heap y.count k ≡ true → (view y d).fat k ≡ fat_entry y d k
   unfolding view
-  view-fat-at k h = only-in (in_heap y.count) 0 (fat_entry y d) k h
+  view_fat_at k h = only_in (in_heap y.count) 0 (fat_entry y d) k h
 
-  pub view-mark-at : (k : ℕ) → in_heap y.count k ≡ true → (view y d).mark k ≡ marked y d k
+  pub view_mark_at : (k : ℕ) → in_heap y.count k ≡ true → (view y d).mark k ≡ marked y d k
   unfolding view
-  view-mark-at k h = only-in (in_heap y.count) false (marked y d) k h
+  view_mark_at k h = only_in (in_heap y.count) false (marked y d) k h
 
-  pub view-byte-at : (k j : ℕ) → plain y k ≡ true → j < y.size → (view y d).byte k j ≡ cluster_byte y d k j
+  pub view_byte_at : (k j : ℕ) → plain y k ≡ true → j < y.size → (view y d).byte k j ≡ cluster_byte y d k j
   unfolding view
-  view-byte-at k j h b =
-      ap (λ (f : ℕ → ℕ). f j) (only-in (plain y) (λ j. 0) (row y d) k h)
-      ∙ only-in (λ j. ltb j y.size) 0 (cluster_byte y d k) j (lt-ltb j y.size b)
+  view_byte_at k j h b =
+      ap (λ (f : ℕ → ℕ). f j) (only_in (plain y) (λ j. 0) (row y d) k h)
+      ∙ only_in (λ j. ltb j y.size) 0 (cluster_byte y d k) j (lt-ltb j y.size b)
 
 -- ---- the stores as updates
 
 module _ (y : Layout) (d : List ℕ) (w : Fits y d) where
-  pub view-setFat : (k v : ℕ) → in_heap y.count k ≡ true → v < 2 ^ 32 → view y (set_fat y d k v) ≡ with_fat (view y d) k v
+  pub view_set_fat : (k v : ℕ) → in_heap y.count k ≡ true → v < 2 ^ 32 → view y (set_fat y d k v) ≡ with_fat (view y d) k v
   unfolding view
-  view-setFat k v h b =
+  view_set_fat k v h b =
       let i = in_heap_lem y.count k h in
       λ z. record {
-        fat = only-upd (in_heap y.count) 0 (fat_entry y d) (fat_entry y (set_fat y d k v)) k v h (fat-fat-same y d w k v i.1 b)
-            (λ j p n. fat-fat-other y d w k v j i.1 (in_heap_lem y.count j p).1 n) z;
-        mark = only-cong (in_heap y.count) false (marked y d) (marked y (set_fat y d k v)) (λ j _. mark-fat y d w k v j i.1) z;
-        byte = only-cong (plain y) (λ j. 0) (row y d) (row y (set_fat y d k v))
-            (λ c _. only-cong (λ j. ltb j y.size) 0 (cluster_byte y d c) (cluster_byte y (set_fat y d k v) c) (λ j _. cluster-fat y d w k v c j i.1)) z;
+        fat = only-upd (in_heap y.count) 0 (fat_entry y d) (fat_entry y (set_fat y d k v)) k v h (fat_fat_same y d w k v i.1 b)
+            (λ j p n. fat_fat_other y d w k v j i.1 (in_heap_lem y.count j p).1 n) z;
+        mark = only_cong (in_heap y.count) false (marked y d) (marked y (set_fat y d k v)) (λ j _. mark_fat y d w k v j i.1) z;
+        byte = only_cong (plain y) (λ j. 0) (row y d) (row y (set_fat y d k v))
+            (λ c _. only_cong (λ j. ltb j y.size) 0 (cluster_byte y d c) (cluster_byte y (set_fat y d k v) c) (λ j _. cluster_fat y d w k v c j i.1)) z;
       }
 
-  pub view-setMark : (k : ℕ) (on : Bool) → in_heap y.count k ≡ true → view y (set_mark y d k on) ≡ with_mark (view y d) k on
+  pub view_set_mark : (k : ℕ) (on : Bool) → in_heap y.count k ≡ true → view y (set_mark y d k on) ≡ with_mark (view y d) k on
   unfolding view
-  view-setMark k on h = λ z. record {
-    fat = only-cong (in_heap y.count) 0 (fat_entry y d) (fat_entry y (set_mark y d k on)) (λ j p. fat-mark y d w k on j (in_heap_lem y.count j p).1) z;
-    mark = only-upd (in_heap y.count) false (marked y d) (marked y (set_mark y d k on)) k on h (mark-mark-same y d w k on h)
-        (λ j p n. mark-mark-other y d w k on j h p n) z;
-    byte = only-cong (plain y) (λ j. 0) (row y d) (row y (set_mark y d k on))
-        (λ c p. only-cong (λ j. ltb j y.size) 0 (cluster_byte y d c) (cluster_byte y (set_mark y d k on) c)
-        (λ j b. cluster-mark y d w k on c j h (plain_heap y c p) (plain_off y c p) (ltb-true j y.size b))) z;
+  view_set_mark k on h = λ z. record {
+    fat = only_cong (in_heap y.count) 0 (fat_entry y d) (fat_entry y (set_mark y d k on)) (λ j p. fat_mark y d w k on j (in_heap_lem y.count j p).1) z;
+    mark = only-upd (in_heap y.count) false (marked y d) (marked y (set_mark y d k on)) k on h (mark_mark_same y d w k on h)
+        (λ j p n. mark_mark_other y d w k on j h p n) z;
+    byte = only_cong (plain y) (λ j. 0) (row y d) (row y (set_mark y d k on))
+        (λ c p. only_cong (λ j. ltb j y.size) 0 (cluster_byte y d c) (cluster_byte y (set_mark y d k on) c)
+        (λ j b. cluster_mark y d w k on c j h (plain_heap y c p) (plain_off y c p) (ltb-true j y.size b))) z;
   }

@@ -16,8 +16,8 @@ use Rattle.primitives.proofs.ByteLaws.{zero_byte}
 use Rattle.tables.proofs.Cases.{clash, and_left, and_right}
 use Rattle.search.specs.declared.found.Found.TheVariants.{At, Nothing}
 use Rattle.search.specs.Search.{all_from}
-use Rattle.search.proofs.Runs.{all-not, all-shift}
-use Rattle.search.proofs.Lowest.{whole-all}
+use Rattle.search.proofs.Runs.{all-not, all_shift}
+use Rattle.search.proofs.Lowest.{whole_all}
 use Rattle.boot.specs.declared.layout.Layout.{Layout}
 use Rattle.boot.specs.Limits.{in_map}
 use Rattle.metadata.specs.Fat.{BAD, fat_entry}
@@ -38,14 +38,14 @@ pub marks_part : (y : Layout) (d : List ℕ) (c k n : ℕ) → 2 ≤ k → k - 2
     → all_from (λ j. not (bit_is (take c (drop y.bitmap d)) 1 j)) (k - 2) n ≡ all_from (λ j. not (marked y d j)) k n
 marks_part y d c k n l h =
     let e : k - 2 + 2 ≡ k = omega arith in
-    all-shift _ (λ j. not (marked y d j)) 2 (k - 2) n (λ j a b. ap not (bit_mark y d c j (omega arith))) ∙ ap (λ (x : ℕ). all_from (λ j. not (marked y d j)) x n) e
+    all_shift _ (λ j. not (marked y d j)) 2 (k - 2) n (λ j a b. ap not (bit_mark y d c j (omega arith))) ∙ ap (λ (x : ℕ). all_from (λ j. not (marked y d j)) x n) e
 
 -- the test of the map
 pub map-all : (m : List ℕ) (k n : ℕ) → 2 ≤ k → all_from (λ j. not (bit_is m 1 j)) (k - 2) n ≡ all_from (λ j. not (in_map m j)) k n
 unfolding bit_is in_map
 map-all m k n l =
     let e : k - 2 + 2 ≡ k = omega arith in
-    all-shift _ (λ j. not (in_map m j)) 2 (k - 2) n (λ j a b. let q : j ≡ j + 2 - 2 = omega arith in ap (λ (x : ℕ). not (bit_is m 1 x)) q)
+    all_shift _ (λ j. not (in_map m j)) 2 (k - 2) n (λ j a b. let q : j ≡ j + 2 - 2 = omega arith in ap (λ (x : ℕ). not (bit_is m 1 x)) q)
     ∙ ap (λ (x : ℕ). all_from (λ j. not (in_map m j)) x n) e
 
 -- two tests at once
@@ -83,20 +83,20 @@ bad_at fat k (suc n) j e =
 
 module _ (y : Layout) (d m : List ℕ) (k n : ℕ) where
   -- by what the searches found
-  pub refused-bad : (j : ℕ) → first_bad (fat_entry y d) k n ≡ At j → none_refused y d m k n ≡ false
+  pub refused_bad : (j : ℕ) → first_bad (fat_entry y d) k n ≡ At j → none_refused y d m k n ≡ false
   unfolding none_refused
-  refused-bad j e =
+  refused_bad j e =
       let r = bad_at (fat_entry y d) k n j e in
       let q : not (eqb (fat_entry y d j) BAD) ≡ false = ap not (eq-eqb (fat_entry y d j) BAD r.2) in
       rw (all-not (λ j. not (eqb (fat_entry y d j) BAD)) k n j r.0 r.1 q) (and-false (all_from (λ j. not (in_map m j)) k n))
 
-  pub refused-system : all_from (λ j. not (in_map m j)) k n ≡ false → none_refused y d m k n ≡ false
+  pub refused_system : all_from (λ j. not (in_map m j)) k n ≡ false → none_refused y d m k n ≡ false
   unfolding none_refused
-  refused-system e = rw e refl
+  refused_system e = rw e refl
 
   pub refused_none : all_from (λ j. not (in_map m j)) k n ≡ true → first_bad (fat_entry y d) k n ≡ Nothing → none_refused y d m k n ≡ true
   unfolding none_refused
-  refused_none e f = rw e (whole-all (λ j. not (eqb (fat_entry y d j) BAD)) k n (bad_nothing (fat_entry y d) k n f))
+  refused_none e f = rw e (whole_all (λ j. not (eqb (fat_entry y d j) BAD)) k n (bad_nothing (fat_entry y d) k n f))
 
   usable-all : all_from (is_usable y d m) k n ≡ all_from (λ j. not (marked y d j)) k n && none_refused y d m k n
   unfolding is_usable is_free none_refused
@@ -105,11 +105,11 @@ module _ (y : Layout) (d m : List ℕ) (k n : ℕ) where
       ∙ ap (λ b. b && all_from (λ j. not (eqb (fat_entry y d j) BAD)) k n) (all-and (λ j. not (marked y d j)) (λ j. not (in_map m j)) k n)
       ∙ and_assoc (all_from (λ j. not (marked y d j)) k n) (all_from (λ j. not (in_map m j)) k n) (all_from (λ j. not (eqb (fat_entry y d j) BAD)) k n)
 
-  pub window-marked : all_from (λ j. not (marked y d j)) k n ≡ false → all_from (is_usable y d m) k n ≡ false
-  window-marked e = usable-all ∙ rw e refl
+  pub window_marked : all_from (λ j. not (marked y d j)) k n ≡ false → all_from (is_usable y d m) k n ≡ false
+  window_marked e = usable-all ∙ rw e refl
 
-  pub window-unmarked : all_from (λ j. not (marked y d j)) k n ≡ true → all_from (is_usable y d m) k n ≡ none_refused y d m k n
-  window-unmarked e = usable-all ∙ rw e refl
+  pub window_unmarked : all_from (λ j. not (marked y d j)) k n ≡ true → all_from (is_usable y d m) k n ≡ none_refused y d m k n
+  window_unmarked e = usable-all ∙ rw e refl
 
 -- ---- a byte of none marked
 
@@ -123,9 +123,9 @@ module _ (y : Layout) (d : List ℕ) (k : ℕ) where
   byte_inside e = rw (ne_eqb ((k - 2) % 8) 7 e) refl
 
   -- its eight clusters are unmarked
-  pub byte-each : byte_unmarked y d k ≡ true → (j : ℕ) → 2 ≤ j → k < j + 8 → j ≤ k → marked y d j ≡ false
+  pub byte_each : byte_unmarked y d k ≡ true → (j : ℕ) → 2 ≤ j → k < j + 8 → j ≤ k → marked y d j ≡ false
   unfolding byte_unmarked marked mark_byte
-  byte-each e j a b t =
+  byte_each e j a b t =
       let r = eqb-true ((k - 2) % 8) 7 (and_left (eqb ((k - 2) % 8) 7) (eqb (get_or d (y.bitmap + (k - 2) / 8) 0) 0) e) in
       let z = eqb-true (get_or d (y.bitmap + (k - 2) / 8) 0) 0 (and_right (eqb ((k - 2) % 8) 7) (eqb (get_or d (y.bitmap + (k - 2) / 8) 0) 0) e) in
       let q : (j - 2) / 8 ≡ (k - 2) / 8 = omega arith in

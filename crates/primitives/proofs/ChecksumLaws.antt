@@ -9,40 +9,40 @@ use Rattle.primitives.proofs.WordLaws.{get_put, put_below, put_above}
 -- ---- as the code adds the bytes: 0 and 1, then from 4 on
 
 module _ (l : List ℕ) where
-  pub bytes-none : (i sum : ℕ) → add_bytes l i sum 0 ≡ sum
+  pub bytes_none : (i sum : ℕ) → add_bytes l i sum 0 ≡ sum
   unfolding add_bytes
-  bytes-none i sum = refl
+  bytes_none i sum = refl
 
   pub bytes_next : (i sum n : ℕ) → add_bytes l i sum (n + 1) ≡ add_byte (add_bytes l i sum n) (get_or l (i + n) 0)
   unfolding add_bytes
   bytes_next i sum n = rw add-one refl
 
-  pub checksum-start : (n : ℕ) → n < 3 → checksum l n ≡ add_bytes l 0 0 n
+  pub checksum_start : (n : ℕ) → n < 3 → checksum l n ≡ add_bytes l 0 0 n
   unfolding checksum add_bytes
-  checksum-start zero h = refl
-  checksum-start (suc zero) h = refl
-  checksum-start (suc (suc zero)) h = refl
-  checksum-start (suc (suc (suc n))) h = absurd (omega arith)
+  checksum_start zero h = refl
+  checksum_start (suc zero) h = refl
+  checksum_start (suc (suc zero)) h = refl
+  checksum_start (suc (suc (suc n))) h = absurd (omega arith)
 
-  pub checksum-gap : (n : ℕ) → 2 ≤ n → n < 5 → checksum l n ≡ add_bytes l 0 0 2
+  pub checksum_gap : (n : ℕ) → 2 ≤ n → n < 5 → checksum l n ≡ add_bytes l 0 0 2
   unfolding checksum add_bytes
-  checksum-gap zero h t = absurd (omega arith)
-  checksum-gap (suc zero) h t = absurd (omega arith)
-  checksum-gap (suc (suc zero)) h t = refl
-  checksum-gap (suc (suc (suc zero))) h t = refl
-  checksum-gap (suc (suc (suc (suc zero)))) h t = refl
-  checksum-gap (suc (suc (suc (suc (suc n))))) h t = absurd (omega arith)
+  checksum_gap zero h t = absurd (omega arith)
+  checksum_gap (suc zero) h t = absurd (omega arith)
+  checksum_gap (suc (suc zero)) h t = refl
+  checksum_gap (suc (suc (suc zero))) h t = refl
+  checksum_gap (suc (suc (suc (suc zero)))) h t = refl
+  checksum_gap (suc (suc (suc (suc (suc n))))) h t = absurd (omega arith)
 
-  checksum-on : (k : ℕ) → 4 ≤ k → checksum l (suc k) ≡ add_byte (checksum l k) (get_or l k 0)
+  checksum_on : (k : ℕ) → 4 ≤ k → checksum l (suc k) ≡ add_byte (checksum l k) (get_or l k 0)
   unfolding checksum
-  checksum-on k h = simp (ne_eqb k 2 (omega arith), ne_eqb k 3 (omega arith))
+  checksum_on k h = simp (ne_eqb k 2 (omega arith), ne_eqb k 3 (omega arith))
 
-  pub checksum-rest : (n : ℕ) → checksum l (n + 4) ≡ add_bytes l 4 (add_bytes l 0 0 2) n
+  pub checksum_rest : (n : ℕ) → checksum l (n + 4) ≡ add_bytes l 4 (add_bytes l 0 0 2) n
   unfolding add_bytes
-  checksum-rest zero = checksum-gap (zero + 4) (omega arith) (omega arith)
-  checksum-rest (suc n) =
-      ap (checksum l) (omega arith) ∙ checksum-on (n + 4) (omega arith)
-      ∙ ap₂ add_byte (checksum-rest n) (ap (λ (x : ℕ). get_or l x 0) (omega arith))
+  checksum_rest zero = checksum_gap (zero + 4) (omega arith) (omega arith)
+  checksum_rest (suc n) =
+      ap (checksum l) (omega arith) ∙ checksum_on (n + 4) (omega arith)
+      ∙ ap₂ add_byte (checksum_rest n) (ap (λ (x : ℕ). get_or l x 0) (omega arith))
 
 -- it is a number of 16 bits
 cond_lt : {a b m : ℕ} (t : Bool) → a < m → b < m → cond t a b < m

@@ -71,7 +71,7 @@ count_same l m (suc n) h = ap₂ ◌+◌ (count_same l m n (λ i b. h i (omega a
 
 -- the bytes after the last bit counted do not matter
 pub count-take : (l : List ℕ) (k n : ℕ) → n ≤ 8 * k → count_bits (take k l) n ≡ count_bits l n
-count-take l k n h = count_same l (take k l) n (λ i b. in-part i (omega arith))
+count-take l k n h = count_same l (take k l) n (λ i b. in_part i (omega arith))
   where
-    in-part : (i : ℕ) → i / 8 < k → bit_at (take k l) i ≡ bit_at l i
-    in-part i b = unfold bit_at in ap (λ (x : ℕ). bit_of x (i % 8)) (get_or-take k l (i / 8) 0 b)
+    in_part : (i : ℕ) → i / 8 < k → bit_at (take k l) i ≡ bit_at l i
+    in_part i b = unfold bit_at in ap (λ (x : ℕ). bit_of x (i % 8)) (get_or-take k l (i / 8) 0 b)

@@ -14,21 +14,21 @@ module _ (d : List ℕ) (at : ℕ) (s : List ℕ) (fits : at + length s ≤ leng
   unfolding splice
   length-splice = simp (length-append, length-drop, length-take-le at d (omega arith)) (omega arith)
 
-  pub splice-below : (i : ℕ) → i < at → get_or (splice d at s) i 0 ≡ get_or d i 0
+  pub splice_below : (i : ℕ) → i < at → get_or (splice d at s) i 0 ≡ get_or d i 0
   unfolding splice
-  splice-below i h =
+  splice_below i h =
       get_or-append (take at d ++ s) _ 0 i (omega (arith, head))
       ∙ get_or-append (take at d) s 0 i (omega (arith, length-take-le at d (omega arith))) ∙ get_or-take at d i 0 h
 
-  pub splice-in : (k : ℕ) → k < length s → get_or (splice d at s) (at + k) 0 ≡ get_or s k 0
+  pub splice_in : (k : ℕ) → k < length s → get_or (splice d at s) (at + k) 0 ≡ get_or s k 0
   unfolding splice
-  splice-in k h =
+  splice_in k h =
       get_or-append (take at d ++ s) _ 0 (at + k) (omega (arith, head))
       ∙ ap (λ (n : ℕ). get_or (take at d ++ s) (n + k) 0) (sym (length-take-le at d (omega arith))) ∙ get_or-append-add (take at d) s k 0
 
-  pub splice-above : (i : ℕ) → at + length s ≤ i → get_or (splice d at s) i 0 ≡ get_or d i 0
+  pub splice_above : (i : ℕ) → at + length s ≤ i → get_or (splice d at s) i 0 ≡ get_or d i 0
   unfolding splice
-  splice-above i h =
+  splice_above i h =
       let j = i - (at + length s) in
       let e : i ≡ length (take at d ++ s) + j = omega (arith, head) in
       let f : at + length s + j ≡ i = omega arith in
@@ -36,11 +36,11 @@ module _ (d : List ℕ) (at : ℕ) (s : List ℕ) (fits : at + length s ≤ leng
       ∙ get_or-drop (at + length s) d j 0 ∙ ap (λ (n : ℕ). get_or d n 0) f
 
   -- a byte outside the part
-  pub splice-off : (i : ℕ) → ((r : ℕ) → r < length s → i ≡ at + r → ⊥) → get_or (splice d at s) i 0 ≡ get_or d i 0
-  splice-off i h =
+  pub splice_off : (i : ℕ) → ((r : ℕ) → r < length s → i ≡ at + r → ⊥) → get_or (splice d at s) i 0 ≡ get_or d i 0
+  splice_off i h =
       elim (dec_lt i at) [
-        | yes b ↦ splice-below i b
-        | no b ↦ splice-above i (elim (dec_lt i (at + length s)) [
+        | yes b ↦ splice_below i b
+        | no b ↦ splice_above i (elim (dec_lt i (at + length s)) [
           | yes c ↦ absurd (h (i - at) (omega arith) (omega arith))
           | no c ↦ omega arith
         ])
@@ -88,8 +88,8 @@ module _ (src : List ℕ) (from k : ℕ) (h : from + k < length src) where
   pub length_part : length (take k (drop from src)) ≡ k
   length_part = length-take-le k (drop from src) (omega (arith, length-drop from src))
 
-  pub part-more : take k (drop from src) ++ (get_or src (from + k) 0 ∷ []) ≡ take (k + 1) (drop from src)
-  part-more =
+  pub part_more : take k (drop from src) ++ (get_or src (from + k) 0 ∷ []) ≡ take (k + 1) (drop from src)
+  part_more =
       ap (λ (x : ℕ). take k (drop from src) ++ (x ∷ [])) (sym (get_or-drop from src k 0))
       ∙ sym (take-suc (drop from src) k 0 (omega (arith, length-drop from src))) ∙ ap (λ (n : ℕ). take n (drop from src)) (sym (add-one k))
 

@@ -16,11 +16,11 @@ pub record Piece (tape part : List ℕ) (offset : ℕ) : Type 0 where
 
 module _ (tape : List ℕ) (part : ℕ → List ℕ) (piece : (offset : ℕ) → Piece tape (part offset) offset) where
   -- as many parts as there are bytes left, or more
-  pub fetched-is : (n offset : ℕ) → length tape ≤ offset + n → fetched part n offset ≡ drop offset tape
+  pub fetched_is : (n offset : ℕ) → length tape ≤ offset + n → fetched part n offset ≡ drop offset tape
   unfolding fetched
-  fetched-is zero offset h = sym (drop_of_length-le tape {i = offset} (omega arith))
-  fetched-is (suc n) offset h =
+  fetched_is zero offset h = sym (drop_of_length-le tape {i = offset} (omega arith))
+  fetched_is (suc n) offset h =
       let k = length (part offset) in
       let more : length tape ≤ offset + k + n = ⊎_elim (λ x. omega arith) (λ x. omega arith) (piece offset).some in
-      ap (λ (r : List ℕ). part offset ++ r) (fetched-is n (offset + k) more ∙ sym (drop-drop k offset tape))
+      ap (λ (r : List ℕ). part offset ++ r) (fetched_is n (offset + k) more ∙ sym (drop-drop k offset tape))
       ∙ ap (λ (p : List ℕ). p ++ drop k (drop offset tape)) (piece offset).is ∙ take-append-drop k (drop offset tape)

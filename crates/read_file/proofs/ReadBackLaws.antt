@@ -17,7 +17,7 @@ use Rattle.boot.specs.Geometry.{root_cluster}
 use Rattle.boot.specs.Layout.{layout_of, in_heap}
 use Rattle.boot.specs.Causes.{first_cause, admit_cause}
 use Rattle.boot.proofs.CauseLaws.{cause_skip, cause_none, cause_last}
-use Rattle.boot.proofs.Admission.{Admits, admitted-limits, limits-admits}
+use Rattle.boot.proofs.Admission.{Admits, admitted-limits, limits_admits}
 use Rattle.metadata.proofs.Frame.{Fits}
 use Rattle.stream.specs.declared.allocation.Allocation.{Allocation}
 use Rattle.stream.specs.Stream.{clusters_in}
@@ -25,19 +25,19 @@ use Rattle.stream.specs.Bytes.{bytes_in, bytes_of}
 use Rattle.entry_set.specs.Fields.{valid_length, data_length}
 use Rattle.directory.specs.Directory.{root_record, directory_cause}
 use Rattle.directory.specs.Open.{file_record, set_in, file_cause, shown}
-use Rattle.directory.proofs.DirectoryLaws.{clusters-heap}
-use Rattle.directory.proofs.FileLaws.{file-reads, file-valid, file-holds}
+use Rattle.directory.proofs.DirectoryLaws.{clusters_heap}
+use Rattle.directory.proofs.FileLaws.{file-reads, file_valid, file_holds}
 use Rattle.read_file.specs.Part.{no_part, part_in, part_bytes, Inside}
 use Rattle.read_file.specs.Read.{zero_cause, read_cause, file_part, read_in, read_number, read_part}
 use Rattle.read_file.specs.ReadBack.{root_set, set_clusters, set_contents, read_bytes, Longest, ReadBack}
-use Rattle.read_file.proofs.FetchedLaws.{Piece, fetched-is}
-use Rattle.read_file.proofs.PartLaws.{zeros_are, part-stored, part-zeros, part_none, stored-longest, none_inside, tape-length, part-piece, part-inside}
+use Rattle.read_file.proofs.FetchedLaws.{Piece, fetched_is}
+use Rattle.read_file.proofs.PartLaws.{zeros_are, part_stored, part_zeros, part_none, stored_longest, none_inside, tape_length, part_piece, part_inside}
 
 -- ---- the zeros
 
 module _ (z : List ℕ) (e : zero_cause z ≡ 0) where
-  zero-tests : not (eqb (length z) 0) && every (λ b. eqb b 0) z ≡ true
-  zero-tests = by (not (eqb (length z) 0) && every (λ b. eqb b 0) z) refl
+  zero_tests : not (eqb (length z) 0) && every (λ b. eqb b 0) z ≡ true
+  zero_tests = by (not (eqb (length z) 0) && every (λ b. eqb b 0) z) refl
     where
       by : (t : Bool) → not (eqb (length z) 0) && every (λ b. eqb b 0) z ≡ t → t ≡ true
       by true q = refl
@@ -46,16 +46,16 @@ module _ (z : List ℕ) (e : zero_cause z ≡ 0) where
           absurd (omega (arith, e, f))
 
   -- there are some, and they are all 0
-  pub zeros-some : 1 ≤ length z
-  zeros-some =
-      let n = eqb-false (length z) 0 (not-true (eqb (length z) 0) (and_left (not (eqb (length z) 0)) (every (λ b. eqb b 0) z) zero-tests)) in
+  pub zeros_some : 1 ≤ length z
+  zeros_some =
+      let n = eqb-false (length z) 0 (not-true (eqb (length z) 0) (and_left (not (eqb (length z) 0)) (every (λ b. eqb b 0) z) zero_tests)) in
       pos (length z) n
     where
       pos : (n : ℕ) → (n ≡ 0 → ⊥) → 1 ≤ n
       pos n h = elim (dec_lt 0 n) [ yes l ↦ l | no l ↦ absurd (h (omega arith)) ]
 
-  pub zeros-all : z ≡ replicate (length z) 0
-  zeros-all = zeros_are z (and_right (not (eqb (length z) 0)) (every (λ b. eqb b 0) z) zero-tests)
+  pub zeros_all : z ≡ replicate (length z) 0
+  zeros_all = zeros_are z (and_right (not (eqb (length z) 0)) (every (λ b. eqb b 0) z) zero_tests)
 
 -- ---- the causes of a read
 
@@ -94,66 +94,66 @@ module _ (g : Geometry) (d m z : List ℕ) (slot : ℕ) where
     cause : read_cause y d m a z slot ≡ 0
     cause = (cause_none (read_cause y d m a z slot) [] outer.1).0
 
-    after-zeros : (zero_cause z ≡ 0) × (first_cause (directory_cause y d a ∷ file_cause y d m a slot ∷ []) ≡ 0)
-    after-zeros = cause_none (zero_cause z) (directory_cause y d a ∷ file_cause y d m a slot ∷ []) (sym cause_is ∙ cause)
+    after_zeros : (zero_cause z ≡ 0) × (first_cause (directory_cause y d a ∷ file_cause y d m a slot ∷ []) ≡ 0)
+    after_zeros = cause_none (zero_cause z) (directory_cause y d a ∷ file_cause y d m a slot ∷ []) (sym cause_is ∙ cause)
 
-    pub read-file-cause : file_cause y d m a slot ≡ 0
-    read-file-cause =
-        (cause_none (file_cause y d m a slot) [] (cause_none (directory_cause y d a) (file_cause y d m a slot ∷ []) after-zeros.1).1).0
+    pub read-file_cause : file_cause y d m a slot ≡ 0
+    read-file_cause =
+        (cause_none (file_cause y d m a slot) [] (cause_none (directory_cause y d a) (file_cause y d m a slot ∷ []) after_zeros.1).1).0
 
     admits : Admits g d m (layout_of g (length d))
-    admits = limits-admits g d m (admitted-limits g d m outer.0)
+    admits = limits_admits g d m (admitted-limits g d m outer.0)
 
     fits : Fits (layout_of g (length d)) d
     fits = record { laid = admits.laid; apart = admits.apart; long = admits.long }
 
     heap : every (in_heap (layout_of g (length d)).count) ks ≡ true
-    heap = clusters-heap y d (file_record y d s) (file-reads y d m a slot read-file-cause)
+    heap = clusters_heap y d (file_record y d s) (file-reads y d m a slot read-file_cause)
 
-    valid-low : valid_length s ≤ data_length s
-    valid-low = file-valid y d m a slot read-file-cause
+    valid_low : valid_length s ≤ data_length s
+    valid_low = file_valid y d m a slot read-file_cause
 
     room : valid_length s ≤ length ks * (layout_of g (length d)).size
-    room = omega (arith, valid-low, file-holds y d m a slot read-file-cause fits.laid)
+    room = omega (arith, valid_low, file_holds y d m a slot read-file_cause fits.laid)
 
-    part-is : (offset : ℕ) → read_part g d m z slot offset ≡ part_in y ks (valid_length s) (data_length s) (length z) offset
+    part_is : (offset : ℕ) → read_part g d m z slot offset ≡ part_in y ks (valid_length s) (data_length s) (length z) offset
     unfolding read_part read_in file_part
-    part-is offset = rw (eq-eqb (admit_cause g d m) 0 outer.0, eq-eqb (read_cause y d m a z slot) 0 cause) refl
+    part_is offset = rw (eq-eqb (admit_cause g d m) 0 outer.0, eq-eqb (read_cause y d m a z slot) 0 cause) refl
 
     piece_is : (offset : ℕ) → Piece (shown (bytes_of y d ks) (valid_length s) (data_length s)) (read_bytes g d m z slot offset) offset
     unfolding read_bytes
     piece_is offset =
-        rw (part-is offset)
-        (part-piece y d z fits (zeros-some z after-zeros.0) (zeros-all z after-zeros.0) ks heap (valid_length s) (data_length s) valid-low room offset)
+        rw (part_is offset)
+        (part_piece y d z fits (zeros_some z after_zeros.0) (zeros_all z after_zeros.0) ks heap (valid_length s) (data_length s) valid_low room offset)
 
-    tape-long : length (shown (bytes_of y d ks) (valid_length s) (data_length s)) ≡ data_length s
-    tape-long =
-        tape-length y d z fits (zeros-some z after-zeros.0) (zeros-all z after-zeros.0) ks heap (valid_length s) (data_length s) valid-low room
+    tape_long : length (shown (bytes_of y d ks) (valid_length s) (data_length s)) ≡ data_length s
+    tape_long =
+        tape_length y d z fits (zeros_some z after_zeros.0) (zeros_all z after_zeros.0) ks heap (valid_length s) (data_length s) valid_low room
 
     read-empty : (offset : ℕ) → data_length s ≤ offset → length (read_bytes g d m z slot offset) ≡ 0
     unfolding read_bytes
     read-empty offset h =
-        rw (part-is offset ∙ part_none y ks (valid_length s) (data_length s) (length z) offset (omega (arith, valid-low)) h) (unfold part_bytes in refl)
+        rw (part_is offset ∙ part_none y ks (valid_length s) (data_length s) (length z) offset (omega (arith, valid_low)) h) (unfold part_bytes in refl)
 
     read_past : (offset : ℕ) → length (read_bytes g d m z slot offset) ≡ 0 → data_length s ≤ offset
-    read_past offset h = ⊎_elim (λ x. omega (arith, tape-long)) (λ x. absurd (omega (arith, h))) (piece_is offset).some
+    read_past offset h = ⊎_elim (λ x. omega (arith, tape_long)) (λ x. absurd (omega (arith, h))) (piece_is offset).some
 
     pub read_back : ReadBack g d m z slot
     unfolding root_set set_clusters set_contents bytes_in
     read_back = record {
       whole = λ n h. let k : data_length s ≤ n = h in
-          fetched-is (shown (bytes_of y d ks) (valid_length s) (data_length s)) (read_bytes g d m z slot) piece_is n 0 (omega (arith, tape-long));
+          fetched_is (shown (bytes_of y d ks) (valid_length s) (data_length s)) (read_bytes g d m z slot) piece_is n 0 (omega (arith, tape_long));
       empty_only = λ offset. (read_past offset, read-empty offset);
       longest = λ offset h. subst (Longest y ks (valid_length s) offset)
-          (sym (part-is offset ∙ part-stored y ks (valid_length s) (data_length s) (length z) offset h))
-          (stored-longest y d fits ks heap (valid_length s) room offset h);
-      zeros = λ offset v h. part-is offset ∙ part-zeros y ks (valid_length s) (data_length s) (length z) offset v h;
+          (sym (part_is offset ∙ part_stored y ks (valid_length s) (data_length s) (length z) offset h))
+          (stored_longest y d fits ks heap (valid_length s) room offset h);
+      zeros = λ offset v h. part_is offset ∙ part_zeros y ks (valid_length s) (data_length s) (length z) offset v h;
     }
 
   -- refused, the part is empty
-  pub part-refused : read_number g d m z slot ≢ 0 → (offset : ℕ) → read_part g d m z slot offset ≡ no_part
+  pub part_refused : read_number g d m z slot ≢ 0 → (offset : ℕ) → read_part g d m z slot offset ≡ no_part
   unfolding read_part read_in
-  part-refused n offset =
+  part_refused n offset =
       elim (ℕ_discrete (admit_cause g d m) 0) [
         | yes p ↦ (elim (ℕ_discrete (read_cause y d m a z slot) 0) [
           | yes q ↦
@@ -164,10 +164,10 @@ module _ (g : Geometry) (d m z : List ℕ) (slot : ℕ) where
       ]
 
   -- every part lies inside the slice that it is of
-  pub read-inside : (offset : ℕ) → Inside (length d) (length z) (read_part g d m z slot offset)
-  read-inside offset =
+  pub read_inside : (offset : ℕ) → Inside (length d) (length z) (read_part g d m z slot offset)
+  read_inside offset =
       elim (ℕ_discrete (read_number g d m z slot) 0) [
         | yes e ↦
-            rw (part-is e offset) (part-inside y d (fits e) ks (heap e) (valid_length s) (data_length s) (length z) (room e) offset)
-        | no n ↦ rw (part-refused n offset) none_inside
+            rw (part_is e offset) (part_inside y d (fits e) ks (heap e) (valid_length s) (data_length s) (length z) (room e) offset)
+        | no n ↦ rw (part_refused n offset) none_inside
       ]

@@ -32,11 +32,11 @@ use Rattle.directory.specs.declared.open_file.OpenFile.{OpenFile}
 use Rattle.directory.specs.Directory.{root_record, directory_cause}
 use Rattle.directory.specs.Open.{file_record, set_in, file_cause}
 use Rattle.directory.specs.Internal.{set_read, no_file, start_place, found_file, open_file}
-use Rattle.directory.proofs.DirectoryLaws.{clusters-along, clusters-length}
-use Rattle.directory.proofs.CursorLaws.{along-at}
-use Rattle.directory.proofs.EntryLaws.{sound-formed}
-use Rattle.directory.proofs.StartLaws.{start-read}
-use Rattle.directory.proofs.FileLaws.{file-sound, file-reads, file-valid, file-holds, file-read}
+use Rattle.directory.proofs.DirectoryLaws.{clusters_along, clusters_length}
+use Rattle.directory.proofs.CursorLaws.{along_at}
+use Rattle.directory.proofs.EntryLaws.{sound_formed}
+use Rattle.directory.proofs.StartLaws.{start_read}
+use Rattle.directory.proofs.FileLaws.{file_sound, file-reads, file_valid, file_holds, file-read}
 use Rattle.read_file.specs.declared.part.Part.{Part}
 use Rattle.read_file.specs.Part.{no_part}
 use Rattle.read_file.specs.Read.{zero_cause, read_cause, file_part, read_in, read_number, read_part}
@@ -70,83 +70,83 @@ module _ (y : Layout) (d m : List ℕ) (a : Allocation) (slot offset : ℕ) wher
   abbrev causes : ℕ
   causes = first_cause (directory_cause y d a ∷ file_cause y d m a slot ∷ [])
 
-  refused-is : (n : ℕ) → n ≡ causes → (n ≡ 0 → ⊥) → no_file n ≡ root_file y d m a slot offset
+  refused_is : (n : ℕ) → n ≡ causes → (n ≡ 0 → ⊥) → no_file n ≡ root_file y d m a slot offset
   unfolding root_file
-  refused-is n e z = rw (← e, ne_eqb n 0 z) refl
+  refused_is n e z = rw (← e, ne_eqb n 0 z) refl
 
-  pub root-refused : (n : ℕ) → n ≡ directory_cause y d a → (n ≡ 0 → ⊥)
+  pub root_refused : (n : ℕ) → n ≡ directory_cause y d a → (n ≡ 0 → ⊥)
       → (no_file n ≡ root_file y d m a slot offset) × (replicate 608 0 ≡ root_file_set y d a slot)
-  root-refused n e z = (
-    refused-is n (e ∙ sym (cause_met (directory_cause y d a) (file_cause y d m a slot ∷ []) (λ q. z (e ∙ q)))) z,
+  root_refused n e z = (
+    refused_is n (e ∙ sym (cause_met (directory_cause y d a) (file_cause y d m a slot ∷ []) (λ q. z (e ∙ q)))) z,
     unfold root_file_set in (rw (ne_eqb (directory_cause y d a) 0 (λ q. z (e ∙ q))) refl),
   )
 
-  pub root-opens : directory_cause y d a ≡ 0
+  pub root_opens : directory_cause y d a ≡ 0
       → (open_file y d m a slot offset ≡ root_file y d m a slot offset) × (set_read (bytes_in y d a) slot ≡ root_file_set y d a slot)
-  root-opens e = (
+  root_opens e = (
     unfold open_file root_file in
         (rw (cause_skip (directory_cause y d a) (file_cause y d m a slot ∷ []) e ∙ cause_last (file_cause y d m a slot)) refl),
     unfold root_file_set in (rw (eq-eqb (directory_cause y d a) 0 e) refl),
   )
 
   -- its number
-  pub root-file-number : (f : OpenFile) → f ≡ root_file y d m a slot offset → f.number ≡ first_cause (directory_cause y d a ∷ file_cause y d m a slot ∷ [])
-  root-file-number f e = ap (λ (x : OpenFile). x.number) e ∙ by (eqb causes 0) refl
+  pub root-file_number : (f : OpenFile) → f ≡ root_file y d m a slot offset → f.number ≡ first_cause (directory_cause y d a ∷ file_cause y d m a slot ∷ [])
+  root-file_number f e = ap (λ (x : OpenFile). x.number) e ∙ by (eqb causes 0) refl
     where
       by : (t : Bool) → eqb causes 0 ≡ t → (root_file y d m a slot offset).number ≡ causes
       by true q = unfold root_file found_file in (rw q (sym (eqb-true causes 0 q)))
       by false q = unfold root_file in (rw q refl)
 
-  found-is : causes ≡ 0 → root_file y d m a slot offset ≡ found_file y d a slot offset
+  found_is : causes ≡ 0 → root_file y d m a slot offset ≡ found_file y d a slot offset
   unfolding root_file
-  found-is e = rw (eq-eqb causes 0 e) refl
+  found_is e = rw (eq-eqb causes 0 e) refl
 
   -- the file that is found where nothing refuses it
   module _ (w : Fits y d) (f : OpenFile) (e : f ≡ root_file y d m a slot offset) (s : List ℕ) (q : s ≡ root_file_set y d a slot) (z : f.number ≡ 0) where
     none : causes ≡ 0
-    none = sym (root-file-number f e) ∙ z
+    none = sym (root-file_number f e) ∙ z
 
-    directory-none : directory_cause y d a ≡ 0
-    directory-none = (cause_none (directory_cause y d a) (file_cause y d m a slot ∷ []) none).0
+    directory_none : directory_cause y d a ≡ 0
+    directory_none = (cause_none (directory_cause y d a) (file_cause y d m a slot ∷ []) none).0
 
     file-none : file_cause y d m a slot ≡ 0
     file-none = (cause_none (file_cause y d m a slot) [] (cause_none (directory_cause y d a) (file_cause y d m a slot ∷ []) none).1).0
 
-    pub found-set : s ≡ set_in y d a slot
-    found-set = q ∙ sym (root-opens directory-none).1 ∙ file-read y d m a slot file-none
+    pub found_set : s ≡ set_in y d a slot
+    found_set = q ∙ sym (root_opens directory_none).1 ∙ file-read y d m a slot file-none
 
     stream_is : f.stream ≡ file_record y d (set_in y d a slot)
-    stream_is = ap (λ (x : OpenFile). x.stream) (e ∙ found-is none) ∙ (unfold found_file in refl)
+    stream_is = ap (λ (x : OpenFile). x.stream) (e ∙ found_is none) ∙ (unfold found_file in refl)
 
     place_is : f.place ≡ start_place y d (file_record y d (set_in y d a slot)) (set_in y d a slot) offset
-    place_is = ap (λ (x : OpenFile). x.place) (e ∙ found-is none) ∙ (unfold found_file in refl)
+    place_is = ap (λ (x : OpenFile). x.place) (e ∙ found_is none) ∙ (unfold found_file in refl)
 
     formed : well_formed y.count y.size s ≡ true
     formed =
-        ap (well_formed y.count y.size) found-set
-        ∙ (unfold set_in in (sound-formed y.count y.size (bytes_in y d a) slot (file-sound y d m a slot file-none)))
+        ap (well_formed y.count y.size) found_set
+        ∙ (unfold set_in in (sound_formed y.count y.size (bytes_in y d a) slot (file_sound y d m a slot file-none)))
 
     -- its cluster at an offset that is read
     seen_is : offset < valid_length s → f.place.cluster ≡ get_or (clusters_in y d f.stream) (offset / y.size) 0
     seen_is h =
         let b = file_record y d (set_in y d a slot) in
         let r = file-reads y d m a slot file-none in
-        let v : offset < valid_length (set_in y d a slot) = omega (arith, h, ap valid_length found-set) in
+        let v : offset < valid_length (set_in y d a slot) = omega (arith, h, ap valid_length found_set) in
         let c : valid_length (set_in y d a slot) ≤ b.count * y.size =
-        omega (arith, file-valid y d m a slot file-none, file-holds y d m a slot file-none w.laid, ap (λ (n : ℕ). n * y.size) (clusters-length y d b r)) in
+        omega (arith, file_valid y d m a slot file-none, file_holds y d m a slot file-none w.laid, ap (λ (n : ℕ). n * y.size) (clusters_length y d b r)) in
         let l : 1 ≤ y.size = omega (arith, w.laid.size_low) in
         ap (λ (p : Place). p.cluster) place_is
-        ∙ ap (reached (fat_entry y d) b.no_fat_chain b.first) (start-read y.size (valid_length (set_in y d a slot)) offset b.count v c l)
+        ∙ ap (reached (fat_entry y d) b.no_fat_chain b.first) (start_read y.size (valid_length (set_in y d a slot)) offset b.count v c l)
         ∙ sym
-        (ap (λ (x : Allocation). get_or (clusters_in y d x) (offset / y.size) 0) stream_is ∙ ap (λ (ks : List ℕ). get_or ks (offset / y.size) 0) (clusters-along y d b r)
-        ∙ along-at (fat_entry y d) b.no_fat_chain b.first b.count (offset / y.size) ((div-lt_iff_lt-mul {k = y.size} {x = offset} {y = b.count} l).1 (omega (arith, v, c))))
+        (ap (λ (x : Allocation). get_or (clusters_in y d x) (offset / y.size) 0) stream_is ∙ ap (λ (ks : List ℕ). get_or ks (offset / y.size) 0) (clusters_along y d b r)
+        ∙ along_at (fat_entry y d) b.no_fat_chain b.first b.count (offset / y.size) ((div-lt_iff_lt-mul {k = y.size} {x = offset} {y = b.count} l).1 (omega (arith, v, c))))
 
-    pub found-readable : Readable y d s f.stream f.place.cluster offset
-    found-readable = record {
+    pub found_readable : Readable y d s f.stream f.place.cluster offset
+    found_readable = record {
       laid = w.laid;
       long = w.long;
       formed = formed;
-      stream = stream_is ∙ ap (file_record y d) (sym found-set);
+      stream = stream_is ∙ ap (file_record y d) (sym found_set);
       reads = ap (λ (x : Allocation). number_of (stream_of y d x)) stream_is ∙ file-reads y d m a slot file-none;
       seen = seen_is;
     }
@@ -158,40 +158,40 @@ module _ (y : Layout) (d m : List ℕ) (a : Allocation) (z : List ℕ) (slot : �
   unfolding read_cause
   cause_is = refl
 
-  pub cause-zeros : (n : ℕ) → n ≡ zero_cause z → (n ≡ 0 → ⊥) → n ≡ read_cause y d m a z slot
-  cause-zeros n e q = e ∙ sym (cause_is ∙ cause_met (zero_cause z) (directory_cause y d a ∷ file_cause y d m a slot ∷ []) (λ t. q (e ∙ t)))
+  pub cause_zeros : (n : ℕ) → n ≡ zero_cause z → (n ≡ 0 → ⊥) → n ≡ read_cause y d m a z slot
+  cause_zeros n e q = e ∙ sym (cause_is ∙ cause_met (zero_cause z) (directory_cause y d a ∷ file_cause y d m a slot ∷ []) (λ t. q (e ∙ t)))
 
-  pub cause-file : zero_cause z ≡ 0 → first_cause (directory_cause y d a ∷ file_cause y d m a slot ∷ []) ≡ read_cause y d m a z slot
-  cause-file e = sym (cause_is ∙ cause_skip (zero_cause z) (directory_cause y d a ∷ file_cause y d m a slot ∷ []) e)
+  pub cause_file : zero_cause z ≡ 0 → first_cause (directory_cause y d a ∷ file_cause y d m a slot ∷ []) ≡ read_cause y d m a z slot
+  cause_file e = sym (cause_is ∙ cause_skip (zero_cause z) (directory_cause y d a ∷ file_cause y d m a slot ∷ []) e)
 
-  pub part-not : (offset : ℕ) → (read_cause y d m a z slot ≡ 0 → ⊥) → no_part ≡ read_in y d m a z slot offset
+  pub part_not : (offset : ℕ) → (read_cause y d m a z slot ≡ 0 → ⊥) → no_part ≡ read_in y d m a z slot offset
   unfolding read_in
-  part-not offset n = rw (ne_eqb (read_cause y d m a z slot) 0 n) refl
+  part_not offset n = rw (ne_eqb (read_cause y d m a z slot) 0 n) refl
 
-  pub part-done : (offset : ℕ) (s : List ℕ) → s ≡ set_in y d a slot → read_cause y d m a z slot ≡ 0
+  pub part_done : (offset : ℕ) (s : List ℕ) → s ≡ set_in y d a slot → read_cause y d m a z slot ≡ 0
       → file_part y d s (length z) offset ≡ read_in y d m a z slot offset
   unfolding read_in
-  part-done offset s q e = rw (q, eq-eqb (read_cause y d m a z slot) 0 e) refl
+  part_done offset s q e = rw (q, eq-eqb (read_cause y d m a z slot) 0 e) refl
 
 -- ---- and behind the limits
 
 module _ (g : Geometry) (d m z : List ℕ) (slot : ℕ) where
-  pub number-not-admitted : (n : ℕ) → n ≡ admit_cause g d m → (n ≡ 0 → ⊥) → n ≡ read_number g d m z slot
+  pub number_not-admitted : (n : ℕ) → n ≡ admit_cause g d m → (n ≡ 0 → ⊥) → n ≡ read_number g d m z slot
   unfolding read_number
-  number-not-admitted n e q = e ∙ sym (cause_met (admit_cause g d m) _ (λ t. q (e ∙ t)))
+  number_not-admitted n e q = e ∙ sym (cause_met (admit_cause g d m) _ (λ t. q (e ∙ t)))
 
-  pub part-not-admitted : (offset : ℕ) → (admit_cause g d m ≡ 0 → ⊥) → no_part ≡ read_part g d m z slot offset
+  pub part_not-admitted : (offset : ℕ) → (admit_cause g d m ≡ 0 → ⊥) → no_part ≡ read_part g d m z slot offset
   unfolding read_part
-  part-not-admitted offset n = rw (ne_eqb (admit_cause g d m) 0 n) refl
+  part_not-admitted offset n = rw (ne_eqb (admit_cause g d m) 0 n) refl
 
   module _ (y : Layout) (w : Admits g d m y) where
-    pub number-admitted : (n : ℕ) → n ≡ read_cause y d m (root_record y d (root_cluster g)) z slot → n ≡ read_number g d m z slot
+    pub number_admitted : (n : ℕ) → n ≡ read_cause y d m (root_record y d (root_cluster g)) z slot → n ≡ read_number g d m z slot
     unfolding read_number
-    number-admitted n e =
+    number_admitted n e =
         e ∙ ap (λ (x : Layout). read_cause x d m (root_record x d (root_cluster g)) z slot) w.is
         ∙ sym (cause_skip (admit_cause g d m) _ w.cause ∙ cause_last _)
 
-    pub part-admitted : (offset : ℕ) (p : Part) → p ≡ read_in y d m (root_record y d (root_cluster g)) z slot offset → p ≡ read_part g d m z slot offset
+    pub part_admitted : (offset : ℕ) (p : Part) → p ≡ read_in y d m (root_record y d (root_cluster g)) z slot offset → p ≡ read_part g d m z slot offset
     unfolding read_part
-    part-admitted offset p e =
+    part_admitted offset p e =
         e ∙ ap (λ (x : Layout). read_in x d m (root_record x d (root_cluster g)) z slot offset) w.is ∙ (rw (eq-eqb (admit_cause g d m) 0 w.cause) refl)

@@ -15,7 +15,7 @@ use Rattle.primitives.specs.Splice.{splice}
 use Rattle.primitives.proofs.SpliceLaws.{splice-nil, splice_join}
 use Rattle.tables.specs.Lists.{every, last_or}
 use Rattle.tables.proofs.Cases.{cond_case}
-use Rattle.tables.proofs.ListLaws.{every-cons, every-head, every-tail}
+use Rattle.tables.proofs.ListLaws.{every-cons, every_head, every_tail}
 use Rattle.boot.specs.declared.layout.Layout.{Layout}
 use Rattle.boot.specs.Internal.{Laid}
 use Rattle.boot.specs.Layout.{cluster_at, in_heap}
@@ -23,12 +23,12 @@ use Rattle.boot.proofs.Apart.{in_heap_lem}
 use Rattle.boot.proofs.Clusters.{cluster_in}
 use Rattle.metadata.specs.Fat.{fat_entry}
 use Rattle.metadata.specs.Cluster.{put_bytes}
-use Rattle.metadata.proofs.Frame.{Fits, fat-bytes}
+use Rattle.metadata.proofs.Frame.{Fits, fat_bytes_lem}
 use Rattle.stream.specs.declared.allocation.Allocation.{Allocation}
 use Rattle.stream.specs.declared.bytes.Place.{Place}
 use Rattle.stream.specs.Internal.{after, along, reached, place_at, Known}
 use Rattle.stream.specs.Bytes.{cluster_bytes, bytes_of, store_at}
-use Rattle.stream.proofs.StreamLaws.{along-step, along-head, along-rest, length-along}
+use Rattle.stream.proofs.StreamLaws.{along-step, along_head, along_rest, length-along}
 
 -- ---- parts of lists
 
@@ -87,20 +87,20 @@ module _ (p : ℕ → Bool) where
   pub every_drop : (m : ℕ) (ks : List ℕ) → every p ks ≡ true → every p (drop m ks) ≡ true
   every_drop zero ks e = e
   every_drop (suc m) [] e = e
-  every_drop (suc m) (k ∷ ks) e = every_drop m ks (every-tail p k ks e)
+  every_drop (suc m) (k ∷ ks) e = every_drop m ks (every_tail p k ks e)
 
   pub every_take : (m : ℕ) (ks : List ℕ) → every p ks ≡ true → every p (take m ks) ≡ true
   every_take zero ks e = unfold every in refl
   every_take (suc m) [] e = e
-  every_take (suc m) (k ∷ ks) e = every-cons p k (take m ks) (every-head p k ks e) (every_take m ks (every-tail p k ks e))
+  every_take (suc m) (k ∷ ks) e = every-cons p k (take m ks) (every_head p k ks e) (every_take m ks (every_tail p k ks e))
 
 -- ---- going along
 
 module _ (fat : ℕ → ℕ) (run : Bool) where
-  pub reach-none : (k n : ℕ) → n ≤ 0 → reached fat run k n ≡ k
+  pub reach_none : (k n : ℕ) → n ≤ 0 → reached fat run k n ≡ k
   unfolding reached
-  reach-none k zero h = refl
-  reach-none k (suc n) h = absurd (omega arith)
+  reach_none k zero h = refl
+  reach_none k (suc n) h = absurd (omega arith)
 
   pub reach_step : (k n : ℕ) → 0 < n → reached fat run k n ≡ reached fat run (after fat run k) (n - 1)
   unfolding reached
@@ -108,19 +108,19 @@ module _ (fat : ℕ → ℕ) (run : Bool) where
   reach_step k (suc n) h = rw sub-one refl
 
   -- steps after steps
-  pub reach-sum : (m k n : ℕ) → m ≤ n → reached fat run (reached fat run k m) (n - m) ≡ reached fat run k n
+  pub reach_sum : (m k n : ℕ) → m ≤ n → reached fat run (reached fat run k m) (n - m) ≡ reached fat run k n
   unfolding reached
-  reach-sum zero k n h = rw sub-zero refl
-  reach-sum (suc m) k zero h = absurd (omega arith)
-  reach-sum (suc m) k (suc n) h =
+  reach_sum zero k n h = rw sub-zero refl
+  reach_sum (suc m) k zero h = absurd (omega arith)
+  reach_sum (suc m) k (suc n) h =
       let e : suc n - suc m ≡ n - m = omega arith in
-      rw e (reach-sum m (after fat run k) n (omega arith))
+      rw e (reach_sum m (after fat run k) n (omega arith))
 
   -- the last of the clusters on the way
-  pub reach-last : (z k n : ℕ) → last_or z (along fat run k (suc n)) ≡ reached fat run k n
+  pub reach_last : (z k n : ℕ) → last_or z (along fat run k (suc n)) ≡ reached fat run k n
   unfolding reached along last_or
-  reach-last z k zero = refl
-  reach-last z k (suc n) = reach-last k (after fat run k) n
+  reach_last z k zero = refl
+  reach_last z k (suc n) = reach_last k (after fat run k) n
 
   -- the clusters from there on
   pub drop-along : (m k n : ℕ) → drop m (along fat run k n) ≡ along fat run (reached fat run k m) (n - m)
@@ -138,11 +138,11 @@ module _ (fat : ℕ → ℕ) (run : Bool) where
   take-along (suc m) k (suc n) h = ap (λ (l : List ℕ). k ∷ l) (take-along m (after fat run k) n (omega arith))
 
   module _ (p : ℕ → Bool) (m k n : ℕ) (h : m ≤ n) (e : every p (along fat run k n) ≡ true) where
-    pub every-before : every p (along fat run k m) ≡ true
-    every-before = ap (every p) (sym (take-along m k n h)) ∙ every_take p m (along fat run k n) e
+    pub every_before : every p (along fat run k m) ≡ true
+    every_before = ap (every p) (sym (take-along m k n h)) ∙ every_take p m (along fat run k n) e
 
-    pub every-from : every p (along fat run (reached fat run k m) (n - m)) ≡ true
-    every-from = ap (every p) (sym (drop-along m k n)) ∙ every_drop p m (along fat run k n) e
+    pub every_from : every p (along fat run (reached fat run k m) (n - m)) ≡ true
+    every_from = ap (every p) (sym (drop-along m k n)) ∙ every_drop p m (along fat run k n) e
 
 -- in a run
 pub reach_run : (fat : ℕ → ℕ) (run : Bool) (k n : ℕ) → run ≡ true → reached fat run k n ≡ k + n
@@ -153,29 +153,29 @@ reach_run fat run k (suc n) e = rw e (reach_run fat true (k + 1) n refl ∙ (ome
 pub run_end : (C : ℕ) (fat : ℕ → ℕ) (run : Bool) (k n : ℕ) → run ≡ true → every (in_heap C) (along fat run k n) ≡ true → 0 < n → k + n ≤ C + 2
 unfolding along after
 run_end C fat run k zero r e h = absurd (omega arith)
-run_end C fat run k (suc zero) r e h = let i = in_heap_lem C k (every-head (in_heap C) k [] e) in omega arith
+run_end C fat run k (suc zero) r e h = let i = in_heap_lem C k (every_head (in_heap C) k [] e) in omega arith
 run_end C fat run k (suc (suc n)) r e h =
-    let t = every-tail (in_heap C) k (along fat run (cond run (k + 1) (fat k)) (suc n)) e in
+    let t = every_tail (in_heap C) k (along fat run (cond run (k + 1) (fat k)) (suc n)) e in
     omega (arith, run_end C fat true (k + 1) (suc n) refl (rw r at t) (omega arith))
 
 -- FATs that are the same on the heap have the same streams
 module _ (C : ℕ) (f g : ℕ → ℕ) (same : (k : ℕ) → in_heap C k ≡ true → f k ≡ g k) (run : Bool) where
-  pub along-same : (k n : ℕ) → every (in_heap C) (along f run k n) ≡ true → along f run k n ≡ along g run k n
+  pub along_same : (k n : ℕ) → every (in_heap C) (along f run k n) ≡ true → along f run k n ≡ along g run k n
   unfolding along after
-  along-same k zero e = refl
-  along-same k (suc n) e =
-      let h = every-head (in_heap C) k (along f run (cond run (k + 1) (f k)) n) e in
-      let t = every-tail (in_heap C) k (along f run (cond run (k + 1) (f k)) n) e in
-      ap (λ (l : List ℕ). k ∷ l) (along-same (cond run (k + 1) (f k)) n t ∙ ap (λ (x : ℕ). along g run (cond run (k + 1) x) n) (same k h))
+  along_same k zero e = refl
+  along_same k (suc n) e =
+      let h = every_head (in_heap C) k (along f run (cond run (k + 1) (f k)) n) e in
+      let t = every_tail (in_heap C) k (along f run (cond run (k + 1) (f k)) n) e in
+      ap (λ (l : List ℕ). k ∷ l) (along_same (cond run (k + 1) (f k)) n t ∙ ap (λ (x : ℕ). along g run (cond run (k + 1) x) n) (same k h))
 
 -- the same clusters have the same places
 pub reach_same : (f g : ℕ → ℕ) (run : Bool) (k m n : ℕ) → m ≤ n - 1 → along f run k n ≡ along g run k n → reached f run k m ≡ reached g run k m
 reach_same f g run k m n h e =
     elim (dec_le (suc m) n) [
       | yes b ↦
-          sym (reach-last f run 0 k m) ∙ ap (last_or 0) (sym (take-along f run (suc m) k n b) ∙ ap (take (suc m)) e ∙ take-along g run (suc m) k n b)
-          ∙ reach-last g run 0 k m
-      | no b ↦ reach-none f run k m (omega arith) ∙ sym (reach-none g run k m (omega arith))
+          sym (reach_last f run 0 k m) ∙ ap (last_or 0) (sym (take-along f run (suc m) k n b) ∙ ap (take (suc m)) e ∙ take-along g run (suc m) k n b)
+          ∙ reach_last g run 0 k m
+      | no b ↦ reach_none f run k m (omega arith) ∙ sym (reach_none g run k m (omega arith))
     ]
 
 -- ---- a place that is known
@@ -184,8 +184,8 @@ module _ (y : Layout) (d : List ℕ) (a : Allocation) where
   pub known_at : (n i : ℕ) → n ≤ a.count - 1 → n * y.size ≤ i → Known y d a (place_at y d a n) i
   known_at n i h b = record { reaches = refl; inside = h; before = b }
 
-  pub known-first : (i : ℕ) → Known y d a (record { cluster = a.first; steps = 0 }) i
-  known-first i = record { reaches = reach-none (fat_entry y d) a.no_fat_chain a.first 0 (omega arith); inside = omega arith; before = omega arith }
+  pub known_first : (i : ℕ) → Known y d a (record { cluster = a.first; steps = 0 }) i
+  known_first i = record { reaches = reach_none (fat_entry y d) a.no_fat_chain a.first 0 (omega arith); inside = omega arith; before = omega arith }
 
   module _ (p : Place) (i : ℕ) (w : Known y d a p i) where
     -- it stays where the clusters are the same
@@ -199,24 +199,24 @@ module _ (y : Layout) (d : List ℕ) (a : Allocation) where
     }
 
     -- and for any byte behind
-    pub known-later : (j : ℕ) → i ≤ j → Known y d a p j
-    known-later j h = record { reaches = w.reaches; inside = w.inside; before = omega (arith, w.before) }
+    pub known_later : (j : ℕ) → i ≤ j → Known y d a p j
+    known_later j h = record { reaches = w.reaches; inside = w.inside; before = omega (arith, w.before) }
 
-    pub known-steps : 1 ≤ y.size → p.steps ≤ i / y.size
-    known-steps h = (le-div_iff_mul-le {k = y.size} {x = p.steps} {y = i} (omega arith)).1 w.before
+    pub known_steps : 1 ≤ y.size → p.steps ≤ i / y.size
+    known_steps h = (le-div_iff_mul-le {k = y.size} {x = p.steps} {y = i} (omega arith)).1 w.before
 
   -- from there on
   module _ (p : Place) (q : reached (fat_entry y d) a.no_fat_chain a.first p.steps ≡ p.cluster) (n : ℕ) (h : p.steps ≤ n) where
-    pub known-reach : reached (fat_entry y d) a.no_fat_chain p.cluster (n - p.steps) ≡ reached (fat_entry y d) a.no_fat_chain a.first n
-    known-reach =
+    pub known_reach : reached (fat_entry y d) a.no_fat_chain p.cluster (n - p.steps) ≡ reached (fat_entry y d) a.no_fat_chain a.first n
+    known_reach =
         ap (λ (k : ℕ). reached (fat_entry y d) a.no_fat_chain k (n - p.steps)) (sym q)
-        ∙ reach-sum (fat_entry y d) a.no_fat_chain p.steps a.first n h
+        ∙ reach_sum (fat_entry y d) a.no_fat_chain p.steps a.first n h
 
-    pub known-heap : every (in_heap y.count) (along (fat_entry y d) a.no_fat_chain a.first n) ≡ true
+    pub known_heap : every (in_heap y.count) (along (fat_entry y d) a.no_fat_chain a.first n) ≡ true
         → every (in_heap y.count) (along (fat_entry y d) a.no_fat_chain p.cluster (n - p.steps)) ≡ true
-    known-heap e =
+    known_heap e =
         ap (λ (k : ℕ). every (in_heap y.count) (along (fat_entry y d) a.no_fat_chain k (n - p.steps))) (sym q)
-        ∙ every-from (fat_entry y d) a.no_fat_chain (in_heap y.count) p.steps a.first n h e
+        ∙ every_from (fat_entry y d) a.no_fat_chain (in_heap y.count) p.steps a.first n h e
 
 -- ---- places in a stream
 
@@ -242,34 +242,34 @@ module _ (at n count s : ℕ) (low : 1 ≤ s) (h : at + n ≤ count * s) where
   pub place_is : at / s * s + at % s ≡ at
   place_is = div-add-mod' at s
 
-  pub place-low : at % s < s
-  place-low = mod-lt at (omega arith)
+  pub place_low : at % s < s
+  place_low = mod-lt at (omega arith)
 
-  pub place-count : at / s ≤ count
-  place-count =
+  pub place_count : at / s ≤ count
+  place_count =
       elim (dec_le (at / s) count) [
         | yes b ↦ b
         | no b ↦ absurd (omega (arith, place_is, mul-le-mul_right {m = suc count} {n = at / s} s (omega arith), suc-mul count s))
       ]
 
-  pub place-room : at % s + n ≤ (count - at / s) * s
-  place-room =
-      let c = place-count in
+  pub place_room : at % s + n ≤ (count - at / s) * s
+  place_room =
+      let c = place_count in
       let e : count - at / s + at / s ≡ count = omega arith in
       omega (arith, place_is, sym (add-mul (count - at / s) (at / s) s) ∙ ap (λ (x : ℕ). x * s) e)
 
 -- the cluster of the last of m bytes from byte p of a cluster on: that cluster, or one step further on than from the next cluster
 module _ (s p m : ℕ) (low : p < s) where
-  pub last-here : m ≤ s - p → 1 ≤ m → (p + m - 1) / s ≡ 0
-  last-here h i = div-eq_of_lt {n = p + m - 1} {m = s} (omega arith)
+  pub last_here : m ≤ s - p → 1 ≤ m → (p + m - 1) / s ≡ 0
+  last_here h i = div-eq_of_lt {n = p + m - 1} {m = s} (omega arith)
 
-  pub last-next : s - p < m → (p + m - 1) / s ≡ suc ((0 + (m - (s - p)) - 1) / s)
-  last-next h =
+  pub last_next : s - p < m → (p + m - 1) / s ≡ suc ((0 + (m - (s - p)) - 1) / s)
+  last_next h =
       let e : p + m - 1 - s ≡ 0 + (m - (s - p)) - 1 = omega arith in
       div-eq-sub-div {m = s} {n = p + m - 1} (omega arith) (omega arith) ∙ ap (λ (x : ℕ). x / s + 1) e ∙ add-one _
 
-  pub last-inside : (n : ℕ) → p + m ≤ n * s → 1 ≤ m → (p + m - 1) / s ≤ n - 1
-  last-inside n h i = let q = (div-lt_iff_lt-mul {k = s} {x = p + m - 1} {y = n} (omega arith)).1 (omega arith) in omega arith
+  pub last_inside : (n : ℕ) → p + m ≤ n * s → 1 ≤ m → (p + m - 1) / s ≤ n - 1
+  last_inside n h i = let q = (div-lt_iff_lt-mul {k = s} {x = p + m - 1} {y = n} (omega arith)).1 (omega arith) in omega arith
 
 -- the cluster of the last of n bytes from byte `at` on, from that of the first of them
 pub last_from : (s at n : ℕ) → 1 ≤ s → 1 ≤ n → (at + n - 1) / s ≡ at / s + (at % s + n - 1) / s
@@ -280,15 +280,15 @@ last_from s at n h i =
 -- ---- stores
 
 module _ (y : Layout) where
-  pub store-past : (d : List ℕ) (k : ℕ) (ks : List ℕ) (at : ℕ) (bs : List ℕ) → y.size ≤ at
+  pub store_past : (d : List ℕ) (k : ℕ) (ks : List ℕ) (at : ℕ) (bs : List ℕ) → y.size ≤ at
       → store_at y d (k ∷ ks) at bs ≡ store_at y d ks (at - y.size) bs
   unfolding store_at
-  store-past d k ks at bs h = rw (le-leb y.size at h) refl
+  store_past d k ks at bs h = rw (le-leb y.size at h) refl
 
-  pub store-here : (d : List ℕ) (k : ℕ) (ks : List ℕ) (at : ℕ) (bs : List ℕ) → at < y.size
+  pub store_here : (d : List ℕ) (k : ℕ) (ks : List ℕ) (at : ℕ) (bs : List ℕ) → at < y.size
       → store_at y d (k ∷ ks) at bs ≡ store_at y (put_bytes y d k at (take (y.size - at) bs)) ks 0 (drop (y.size - at) bs)
   unfolding store_at
-  store-here d k ks at bs h = rw (lt-leb y.size at h) refl
+  store_here d k ks at bs h = rw (lt-leb y.size at h) refl
 
   -- storing nothing changes nothing
   pub store_nothing : (d ks : List ℕ) (at : ℕ) → store_at y d ks at [] ≡ d
@@ -300,18 +300,18 @@ module _ (y : Layout) where
       (λ _. store_nothing d ks (at - y.size))
       (λ _. rw (take-nil {A = ℕ} (y.size - at), drop-nil {A = ℕ} (y.size - at), splice-nil d (cluster_at y k + at)) (store_nothing d ks 0))
 
-  pub store-empty : (d ks : List ℕ) (at : ℕ) (bs : List ℕ) → length bs ≤ 0 → store_at y d ks at bs ≡ d
-  store-empty d ks at [] h = store_nothing d ks at
-  store-empty d ks at (b ∷ bs) h = absurd (omega arith)
+  pub store_empty : (d ks : List ℕ) (at : ℕ) (bs : List ℕ) → length bs ≤ 0 → store_at y d ks at bs ≡ d
+  store_empty d ks at [] h = store_nothing d ks at
+  store_empty d ks at (b ∷ bs) h = absurd (omega arith)
 
   -- whole clusters passed over
-  pub store-over : (m : ℕ) (d ks : List ℕ) (at : ℕ) (bs : List ℕ) → m ≤ length ks → store_at y d ks (m * y.size + at) bs ≡ store_at y d (drop m ks) at bs
-  store-over zero d ks at bs h = ap (λ (x : ℕ). store_at y d ks x bs) (omega arith)
-  store-over (suc m) d [] at bs h = absurd (omega arith)
-  store-over (suc m) d (k ∷ ks) at bs h =
+  pub store_over : (m : ℕ) (d ks : List ℕ) (at : ℕ) (bs : List ℕ) → m ≤ length ks → store_at y d ks (m * y.size + at) bs ≡ store_at y d (drop m ks) at bs
+  store_over zero d ks at bs h = ap (λ (x : ℕ). store_at y d ks x bs) (omega arith)
+  store_over (suc m) d [] at bs h = absurd (omega arith)
+  store_over (suc m) d (k ∷ ks) at bs h =
       let e = suc-mul m y.size in
-      store-past d k ks (suc m * y.size + at) bs (omega arith) ∙ ap (λ (x : ℕ). store_at y d ks x bs) (omega arith)
-      ∙ store-over m d ks at bs (omega arith)
+      store_past d k ks (suc m * y.size + at) bs (omega arith) ∙ ap (λ (x : ℕ). store_at y d ks x bs) (omega arith)
+      ∙ store_over m d ks at bs (omega arith)
 
 -- a turn of a loop that stores
 module _ (y : Layout) (d : List ℕ) (w : Fits y d) (run : Bool) (k n : ℕ) (some : 0 < n) (h : every (in_heap y.count) (along (fat_entry y d) run k n) ≡ true)
@@ -319,41 +319,41 @@ module _ (y : Layout) (d : List ℕ) (w : Fits y d) (run : Bool) (k n : ℕ) (so
   turn_along : (bs : List ℕ) → at + length bs ≤ y.size
       → along (fat_entry y d) run (after (fat_entry y d) run k) (n - 1) ≡ along (fat_entry y (put_bytes y d k at bs)) run (after (fat_entry y d) run k) (n - 1)
   turn_along bs f =
-      let i = along-head (in_heap y.count) (fat_entry y d) run k n some h in
-      let t = along-rest (in_heap y.count) (fat_entry y d) run k n some h in
-      along-same y.count (fat_entry y d) (fat_entry y (put_bytes y d k at bs))
-      (λ j b. sym (fat-bytes y d w k at bs j i f (in_heap_lem y.count j b).1)) run (after (fat_entry y d) run k) (n - 1) t
+      let i = along_head (in_heap y.count) (fat_entry y d) run k n some h in
+      let t = along_rest (in_heap y.count) (fat_entry y d) run k n some h in
+      along_same y.count (fat_entry y d) (fat_entry y (put_bytes y d k at bs))
+      (λ j b. sym (fat_bytes_lem y d w k at bs j i f (in_heap_lem y.count j b).1)) run (after (fat_entry y d) run k) (n - 1) t
 
-  heap-turn : (bs : List ℕ) → at + length bs ≤ y.size
+  heap_turn : (bs : List ℕ) → at + length bs ≤ y.size
       → every (in_heap y.count) (along (fat_entry y (put_bytes y d k at bs)) run (after (fat_entry y d) run k) (n - 1)) ≡ true
-  heap-turn bs f =
-      ap (every (in_heap y.count)) (sym (turn_along bs f)) ∙ along-rest (in_heap y.count) (fat_entry y d) run k n some h
+  heap_turn bs f =
+      ap (every (in_heap y.count)) (sym (turn_along bs f)) ∙ along_rest (in_heap y.count) (fat_entry y d) run k n some h
 
-  store-turn : (bs : List ℕ) (m : ℕ) → m ≡ min (y.size - at) (length bs)
+  store_turn : (bs : List ℕ) (m : ℕ) → m ≡ min (y.size - at) (length bs)
       → store_at y d (along (fat_entry y d) run k n) at bs
       ≡ store_at y (put_bytes y d k at (take m bs)) (along (fat_entry y (put_bytes y d k at (take m bs))) run (after (fat_entry y d) run k) (n - 1)) 0 (drop m bs)
-  store-turn bs m e =
+  store_turn bs m e =
       let q = take_lesser (y.size - at) bs m e in
       let f : length (take m bs) ≡ m = length-take-le m bs (omega arith) in
       ap (λ (ks : List ℕ). store_at y d ks at bs) (along-step (fat_entry y d) run k n some)
-      ∙ store-here y d k (along (fat_entry y d) run (after (fat_entry y d) run k) (n - 1)) at bs low
+      ∙ store_here y d k (along (fat_entry y d) run (after (fat_entry y d) run k) (n - 1)) at bs low
       ∙ ap₂ (λ (s t : List ℕ). store_at y (put_bytes y d k at s) (along (fat_entry y d) run (after (fat_entry y d) run k) (n - 1)) 0 t) q.0 q.1
       ∙ ap (λ (ks : List ℕ). store_at y (put_bytes y d k at (take m bs)) ks 0 (drop m bs)) (turn_along (take m bs) (omega arith))
 
   -- the same where the next volume and cluster have other names
-  pub store-next : (bs d' : List ℕ) (m next : ℕ) → m ≡ min (y.size - at) (length bs) → d' ≡ put_bytes y d k at (take m bs)
+  pub store_next : (bs d' : List ℕ) (m next : ℕ) → m ≡ min (y.size - at) (length bs) → d' ≡ put_bytes y d k at (take m bs)
       → next ≡ after (fat_entry y d) run k
       → (every (in_heap y.count) (along (fat_entry y d') run next (n - 1)) ≡ true)
       × (store_at y d' (along (fat_entry y d') run next (n - 1)) 0 (drop m bs) ≡ store_at y d (along (fat_entry y d) run k n) at bs)
-  store-next bs d' m next e p q =
+  store_next bs d' m next e p q =
       let f : length (take m bs) ≡ m = length-take-le m bs (omega arith) in
-      rw (p, q) (heap-turn (take m bs) (omega arith), sym (store-turn bs m e))
+      rw (p, q) (heap_turn (take m bs) (omega arith), sym (store_turn bs m e))
 
   -- and the clusters reached are the same
-  pub reach-next : (bs d' : List ℕ) (next j : ℕ) → at + length bs ≤ y.size → d' ≡ put_bytes y d k at bs → next ≡ after (fat_entry y d) run k → suc j ≤ n - 1
+  pub reach_next : (bs d' : List ℕ) (next j : ℕ) → at + length bs ≤ y.size → d' ≡ put_bytes y d k at bs → next ≡ after (fat_entry y d) run k → suc j ≤ n - 1
       → reached (fat_entry y d') run next j ≡ reached (fat_entry y d) run k (suc j)
   unfolding reached
-  reach-next bs d' next j f p q h =
+  reach_next bs d' next j f p q h =
       let t : along (fat_entry y d) run (after (fat_entry y d) run k) (n - 1) ≡ along (fat_entry y d') run (after (fat_entry y d) run k) (n - 1) =
       turn_along bs f ∙ ap (λ (x : List ℕ). along (fat_entry y x) run (after (fat_entry y d) run k) (n - 1)) (sym p) in
       ap (λ (x : ℕ). reached (fat_entry y d') run x j) q ∙ sym (reach_same (fat_entry y d) (fat_entry y d') run (after (fat_entry y d) run k) j (n - 1) (omega arith) t)
@@ -361,28 +361,28 @@ module _ (y : Layout) (d : List ℕ) (w : Fits y d) (run : Bool) (k n : ℕ) (so
 -- ---- readings
 
 module _ (y : Layout) (d : List ℕ) (l : Laid y) (long : length d ≡ y.len) where
-  cluster-room : (k : ℕ) → in_heap y.count k ≡ true → cluster_at y k + y.size ≤ length d
+  cluster_room : (k : ℕ) → in_heap y.count k ≡ true → cluster_at y k + y.size ≤ length d
   unfolding cluster_at
-  cluster-room k h = let i = in_heap_lem y.count k h in omega (arith, cluster_in y k l i.0 i.1)
+  cluster_room k h = let i = in_heap_lem y.count k h in omega (arith, cluster_in y k l i.0 i.1)
 
-  pub length-cluster : (k : ℕ) → in_heap y.count k ≡ true → length (cluster_bytes y d k) ≡ y.size
+  pub length_cluster : (k : ℕ) → in_heap y.count k ≡ true → length (cluster_bytes y d k) ≡ y.size
   unfolding cluster_bytes
-  length-cluster k h = length-take-le y.size (drop (cluster_at y k) d) (omega (arith, length-drop (cluster_at y k) d, cluster-room k h))
+  length_cluster k h = length-take-le y.size (drop (cluster_at y k) d) (omega (arith, length-drop (cluster_at y k) d, cluster_room k h))
 
   -- whole clusters passed over
-  pub bytes-over : (m : ℕ) (ks : List ℕ) (at : ℕ) → m ≤ length ks → every (in_heap y.count) ks ≡ true
+  pub bytes_over : (m : ℕ) (ks : List ℕ) (at : ℕ) → m ≤ length ks → every (in_heap y.count) ks ≡ true
       → drop (m * y.size + at) (bytes_of y d ks) ≡ drop at (bytes_of y d (drop m ks))
   unfolding bytes_of
-  bytes-over zero ks at h e =
+  bytes_over zero ks at h e =
       let z : 0 * y.size + at ≡ at = omega arith in
       ap (λ (x : ℕ). drop x (bytes_of y d ks)) z
-  bytes-over (suc m) [] at h e = absurd (omega arith)
-  bytes-over (suc m) (k ∷ ks) at h e =
-      let n = length-cluster k (every-head (in_heap y.count) k ks e) in
+  bytes_over (suc m) [] at h e = absurd (omega arith)
+  bytes_over (suc m) (k ∷ ks) at h e =
+      let n = length_cluster k (every_head (in_heap y.count) k ks e) in
       let z : suc m * y.size + at ≡ length (cluster_bytes y d k) + (m * y.size + at) = omega (arith, suc-mul m y.size) in
       ap (λ (x : ℕ). drop x (cluster_bytes y d k ++ bytes_of y d ks)) z
       ∙ drop-append-add (cluster_bytes y d k) (bytes_of y d ks) (m * y.size + at)
-      ∙ bytes-over m ks at (omega arith) (every-tail (in_heap y.count) k ks e)
+      ∙ bytes_over m ks at (omega arith) (every_tail (in_heap y.count) k ks e)
 
   -- a piece of a cluster
   pub piece_is : (k at n : ℕ) → at + n ≤ y.size → take n (drop (cluster_at y k + at) d) ≡ take n (drop at (cluster_bytes y d k))
@@ -395,13 +395,13 @@ module _ (y : Layout) (d : List ℕ) (l : Laid y) (long : length d ≡ y.len) wh
 
   -- a turn of a loop that reads
   module _ (fat : ℕ → ℕ) (run : Bool) (k n : ℕ) (some : 0 < n) (h : every (in_heap y.count) (along fat run k n) ≡ true) (at : ℕ) (low : at < y.size) where
-    read-turn : (m r : ℕ) → r ≡ min (y.size - at) m
+    read_turn : (m r : ℕ) → r ≡ min (y.size - at) m
         → take m (drop at (bytes_of y d (along fat run k n)))
         ≡ take r (drop at (cluster_bytes y d k)) ++ take (m - r) (drop 0 (bytes_of y d (along fat run (after fat run k) (n - 1))))
-    read-turn m r e =
+    read_turn m r e =
         let c = cluster_bytes y d k in
         let t = bytes_of y d (along fat run (after fat run k) (n - 1)) in
-        let z = length-cluster k (along-head (in_heap y.count) fat run k n some h) in
+        let z = length_cluster k (along_head (in_heap y.count) fat run k n some h) in
         let first : bytes_of y d (along fat run k n) ≡ c ++ t = ap (bytes_of y d) (along-step fat run k n some) ∙ (unfold bytes_of in refl) in
         ap (λ (x : List ℕ). take m (drop at x)) first ∙ ap (take m) (drop-append-le at c t (omega arith))
         ∙ take_two m (drop at c) t r (omega (arith, length-drop at c))
@@ -414,12 +414,12 @@ module _ (y : Layout) (d : List ℕ) (l : Laid y) (long : length d ≡ y.len) wh
         ≡ splice dst to (take m (drop at (bytes_of y d (along fat run k n)))))
     read_next dst dst' to m r next e f p q =
         let c = cluster_bytes y d k in
-        let z = length-cluster k (along-head (in_heap y.count) fat run k n some h) in
+        let z = length_cluster k (along_head (in_heap y.count) fat run k n some h) in
         let i : length (take r (drop at c)) ≡ r = length-take-le r (drop at c) (omega (arith, length-drop at c)) in
         rw (p, q) (
-          along-rest (in_heap y.count) fat run k n some h,
+          along_rest (in_heap y.count) fat run k n some h,
           splice_join dst to (take r (drop at c)) (take (m - r) (drop 0 (bytes_of y d (along fat run (after fat run k) (n - 1))))) (to + r) (omega arith) (omega arith)
-              ∙ ap (splice dst to) (sym (read-turn m r e)),
+              ∙ ap (splice dst to) (sym (read_turn m r e)),
         )
 
 -- ---- from the cluster of a byte on
@@ -444,17 +444,17 @@ sought y d run first count at n l long e h =
     let i = at / y.size in
     let ks = along f run first count in
     let s : 1 ≤ y.size = omega (arith, l.size_low) in
-    let c = place-count at n count y.size s h in
+    let c = place_count at n count y.size s h in
     let p = place_is at n count y.size s h in
     let k : i ≤ length ks = omega (arith, length-along f run first count) in
     record {
       steps = c;
-      place = place-low at n count y.size s h;
-      room = place-room at n count y.size s h;
-      before = every-before f run (in_heap y.count) i first count c e;
-      heap = every-from f run (in_heap y.count) i first count c e;
+      place = place_low at n count y.size s h;
+      room = place_room at n count y.size s h;
+      before = every_before f run (in_heap y.count) i first count c e;
+      heap = every_from f run (in_heap y.count) i first count c e;
       stores = λ bs. ap (λ (js : List ℕ). store_at y d js (at % y.size) bs) (sym (drop-along f run i first count))
-          ∙ sym (store-over y i d ks (at % y.size) bs k) ∙ ap (λ (x : ℕ). store_at y d ks x bs) p;
+          ∙ sym (store_over y i d ks (at % y.size) bs k) ∙ ap (λ (x : ℕ). store_at y d ks x bs) p;
       reads = ap (λ (js : List ℕ). drop (at % y.size) (bytes_of y d js)) (sym (drop-along f run i first count))
-          ∙ sym (bytes-over y d l long i ks (at % y.size) k e) ∙ ap (λ (x : ℕ). drop x (bytes_of y d ks)) p;
+          ∙ sym (bytes_over y d l long i ks (at % y.size) k e) ∙ ap (λ (x : ℕ). drop x (bytes_of y d ks)) p;
     }

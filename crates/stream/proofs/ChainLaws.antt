@@ -71,22 +71,22 @@ walk_at mark free goal z b f g s (listed ks) =
 walk_at mark free goal z b f g s (refused n) = record { number = n; last = 0; count = 0; marked = false; clear = false; seen = 0 }
 
 module _ (mark free : ℕ → Bool) (goal : ℕ) where
-  walk-onto : (z b : ℕ) (f g : Bool) (s k : ℕ) (c : Clusters)
+  walk_onto : (z b : ℕ) (f g : Bool) (s k : ℕ) (c : Clusters)
       → walk_at mark free goal z b f g s (with_first k c) ≡ walk_at mark free goal k (b + 1) (f && mark k) (g && free k) (cond (eqb b goal) k s) c
   unfolding last_or every seen_from
-  walk-onto z b f g s k (listed ks) =
+  walk_onto z b f g s k (listed ks) =
       let e : b + suc (length ks) ≡ b + 1 + length ks = omega arith in
       rw (e, and_assoc f (mark k) (every mark ks), and_assoc g (free k) (every free ks)) refl
-  walk-onto z b f g s k (refused n) = refl
+  walk_onto z b f g s k (refused n) = refl
 
   -- a chain has a cluster, so what came before it does not matter
   module _ (C : ℕ) (fat : ℕ → ℕ) (z z' b : ℕ) (f g : Bool) (s : ℕ) where
-    by-any : (x : Next) (k : ℕ) (c : Clusters) (n : ℕ) → walk_at mark free goal z b f g s (by_next x (listed (k ∷ [])) (with_first k c) (refused n))
+    by_any : (x : Next) (k : ℕ) (c : Clusters) (n : ℕ) → walk_at mark free goal z b f g s (by_next x (listed (k ∷ [])) (with_first k c) (refused n))
         ≡ walk_at mark free goal z' b f g s (by_next x (listed (k ∷ [])) (with_first k c) (refused n))
     unfolding last_or
-    by-any End k c n = refl
-    by-any More k c n = walk-onto z b f g s k c ∙ sym (walk-onto z' b f g s k c)
-    by-any Wrong k c n = refl
+    by_any End k c n = refl
+    by_any More k c n = walk_onto z b f g s k c ∙ sym (walk_onto z' b f g s k c)
+    by_any Wrong k c n = refl
 
     by_last : (x : Next) (k m n : ℕ) → walk_at mark free goal z b f g s (by_next x (listed (k ∷ [])) (refused m) (refused n))
         ≡ walk_at mark free goal z' b f g s (by_next x (listed (k ∷ [])) (refused m) (refused n))
@@ -98,7 +98,7 @@ module _ (mark free : ℕ → Bool) (goal : ℕ) where
     walk_any : (n k : ℕ) → walk_at mark free goal z b f g s (chain_from C fat n k) ≡ walk_at mark free goal z' b f g s (chain_from C fat n k)
     unfolding chain_from
     walk_any zero k = by_last (next_of C (fat k)) k 4 3
-    walk_any (suc n) k = by-any (next_of C (fat k)) k (chain_from C fat n (fat k)) 3
+    walk_any (suc n) k = by_any (next_of C (fat k)) k (chain_from C fat n (fat k)) 3
 
   module _ (C : ℕ) (fat : ℕ → ℕ) (b : ℕ) (f g : Bool) (s : ℕ) where
     pub walk_end : (n k : ℕ) → fat k ≡ END
@@ -107,17 +107,17 @@ module _ (mark free : ℕ → Bool) (goal : ℕ) where
     walk_end zero k e = rw (next_end C (fat k) e, and-true (mark k), and-true (free k)) refl
     walk_end (suc n) k e = rw (next_end C (fat k) e, and-true (mark k), and-true (free k)) refl
 
-    pub walk-wrong : (n k : ℕ) → (fat k ≡ END → ⊥) → in_heap C (fat k) ≡ false
+    pub walk_wrong : (n k : ℕ) → (fat k ≡ END → ⊥) → in_heap C (fat k) ≡ false
         → walk_at mark free goal 0 b f g s (chain_from C fat n k) ≡ record { number = 3; last = 0; count = 0; marked = false; clear = false; seen = 0 }
     unfolding chain_from
-    walk-wrong zero k e h = rw (next_wrong C (fat k) e h) refl
-    walk-wrong (suc n) k e h = rw (next_wrong C (fat k) e h) refl
+    walk_wrong zero k e h = rw (next_wrong C (fat k) e h) refl
+    walk_wrong (suc n) k e h = rw (next_wrong C (fat k) e h) refl
 
-    pub walk-over : (n k : ℕ) → n ≡ 0 → (fat k ≡ END → ⊥) → in_heap C (fat k) ≡ true
+    pub walk_over : (n k : ℕ) → n ≡ 0 → (fat k ≡ END → ⊥) → in_heap C (fat k) ≡ true
         → walk_at mark free goal 0 b f g s (chain_from C fat n k) ≡ record { number = 4; last = 0; count = 0; marked = false; clear = false; seen = 0 }
     unfolding chain_from
-    walk-over zero k z e h = rw (next_more C (fat k) e h) refl
-    walk-over (suc n) k z e h = absurd (omega arith)
+    walk_over zero k z e h = rw (next_more C (fat k) e h) refl
+    walk_over (suc n) k z e h = absurd (omega arith)
 
     pub walk_more : (n k : ℕ) → (n ≡ 0 → ⊥) → (fat k ≡ END → ⊥) → in_heap C (fat k) ≡ true
         → walk_at mark free goal 0 b f g s (chain_from C fat n k) ≡ walk_at mark free goal 0 (b + 1) (f && mark k) (g && free k) (cond (eqb b goal) k s) (chain_from C fat (n - 1) (fat k))
@@ -125,21 +125,21 @@ module _ (mark free : ℕ → Bool) (goal : ℕ) where
     walk_more zero k z e h = absurd (z refl)
     walk_more (suc n) k z e h =
         rw (next_more C (fat k) e h, sub-one)
-        (walk-onto 0 b f g s k (chain_from C fat n (fat k)) ∙ walk_any C fat k 0 (b + 1) (f && mark k) (g && free k) (cond (eqb b goal) k s) n (fat k))
+        (walk_onto 0 b f g s k (chain_from C fat n (fat k)) ∙ walk_any C fat k 0 (b + 1) (f && mark k) (g && free k) (cond (eqb b goal) k s) n (fat k))
 
   -- the whole walk
-  walk-all : (c : Clusters) → walked mark free goal c ≡ walk_at mark free goal 0 0 true true 0 c
+  walk_all : (c : Clusters) → walked mark free goal c ≡ walk_at mark free goal 0 0 true true 0 c
   unfolding walked
-  walk-all (listed ks) =
+  walk_all (listed ks) =
       let e : 0 + length ks ≡ length ks = omega arith in
       let z : goal - 0 ≡ goal = omega arith in
       rw (e, seen_is goal 0 0 ks (omega arith), z) refl
-  walk-all (refused n) = refl
+  walk_all (refused n) = refl
 
   pub walk_start : (C : ℕ) (fat : ℕ → ℕ) (first : ℕ) → in_heap C first ≡ true
       → walk_at mark free goal 0 0 true true 0 (chain_from C fat (C - 1) first) ≡ walked mark free goal (read_chain C fat first)
   unfolding read_chain
-  walk_start C fat first h = rw h (sym (walk-all (chain_from C fat (C - 1) first)))
+  walk_start C fat first h = rw h (sym (walk_all (chain_from C fat (C - 1) first)))
 
 pub chain_out : (C : ℕ) (fat : ℕ → ℕ) (first : ℕ) → in_heap C first ≡ false → read_chain C fat first ≡ refused 2
 unfolding read_chain
@@ -153,15 +153,15 @@ module _ (C : ℕ) (mark : ℕ → Bool) where
   run_none k zero h = refl
   run_none k (suc n) h = absurd (omega arith)
 
-  pub run-outside : (k n : ℕ) → 0 < n → in_heap C k ≡ false → run_cause C mark k n ≡ 2
+  pub run_outside : (k n : ℕ) → 0 < n → in_heap C k ≡ false → run_cause C mark k n ≡ 2
   unfolding run_cause
-  run-outside k zero h e = absurd (omega arith)
-  run-outside k (suc n) h e = rw e refl
+  run_outside k zero h e = absurd (omega arith)
+  run_outside k (suc n) h e = rw e refl
 
-  pub run-unmarked : (k n : ℕ) → 0 < n → in_heap C k ≡ true → mark k ≡ false → run_cause C mark k n ≡ 6
+  pub run_unmarked : (k n : ℕ) → 0 < n → in_heap C k ≡ true → mark k ≡ false → run_cause C mark k n ≡ 6
   unfolding run_cause
-  run-unmarked k zero h e f = absurd (omega arith)
-  run-unmarked k (suc n) h e f = rw (e, f) refl
+  run_unmarked k zero h e f = absurd (omega arith)
+  run_unmarked k (suc n) h e f = rw (e, f) refl
 
   pub run_step : (k n : ℕ) → 0 < n → in_heap C k ≡ true → mark k ≡ true → run_cause C mark k n ≡ run_cause C mark (k + 1) (n - 1)
   unfolding run_cause
@@ -169,46 +169,46 @@ module _ (C : ℕ) (mark : ℕ → Bool) where
   run_step k (suc n) h e f = rw (e, f, sub-one) refl
 
   -- m clusters that are in the heap and marked
-  pub run-jump : (m k n : ℕ) → m ≤ n → ((j : ℕ) → k ≤ j → j < k + m → (in_heap C j ≡ true) × (mark j ≡ true))
+  pub run_jump : (m k n : ℕ) → m ≤ n → ((j : ℕ) → k ≤ j → j < k + m → (in_heap C j ≡ true) × (mark j ≡ true))
       → run_cause C mark k n ≡ run_cause C mark (k + m) (n - m)
-  run-jump zero k n h f = ap₂ (run_cause C mark) (omega arith) (omega arith)
-  run-jump (suc m) k n h f =
+  run_jump zero k n h f = ap₂ (run_cause C mark) (omega arith) (omega arith)
+  run_jump (suc m) k n h f =
       let q = f k (omega arith) (omega arith) in
-      run_step k n (omega arith) q.0 q.1 ∙ run-jump m (k + 1) (n - 1) (omega arith) (λ j a b. f j (omega arith) (omega arith))
+      run_step k n (omega arith) q.0 q.1 ∙ run_jump m (k + 1) (n - 1) (omega arith) (λ j a b. f j (omega arith) (omega arith))
       ∙ ap₂ (run_cause C mark) (omega arith) (omega arith)
 
-  pub run-wrong : (first last count : ℕ) → (last + 1 ≡ first + count → ⊥) → number_of (read_run C mark first last count) ≡ 5
+  pub run_wrong : (first last count : ℕ) → (last + 1 ≡ first + count → ⊥) → number_of (read_run C mark first last count) ≡ 5
   unfolding read_run number_of
-  run-wrong first last count n = rw (ne_eqb (last + 1) (first + count) n) refl
+  run_wrong first last count n = rw (ne_eqb (last + 1) (first + count) n) refl
 
-  number-if : (n : ℕ) (ks : List ℕ) (b : Bool) → eqb n 0 ≡ b → number_of (cond b (listed ks) (refused n)) ≡ n
+  number_if : (n : ℕ) (ks : List ℕ) (b : Bool) → eqb n 0 ≡ b → number_of (cond b (listed ks) (refused n)) ≡ n
   unfolding number_of
-  number-if n ks true e = sym (eqb-true n 0 e)
-  number-if n ks false e = refl
+  number_if n ks true e = sym (eqb-true n 0 e)
+  number_if n ks false e = refl
 
-  pub run-number : (first last count : ℕ) → last + 1 ≡ first + count → number_of (read_run C mark first last count) ≡ run_cause C mark first count
+  pub run_number : (first last count : ℕ) → last + 1 ≡ first + count → number_of (read_run C mark first last count) ≡ run_cause C mark first count
   unfolding read_run
-  run-number first last count e =
-      rw (eq-eqb (last + 1) (first + count) e) (number-if (run_cause C mark first count) (consec first count) (eqb (run_cause C mark first count) 0) refl)
+  run_number first last count e =
+      rw (eq-eqb (last + 1) (first + count) e) (number_if (run_cause C mark first count) (consec first count) (eqb (run_cause C mark first count) 0) refl)
 
 -- ---- the number of a walked chain
 
 module _ (w : Walked) (last count : ℕ) where
-  pub cause-walk : (w.number ≡ 0 → ⊥) → walk_cause w last count ≡ w.number
+  pub cause_walk : (w.number ≡ 0 → ⊥) → walk_cause w last count ≡ w.number
   unfolding walk_cause
-  cause-walk n = rw (ne_eqb w.number 0 n) refl
+  cause_walk n = rw (ne_eqb w.number 0 n) refl
 
-  pub cause-count : w.number ≡ 0 → (w.count ≡ count → ⊥) → walk_cause w last count ≡ 5
+  pub cause_count : w.number ≡ 0 → (w.count ≡ count → ⊥) → walk_cause w last count ≡ 5
   unfolding walk_cause
-  cause-count e n = rw (eq-eqb w.number 0 e, ne_eqb w.count count n) refl
+  cause_count e n = rw (eq-eqb w.number 0 e, ne_eqb w.count count n) refl
 
   pub cause_last : w.number ≡ 0 → w.count ≡ count → (w.last ≡ last → ⊥) → walk_cause w last count ≡ 5
   unfolding walk_cause
   cause_last e f n = rw (eq-eqb w.number 0 e, eq-eqb w.count count f, ne_eqb w.last last n) refl
 
-  pub cause-marked : (b : Bool) → w.number ≡ 0 → w.count ≡ count → w.last ≡ last → w.marked ≡ b → walk_cause w last count ≡ cond b 0 6
+  pub cause_marked : (b : Bool) → w.number ≡ 0 → w.count ≡ count → w.last ≡ last → w.marked ≡ b → walk_cause w last count ≡ cond b 0 6
   unfolding walk_cause
-  cause-marked b e f h i = rw (eq-eqb w.number 0 e, eq-eqb w.count count f, eq-eqb w.last last h, i) refl
+  cause_marked b e f h i = rw (eq-eqb w.number 0 e, eq-eqb w.count count f, eq-eqb w.last last h, i) refl
 
 -- a refused chain has a number that is not 0
 chain_cause : (mark free : ℕ → Bool) (goal last count : ℕ) (c : Clusters) → ((n : ℕ) → c ≡ refused n → n ≡ 0 → ⊥)
@@ -250,19 +250,19 @@ more_in C v e = by (eqb v END) (in_heap C v) refl refl
 
 -- a refusal of a walk is never 0
 module _ (C : ℕ) (fat : ℕ → ℕ) where
-  onto-refused : (k m : ℕ) (c : Clusters) → with_first k c ≡ refused m → c ≡ refused m
-  onto-refused k m (listed ks) e = let z : ◌≡◌ {A = ℕ} 0 1 = cc in absurd (omega arith)
-  onto-refused k m (refused n) e = e
+  onto_refused : (k m : ℕ) (c : Clusters) → with_first k c ≡ refused m → c ≡ refused m
+  onto_refused k m (listed ks) e = let z : ◌≡◌ {A = ℕ} 0 1 = cc in absurd (omega arith)
+  onto_refused k m (refused n) e = e
 
-  from-not-zero : (n k m : ℕ) → chain_from C fat n k ≡ refused m → m ≡ 0 → ⊥
+  from_not-zero : (n k m : ℕ) → chain_from C fat n k ≡ refused m → m ≡ 0 → ⊥
   unfolding chain_from
-  from-not-zero zero k m e z = by (next_of C (fat k)) e
+  from_not-zero zero k m e z = by (next_of C (fat k)) e
     where
       by : (x : Next) → by_next x (listed (k ∷ [])) (refused 4) (refused 3) ≡ refused m → ⊥
       by End q = let w : ◌≡◌ {A = ℕ} 0 1 = cc in omega arith
       by More q = let w : 4 ≡ m = cc in omega arith
       by Wrong q = let w : 3 ≡ m = cc in omega arith
-  from-not-zero (suc n) k m e z = by (next_of C (fat k)) (λ q. from-not-zero n (fat k) m (onto-refused k m (chain_from C fat n (fat k)) q) z) e
+  from_not-zero (suc n) k m e z = by (next_of C (fat k)) (λ q. from_not-zero n (fat k) m (onto_refused k m (chain_from C fat n (fat k)) q) z) e
     where
       by : (x : Next) → (with_first k (chain_from C fat n (fat k)) ≡ refused m → ⊥)
           → by_next x (listed (k ∷ [])) (with_first k (chain_from C fat n (fat k))) (refused 3) ≡ refused m → ⊥
@@ -272,18 +272,18 @@ module _ (C : ℕ) (fat : ℕ → ℕ) where
 
   chain-not-zero : (first m : ℕ) → in_heap C first ≡ true → read_chain C fat first ≡ refused m → m ≡ 0 → ⊥
   unfolding read_chain
-  chain-not-zero first m h e z = from-not-zero (C - 1) first m (rw h at e) z
+  chain-not-zero first m h e z = from_not-zero (C - 1) first m (rw h at e) z
 
-  pub chain-number : (mark free : ℕ → Bool) (goal first last count : ℕ) (w : Walked) → in_heap C first ≡ true
+  pub chain_number : (mark free : ℕ → Bool) (goal first last count : ℕ) (w : Walked) → in_heap C first ≡ true
       → w ≡ walked mark free goal (read_chain C fat first)
       → walk_cause w last count ≡ number_of (check_chain mark last count (read_chain C fat first))
-  chain-number mark free goal first last count w h e =
+  chain_number mark free goal first last count w h e =
       ap (λ v. walk_cause v last count) e ∙ chain_cause mark free goal last count (read_chain C fat first) (λ n q z. chain-not-zero first n h q z)
 
   -- the last cluster of a walk; and where its record does not refuse the chain, its clusters are the record's
-  pub chain-last : (mark free : ℕ → Bool) (goal first : ℕ) (w : Walked) → w ≡ walked mark free goal (read_chain C fat first)
+  pub chain_last : (mark free : ℕ → Bool) (goal first : ℕ) (w : Walked) → w ≡ walked mark free goal (read_chain C fat first)
       → w.last ≡ last_or 0 (clusters_of (read_chain C fat first))
-  chain-last mark free goal first w e = ap (λ (v : Walked). v.last) e ∙ by (read_chain C fat first)
+  chain_last mark free goal first w e = ap (λ (v : Walked). v.last) e ∙ by (read_chain C fat first)
     where
       by : (c : Clusters) → (walked mark free goal c).last ≡ last_or 0 (clusters_of c)
       by (listed ks) = unfold walked in refl
@@ -294,32 +294,32 @@ module _ (C : ℕ) (fat : ℕ → ℕ) where
     abbrev ks : List ℕ
     ks = clusters_of (check_chain mark last count (read_chain C fat first))
 
-    walk-listed : w ≡ walked mark free goal (listed ks)
-    walk-listed = e ∙ ap (walked mark free goal) (check_listed mark last count (read_chain C fat first) (λ n q. chain-not-zero first n h q) z)
+    walk_listed : w ≡ walked mark free goal (listed ks)
+    walk_listed = e ∙ ap (walked mark free goal) (check_listed mark last count (read_chain C fat first) (λ n q. chain-not-zero first n h q) z)
 
-    pub chain-clear : w.clear ≡ every free (clusters_of (check_chain mark last count (read_chain C fat first)))
-    chain-clear = ap (λ (v : Walked). v.clear) walk-listed ∙ (unfold walked in refl)
+    pub chain_clear_lem : w.clear ≡ every free (clusters_of (check_chain mark last count (read_chain C fat first)))
+    chain_clear_lem = ap (λ (v : Walked). v.clear) walk_listed ∙ (unfold walked in refl)
 
-    pub chain-seen : w.seen ≡ get_or (clusters_of (check_chain mark last count (read_chain C fat first))) goal 0
-    chain-seen = ap (λ (v : Walked). v.seen) walk-listed ∙ (unfold walked in refl)
+    pub chain_seen : w.seen ≡ get_or (clusters_of (check_chain mark last count (read_chain C fat first))) goal 0
+    chain_seen = ap (λ (v : Walked). v.seen) walk_listed ∙ (unfold walked in refl)
 
-  pub chain-out-number : (mark : ℕ → Bool) (first last count : ℕ) → in_heap C first ≡ false
+  pub chain_out_number : (mark : ℕ → Bool) (first last count : ℕ) → in_heap C first ≡ false
       → number_of (check_chain mark last count (read_chain C fat first)) ≡ 2
   unfolding number_of check_chain
-  chain-out-number mark first last count h = rw (chain_out C fat first h) refl
+  chain_out_number mark first last count h = rw (chain_out C fat first h) refl
 
 module _ (C : ℕ) (fat : ℕ → ℕ) (mark : ℕ → Bool) (a : Allocation) where
-  pub stream-empty : a.count ≡ 0 → read_stream C fat mark a ≡ listed []
+  pub stream_empty : a.count ≡ 0 → read_stream C fat mark a ≡ listed []
   unfolding read_stream
-  stream-empty e = rw (eq-eqb a.count 0 e) refl
+  stream_empty e = rw (eq-eqb a.count 0 e) refl
 
-  pub stream-run : (a.count ≡ 0 → ⊥) → a.no_fat_chain ≡ true → read_stream C fat mark a ≡ read_run C mark a.first a.last a.count
+  pub stream_run : (a.count ≡ 0 → ⊥) → a.no_fat_chain ≡ true → read_stream C fat mark a ≡ read_run C mark a.first a.last a.count
   unfolding read_stream
-  stream-run n e = rw (ne_eqb a.count 0 n, e) refl
+  stream_run n e = rw (ne_eqb a.count 0 n, e) refl
 
-  pub stream-chain : (a.count ≡ 0 → ⊥) → a.no_fat_chain ≡ false → read_stream C fat mark a ≡ check_chain mark a.last a.count (read_chain C fat a.first)
+  pub stream_chain : (a.count ≡ 0 → ⊥) → a.no_fat_chain ≡ false → read_stream C fat mark a ≡ check_chain mark a.last a.count (read_chain C fat a.first)
   unfolding read_stream
-  stream-chain n e = rw (ne_eqb a.count 0 n, e) refl
+  stream_chain n e = rw (ne_eqb a.count 0 n, e) refl
 
 -- ---- a refusal is never 0
 
@@ -334,10 +334,10 @@ module _ (C : ℕ) (fat : ℕ → ℕ) (mark : ℕ → Bool) where
       by true false u r = let w : run_cause C mark first count ≡ m = cc in eqb-false (run_cause C mark first count) 0 u (w ∙ z)
       by false q u r = let w : 5 ≡ m = cc in omega arith
 
-  check-not-zero : (last count : ℕ) (c : Clusters) → ((n : ℕ) → c ≡ refused n → n ≡ 0 → ⊥) → (m : ℕ) → check_chain mark last count c ≡ refused m → m ≡ 0 → ⊥
+  check_not-zero : (last count : ℕ) (c : Clusters) → ((n : ℕ) → c ≡ refused n → n ≡ 0 → ⊥) → (m : ℕ) → check_chain mark last count c ≡ refused m → m ≡ 0 → ⊥
   unfolding check_chain
-  check-not-zero last count (refused n) h m e z = h n refl (let w : n ≡ m = cc in w ∙ z)
-  check-not-zero last count (listed ks) h m e z = by (eqb (length ks) count && eqb (last_or 0 ks) last) (every mark ks) e
+  check_not-zero last count (refused n) h m e z = h n refl (let w : n ≡ m = cc in w ∙ z)
+  check_not-zero last count (listed ks) h m e z = by (eqb (length ks) count && eqb (last_or 0 ks) last) (every mark ks) e
     where
       by : (p q : Bool) → cond p (cond q (listed ks) (refused 6)) (refused 5) ≡ refused m → ⊥
       by true true r = let w : ◌≡◌ {A = ℕ} 0 1 = cc in omega arith
@@ -349,23 +349,23 @@ module _ (C : ℕ) (fat : ℕ → ℕ) (mark : ℕ → Bool) where
   read-not-zero first m e z = by (in_heap C first) refl e
     where
       by : (b : Bool) → in_heap C first ≡ b → cond b (chain_from C fat (C - 1) first) (refused 2) ≡ refused m → ⊥
-      by true h r = from-not-zero C fat (C - 1) first m r z
+      by true h r = from_not-zero C fat (C - 1) first m r z
       by false h r = let w : 2 ≡ m = cc in omega arith
 
-  pub stream-not-zero : (a : Allocation) (m : ℕ) → read_stream C fat mark a ≡ refused m → m ≡ 0 → ⊥
+  pub stream_not-zero : (a : Allocation) (m : ℕ) → read_stream C fat mark a ≡ refused m → m ≡ 0 → ⊥
   unfolding read_stream
-  stream-not-zero a m e z = by (eqb a.count 0) a.no_fat_chain e
+  stream_not-zero a m e z = by (eqb a.count 0) a.no_fat_chain e
     where
       by : (p t : Bool) → cond p (listed []) (cond t (read_run C mark a.first a.last a.count) (check_chain mark a.last a.count (read_chain C fat a.first))) ≡ refused m → ⊥
       by true t r = let w : ◌≡◌ {A = ℕ} 0 1 = cc in omega arith
       by false true r = run-not-zero a.first a.last a.count m r z
-      by false false r = check-not-zero a.last a.count (read_chain C fat a.first) (λ n q. read-not-zero a.first n q) m r z
+      by false false r = check_not-zero a.last a.count (read_chain C fat a.first) (λ n q. read-not-zero a.first n q) m r z
 
   -- a record whose number is 0 is listed
-  pub stream-listed : (a : Allocation) → number_of (read_stream C fat mark a) ≡ 0 → (ks : List ℕ) × (read_stream C fat mark a ≡ listed ks)
+  pub stream_listed : (a : Allocation) → number_of (read_stream C fat mark a) ≡ 0 → (ks : List ℕ) × (read_stream C fat mark a ≡ listed ks)
   unfolding number_of
-  stream-listed a e = by (read_stream C fat mark a) refl e
+  stream_listed a e = by (read_stream C fat mark a) refl e
     where
       by : (c : Clusters) → read_stream C fat mark a ≡ c → number_of c ≡ 0 → (ks : List ℕ) × (read_stream C fat mark a ≡ listed ks)
       by (listed ks) q r = (ks, q)
-      by (refused n) q r = absurd (stream-not-zero a n q r)
+      by (refused n) q r = absurd (stream_not-zero a n q r)

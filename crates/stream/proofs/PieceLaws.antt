@@ -11,7 +11,7 @@ use lib.ListN.{length, get_or, take, drop}
 use lib.Seq.{take-add, take-take, drop-drop}
 use borrow.Author.Tests.{eq-eqb, ne_eqb}
 use Rattle.tables.specs.Lists.{every, consec}
-use Rattle.tables.proofs.ListLaws.{every-head}
+use Rattle.tables.proofs.ListLaws.{every_head}
 use Rattle.boot.specs.declared.layout.Layout.{Layout}
 use Rattle.boot.specs.Layout.{cluster_at, in_heap}
 use Rattle.boot.proofs.Apart.{in_heap_lem}
@@ -20,7 +20,7 @@ use Rattle.stream.specs.Pieces.{following, leading}
 use Rattle.stream.specs.Internal.{breaks, stretches}
 use Rattle.stream.specs.Bytes.{cluster_bytes, bytes_of}
 use Rattle.stream.proofs.BytesSteps.{drop-take}
-use Rattle.stream.proofs.BytesLaws.{take-of}
+use Rattle.stream.proofs.BytesLaws.{take_of}
 use Rattle.stream.proofs.RowLaws.{row_at}
 
 -- ---- what follows a cluster
@@ -177,17 +177,17 @@ leading_bytes y d C [] e =
     let o : 0 * y.size ≡ 0 = omega arith in
     rw (z, o) (unfold bytes_of in refl)
 leading_bytes y d C (k ∷ ks) e =
-    ap (bytes_of y d) (leading_prefix (k ∷ ks)) ∙ row_bytes y d k (leading (k ∷ ks)) (in_heap_lem C k (every-head (in_heap C) k ks e)).0
+    ap (bytes_of y d) (leading_prefix (k ∷ ks)) ∙ row_bytes y d k (leading (k ∷ ks)) (in_heap_lem C k (every_head (in_heap C) k ks e)).0
 
 -- a part of it, from byte `at` of the stream on
 module _ (y : Layout) (d : List ℕ) (w : Fits y d) (ks : List ℕ) (e : every (in_heap y.count) ks ≡ true) where
-  pub leading-piece : (at n : ℕ) → at + n ≤ leading ks * y.size
+  pub leading_piece : (at n : ℕ) → at + n ≤ leading ks * y.size
       → take n (drop (cluster_at y (get_or ks 0 0) + at) d) ≡ take n (drop at (bytes_of y d ks))
-  leading-piece at n h =
+  leading_piece at n h =
       let m = leading ks * y.size in
       let bs = bytes_of y d ks in
       let s = drop (cluster_at y (get_or ks 0 0)) d in
-      let q : take m bs ≡ take m s = take-of y d w (leading ks) ks (leading_short ks) e ∙ leading_bytes y d y.count ks e in
+      let q : take m bs ≡ take m s = take_of y d w (leading ks) ks (leading_short ks) e ∙ leading_bytes y d y.count ks e in
       let cut : (l : List ℕ) → take n (drop at (take m l)) ≡ take n (drop at l) =
       λ l. ap (take n) (drop-take at m l (omega arith)) ∙ take-take n (m - at) (drop at l) (omega arith) in
       ap (take n) (sym (drop-drop at (cluster_at y (get_or ks 0 0)) d)) ∙ sym (cut s) ∙ ap (λ (l : List ℕ). take n (drop at l)) (sym q) ∙ cut bs

@@ -11,7 +11,7 @@ use Rattle.tables.specs.Lists.{every}
 use Rattle.tables.proofs.Cases.{and_left, and_right}
 use Rattle.stream.specs.Internal.{after, along, four_follow}
 use Rattle.stream.specs.Pieces.{following, leading}
-use Rattle.stream.proofs.StreamLaws.{along-step, along-rest, consec-along}
+use Rattle.stream.proofs.StreamLaws.{along-step, along_rest, consec-along}
 use Rattle.stream.proofs.PieceLaws.{leading-consec}
 
 module _ (fat : ℕ → ℕ) where
@@ -21,25 +21,25 @@ module _ (fat : ℕ → ℕ) where
   following-none k zero h = refl
   following-none k (suc n) h = absurd (omega arith)
 
-  pub following-next : (k n : ℕ) → 0 < n → fat k ≡ k + 1
+  pub following_next : (k n : ℕ) → 0 < n → fat k ≡ k + 1
       → following k (along fat false (fat k) n) ≡ suc (following (k + 1) (along fat false (fat (k + 1)) (n - 1)))
   unfolding following after
-  following-next k n h e =
+  following_next k n h e =
       ap (λ (j : ℕ). following k (along fat false j n)) e ∙ ap (following k) (along-step fat false (k + 1) n h)
       ∙ (rw (eq-eqb (k + 1) (k + 1) refl) refl)
 
-  pub following-other : (k n : ℕ) → 0 < n → fat k ≢ k + 1 → following k (along fat false (fat k) n) ≡ 0
+  pub following_other : (k n : ℕ) → 0 < n → fat k ≢ k + 1 → following k (along fat false (fat k) n) ≡ 0
   unfolding following
-  following-other k n h e = ap (following k) (along-step fat false (fat k) n h) ∙ (rw (ne_eqb (fat k) (k + 1) e) refl)
+  following_other k n h e = ap (following k) (along-step fat false (fat k) n h) ∙ (rw (ne_eqb (fat k) (k + 1) e) refl)
 
   -- what is known of the clusters behind the next one
-  pub heap-next : (p : ℕ → Bool) (k n : ℕ) → 0 < n → fat k ≡ k + 1 → every p (along fat false k (n + 1)) ≡ true
+  pub heap_next : (p : ℕ → Bool) (k n : ℕ) → 0 < n → fat k ≡ k + 1 → every p (along fat false k (n + 1)) ≡ true
       → every p (along fat false (k + 1) (n - 1 + 1)) ≡ true
   unfolding after
-  heap-next p k n h e w =
+  heap_next p k n h e w =
       let z : n + 1 - 1 ≡ n - 1 + 1 = omega arith in
       ap (λ (i : ℕ). every p (along fat false (k + 1) i)) (sym z) ∙ ap (λ (j : ℕ). every p (along fat false j (n + 1 - 1))) (sym e)
-      ∙ along-rest p fat false k (n + 1) (omega arith) w
+      ∙ along_rest p fat false k (n + 1) (omega arith) w
 
   -- ---- four at a time
 
@@ -73,18 +73,18 @@ module _ (fat : ℕ → ℕ) where
     abbrev rest : ℕ → ℕ
     rest i = following (k + i) (along fat false (fat (k + i)) (n - i))
 
-    rest-next : (i : ℕ) → i < 4 → rest i ≡ suc (rest (i + 1))
-    rest-next i l =
+    rest_next : (i : ℕ) → i < 4 → rest i ≡ suc (rest (i + 1))
+    rest_next i l =
         let a : k + i + 1 ≡ k + (i + 1) = omega arith in
         let b : n - i - 1 ≡ n - (i + 1) = omega arith in
-        following-next (k + i) (n - i) (omega arith) (follows i l) ∙ ap₂ (λ (j m : ℕ). suc (following j (along fat false (fat j) m))) a b
+        following_next (k + i) (n - i) (omega arith) (follows i l) ∙ ap₂ (λ (j m : ℕ). suc (following j (along fat false (fat j) m))) a b
 
-    pub following-four : following k (along fat false (fat k) n) ≡ 4 + following (k + 4) (along fat false (fat (k + 4)) (n - 4))
-    following-four =
+    pub following_four : following k (along fat false (fat k) n) ≡ 4 + following (k + 4) (along fat false (fat (k + 4)) (n - 4))
+    following_four =
         let a : k ≡ k + 0 = omega arith in
         let b : n ≡ n - 0 = omega arith in
         ap₂ (λ (j m : ℕ). following j (along fat false (fat j) m)) a b
-        ∙ (omega (arith, rest-next 0 (omega arith), rest-next 1 (omega arith), rest-next 2 (omega arith), rest-next 3 (omega arith)))
+        ∙ (omega (arith, rest_next 0 (omega arith), rest_next 1 (omega arith), rest_next 2 (omega arith), rest_next 3 (omega arith)))
 
     module _ (p : ℕ → Bool) where
       heap_at : (i : ℕ) → i ≤ 4 → every p (along fat false k (n + 1)) ≡ true → every p (along fat false (k + i) (n - i + 1)) ≡ true
@@ -95,10 +95,10 @@ module _ (fat : ℕ → ℕ) where
       heap_at (suc i) l w =
           let a : k + i + 1 ≡ k + suc i = omega arith in
           let b : n - i - 1 + 1 ≡ n - suc i + 1 = omega arith in
-          sym (ap₂ (λ (j m : ℕ). every p (along fat false j m)) a b) ∙ heap-next p (k + i) (n - i) (omega arith) (follows i (omega arith)) (heap_at i (omega arith) w)
+          sym (ap₂ (λ (j m : ℕ). every p (along fat false j m)) a b) ∙ heap_next p (k + i) (n - i) (omega arith) (follows i (omega arith)) (heap_at i (omega arith) w)
 
-      pub heap-four : every p (along fat false k (n + 1)) ≡ true → every p (along fat false (k + 4) (n - 4 + 1)) ≡ true
-      heap-four = heap_at 4 (omega arith)
+      pub heap_four : every p (along fat false k (n + 1)) ≡ true → every p (along fat false (k + 4) (n - 4 + 1)) ≡ true
+      heap_four = heap_at 4 (omega arith)
 
   pub leading-chain : (k n : ℕ) → 1 ≤ n → 1 + following k (along fat false (fat k) (n - 1)) ≡ leading (along fat false k n)
   unfolding leading after

@@ -11,17 +11,17 @@ use lib.Seq.{length-take-le}
 use Rattle.primitives.specs.Splice.{splice}
 use Rattle.primitives.proofs.SpliceLaws.{length-splice, splice_join}
 use Rattle.tables.specs.Lists.{every, consec}
-use Rattle.tables.proofs.ListLaws.{every-mem, consec_in}
+use Rattle.tables.proofs.ListLaws.{every_mem, consec_in}
 use Rattle.boot.specs.declared.layout.Layout.{Layout}
 use Rattle.boot.specs.Layout.{cluster_at, in_heap}
-use Rattle.boot.proofs.Apart.{in_heap_lem, cluster-end}
+use Rattle.boot.proofs.Apart.{in_heap_lem, cluster_end}
 use Rattle.metadata.specs.Fat.{fat_entry}
 use Rattle.metadata.specs.Cluster.{put_bytes}
 use Rattle.metadata.proofs.Frame.{Fits}
 use Rattle.stream.specs.Internal.{along}
 use Rattle.stream.specs.Bytes.{store_at}
-use Rattle.stream.proofs.StreamLaws.{along-head, consec-along}
-use Rattle.stream.proofs.BytesSteps.{some_left, store-here}
+use Rattle.stream.proofs.StreamLaws.{along_head, consec-along}
+use Rattle.stream.proofs.BytesSteps.{some_left, store_here}
 use Rattle.stream.proofs.BytesLaws.{store_first}
 
 -- ---- one piece of the volume
@@ -46,7 +46,7 @@ store_row y (suc c) d k at bs two room low fits =
       | no h ↦
           let n : length (take m bs) ≡ m = length-take-le m bs (omega arith) in
           let e = row_at y 1 k two in
-          store-here y d k (consec (k + 1) (suc c)) at bs low
+          store_here y d k (consec (k + 1) (suc c)) at bs low
           ∙ store_row y c (splice d p (take m bs)) (k + 1) 0 (drop m bs) (omega arith) (omega (arith, length-splice d p (take m bs) (omega arith))) (omega arith)
           (omega (arith, length-drop m bs))
           ∙ splice_join d p (take m bs) (drop m bs) (cluster_at y (k + 1) + 0) (omega arith) (omega arith) ∙ ap (splice d p) (take-append-drop m bs)
@@ -60,8 +60,8 @@ module _ (y : Layout) (d : List ℕ) (w : Fits y d) (run : Bool) (r : run ≡ tr
   some : 0 < n
   some = some_left n y.size at bytes room pos
 
-  pub run-first : (2 ≤ k) × (k < y.count + 2)
-  run-first = in_heap_lem y.count k (along-head (in_heap y.count) (fat_entry y d) run k n some h)
+  pub run_first : (2 ≤ k) × (k < y.count + 2)
+  run_first = in_heap_lem y.count k (along_head (in_heap y.count) (fat_entry y d) run k n some h)
 
   run_row : along (fat_entry y d) run k n ≡ consec k n
   run_row = rw r (sym (consec-along (fat_entry y d) k n))
@@ -69,16 +69,16 @@ module _ (y : Layout) (d : List ℕ) (w : Fits y d) (run : Bool) (r : run ≡ tr
   run_long : cluster_at y k + n * y.size ≤ y.len
   run_long =
       let last = k + (n - 1) in
-      let i = every-mem (in_heap y.count) (consec k n) (ap (every (in_heap y.count)) (sym run_row) ∙ h) last (consec_in k n last (omega arith) (omega (arith, some))) in
+      let i = every_mem (in_heap y.count) (consec k n) (ap (every (in_heap y.count)) (sym run_row) ∙ h) last (consec_in k n last (omega arith) (omega (arith, some))) in
       let z : suc (n - 1) ≡ n = omega (arith, some) in
-      omega (arith, row_at y (n - 1) k run-first.0, cluster-end y w.laid w.apart last i, suc-mul (n - 1) y.size, ap (λ (x : ℕ). x * y.size) z)
+      omega (arith, row_at y (n - 1) k run_first.0, cluster_end y w.laid w.apart last i, suc-mul (n - 1) y.size, ap (λ (x : ℕ). x * y.size) z)
 
   pub run_inside : cluster_at y k + at + bytes ≤ y.len
   run_inside = omega (arith, run_long)
 
-  pub store-run : (bs : List ℕ) → length bs ≡ bytes → store_at y d (along (fat_entry y d) run k n) at bs ≡ put_bytes y d k at bs
-  store-run bs e =
+  pub store_run : (bs : List ℕ) → length bs ≡ bytes → store_at y d (along (fat_entry y d) run k n) at bs ≡ put_bytes y d k at bs
+  store_run bs e =
       let z : n ≡ suc (n - 1) = omega (arith, some) in
       ap (λ (l : List ℕ). store_at y d l at bs) (run_row ∙ ap (consec k) z)
-      ∙ store_row y (n - 1) d k at bs run-first.0 (omega (arith, run_long, w.long, ap (λ (x : ℕ). x * y.size) z)) low
+      ∙ store_row y (n - 1) d k at bs run_first.0 (omega (arith, run_long, w.long, ap (λ (x : ℕ). x * y.size) z)) low
       (omega (arith, ap (λ (x : ℕ). x * y.size) z))

@@ -12,7 +12,7 @@ use borrow.Author.Tests.{eqb-true, eqb-false}
 use Rattle.primitives.specs.Splice.{splice}
 use Rattle.primitives.proofs.SpliceLaws.{splice_turn}
 use Rattle.tables.specs.Lists.{every, last_or, consec}
-use Rattle.tables.proofs.ListLaws.{every-cons, every-head, every-tail}
+use Rattle.tables.proofs.ListLaws.{every-cons, every_head, every_tail}
 use Rattle.tables.proofs.Cases.{clash, and_left, and_right}
 use Rattle.boot.specs.Layout.{in_heap}
 use Rattle.metadata.specs.Fat.{END}
@@ -22,7 +22,7 @@ use Rattle.stream.specs.declared.walk.Next.TheVariants.{End, More, Wrong}
 use Rattle.stream.specs.Chain.{Clusters, listed, refused, next_of, by_next, with_first, chain_from, read_chain}
 use Rattle.stream.specs.Stream.{run_cause, read_run, check_chain, read_stream}
 use Rattle.stream.specs.Internal.{after, along}
-use Rattle.stream.proofs.ChainLaws.{more_in, stream-empty, stream-run, stream-chain}
+use Rattle.stream.proofs.ChainLaws.{more_in, stream_empty, stream_run, stream_chain}
 
 -- ---- going along
 
@@ -60,11 +60,11 @@ module _ (full : List ℕ) (i k : ℕ) (rest : List ℕ) (e : drop i full ≡ k 
   front : (drop (suc i) full ≡ rest) × (get_or full i 0 ≡ k)
   front = let q = drop-cons full i 0 inside in (cc, cc)
 
-  pub drop-turn : drop (i + 1) full ≡ rest
-  drop-turn = rw add-one front.0
+  pub drop_turn : drop (i + 1) full ≡ rest
+  drop_turn = rw add-one front.0
 
-  pub list-turn : (l : List ℕ) → length full ≤ length l → set (splice l 0 (take i full)) i k ≡ splice l 0 (take (i + 1) full)
-  list-turn l h =
+  pub list_turn : (l : List ℕ) → length full ≤ length l → set (splice l 0 (take i full)) i k ≡ splice l 0 (take (i + 1) full)
+  list_turn l h =
       let s : take i full ++ (k ∷ []) ≡ take (i + 1) full = rw (add-one, take-suc full i 0 inside, front.1) refl in
       let z : 0 + i ≡ i = omega arith in
       ap (λ (x : ℕ). set (splice l 0 (take i full)) x k) (sym z)
@@ -110,15 +110,15 @@ module _ (C : ℕ) (fat : ℕ → ℕ) where
         ends = λ z. unfold last_or in r.ends k;
       }
 
-  chain-facts : (n k : ℕ) (ks : List ℕ) → in_heap C k ≡ true → chain_from C fat n k ≡ listed ks → Listed C fat n k ks
+  chain_facts : (n k : ℕ) (ks : List ℕ) → in_heap C k ≡ true → chain_from C fat n k ≡ listed ks → Listed C fat n k ks
   unfolding chain_from
-  chain-facts zero k ks h e = by (next_of C (fat k)) refl e
+  chain_facts zero k ks h e = by (next_of C (fat k)) refl e
     where
       by : (x : Next) → next_of C (fat k) ≡ x → by_next x (listed (k ∷ [])) (refused 4) (refused 3) ≡ listed ks → Listed C fat zero k ks
       by End q p = let z : k ∷ [] ≡ ks = cc in rw (sym z) (only_one zero k h (next_end (fat k) q))
       by More q p = clash (cc)
       by Wrong q p = clash (cc)
-  chain-facts (suc n) k ks h e = by (next_of C (fat k)) refl (chain_from C fat n (fat k)) (λ l i q. chain-facts n (fat k) l i q) e
+  chain_facts (suc n) k ks h e = by (next_of C (fat k)) refl (chain_from C fat n (fat k)) (λ l i q. chain_facts n (fat k) l i q) e
     where
       by : (x : Next) → next_of C (fat k) ≡ x → (c : Clusters)
           → ((l : List ℕ) → in_heap C (fat k) ≡ true → c ≡ listed l → Listed C fat n (fat k) l)
@@ -128,13 +128,13 @@ module _ (C : ℕ) (fat : ℕ → ℕ) where
       by More q (refused m) i p = clash (cc)
       by Wrong q c i p = clash (cc)
 
-  pub read-chain-facts : (first : ℕ) (ks : List ℕ) → read_chain C fat first ≡ listed ks
+  pub read-chain_facts : (first : ℕ) (ks : List ℕ) → read_chain C fat first ≡ listed ks
       → (in_heap C first ≡ true) × Listed C fat (C - 1) first ks
   unfolding read_chain
-  read-chain-facts first ks e = by (in_heap C first) refl e
+  read-chain_facts first ks e = by (in_heap C first) refl e
     where
       by : (b : Bool) → in_heap C first ≡ b → cond b (chain_from C fat (C - 1) first) (refused 2) ≡ listed ks → (in_heap C first ≡ true) × Listed C fat (C - 1) first ks
-      by true h p = (h, chain-facts (C - 1) first ks h p)
+      by true h p = (h, chain_facts (C - 1) first ks h p)
       by false h p = clash (cc)
 
 -- ---- a record that is not refused
@@ -202,7 +202,7 @@ module _ (C : ℕ) (fat : ℕ → ℕ) (mark : ℕ → Bool) (a : Allocation) (k
           → every mark l ≡ q → cond p (cond q (listed l) (refused 6)) (refused 5) ≡ listed ks → Read C fat mark a ks
       done l c true true u v r =
           let z : l ≡ ks = cc in
-          let w = (read-chain-facts C fat a.first l c).1 in
+          let w = (read-chain_facts C fat a.first l c).1 in
           let n = eqb-true (length l) a.count (and_left (eqb (length l) a.count) (eqb (last_or 0 l) a.last) u) in
           let t = eqb-true (last_or 0 l) a.last (and_right (eqb (length l) a.count) (eqb (last_or 0 l) a.last) u) in
           rw (sym z)
@@ -220,14 +220,14 @@ module _ (C : ℕ) (fat : ℕ → ℕ) (mark : ℕ → Bool) (a : Allocation) (k
       by (listed l) c r = done l c (eqb (length l) a.count && eqb (last_or 0 l) a.last) (every mark l) refl refl r
       by (refused n) c r = clash (cc)
 
-  pub read-facts : read_stream C fat mark a ≡ listed ks → Read C fat mark a ks
+  pub read_facts : read_stream C fat mark a ≡ listed ks → Read C fat mark a ks
   unfolding along
-  read-facts e = by (eqb a.count 0) refl a.no_fat_chain refl
+  read_facts e = by (eqb a.count 0) refl a.no_fat_chain refl
     where
       by : (p : Bool) → eqb a.count 0 ≡ p → (t : Bool) → a.no_fat_chain ≡ t → Read C fat mark a ks
       by true u t v =
           let n = eqb-true a.count 0 u in
-          let z : [] ≡ ks = let q = stream-empty C fat mark a n in cc in
+          let z : [] ≡ ks = let q = stream_empty C fat mark a n in cc in
           rw (sym z)
           (record {
             goes = ap (along fat a.no_fat_chain a.first) (sym n);
@@ -236,14 +236,14 @@ module _ (C : ℕ) (fat : ℕ → ℕ) (mark : ℕ → Bool) (a : Allocation) (k
             last = λ h. absurd (h n);
             ends = λ h. absurd (h n);
           })
-      by false u true v = run-read v (sym (stream-run C fat mark a (eqb-false a.count 0 u) v) ∙ e)
-      by false u false v = chain-read v (sym (stream-chain C fat mark a (eqb-false a.count 0 u) v) ∙ e)
+      by false u true v = run-read v (sym (stream_run C fat mark a (eqb-false a.count 0 u) v) ∙ e)
+      by false u false v = chain-read v (sym (stream_chain C fat mark a (eqb-false a.count 0 u) v) ∙ e)
 
 -- ---- a test that every cluster passes, along the way
 
 module _ (p : ℕ → Bool) (fat : ℕ → ℕ) (run : Bool) (k n : ℕ) (h : 0 < n) (e : every p (along fat run k n) ≡ true) where
-  pub along-head : p k ≡ true
-  along-head = every-head p k (along fat run (after fat run k) (n - 1)) (ap (every p) (sym (along-step fat run k n h)) ∙ e)
+  pub along_head : p k ≡ true
+  along_head = every_head p k (along fat run (after fat run k) (n - 1)) (ap (every p) (sym (along-step fat run k n h)) ∙ e)
 
-  pub along-rest : every p (along fat run (after fat run k) (n - 1)) ≡ true
-  along-rest = every-tail p k (along fat run (after fat run k) (n - 1)) (ap (every p) (sym (along-step fat run k n h)) ∙ e)
+  pub along_rest : every p (along fat run (after fat run k) (n - 1)) ≡ true
+  along_rest = every_tail p k (along fat run (after fat run k) (n - 1)) (ap (every p) (sym (along-step fat run k n h)) ∙ e)

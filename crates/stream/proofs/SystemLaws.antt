@@ -29,10 +29,10 @@ module _ (fat : ℕ → ℕ) (run : Bool) where
   system-none m k zero h = refl
   system-none m k (suc n) h = absurd (omega arith)
 
-  pub system-hit : (m : List ℕ) (k n : ℕ) → 0 < n → in_map m k ≡ true → system_cause m (along fat run k n) ≡ 9
+  pub system_hit : (m : List ℕ) (k n : ℕ) → 0 < n → in_map m k ≡ true → system_cause m (along fat run k n) ≡ 9
   unfolding system_cause along every
-  system-hit m k zero h e = absurd (omega arith)
-  system-hit m k (suc n) h e = rw e refl
+  system_hit m k zero h e = absurd (omega arith)
+  system_hit m k (suc n) h e = rw e refl
 
   pub system-step : (m : List ℕ) (k n : ℕ) → 0 < n → in_map m k ≡ false
       → system_cause m (along fat run k n) ≡ system_cause m (along fat run (after fat run k) (n - 1))

@@ -9,11 +9,11 @@ use native.Mathlib.Omega.{arith}
 use native.Mathlib.Numerals.{add-one}
 use lib.ListN.{length, take}
 use Rattle.tables.specs.Table.{upd}
-use Rattle.tables.specs.Internal.{updAll}
+use Rattle.tables.specs.Internal.{upd_all}
 use Rattle.tables.specs.Lists.{Mem, here, there, Distinct, none, more, consec}
 use Rattle.tables.specs.Count.{one, count, keep}
 use Rattle.tables.proofs.Cases.{cond_case}
-use Rattle.tables.proofs.TableLaws.{upd_same, upd_other, all-other}
+use Rattle.tables.proofs.TableLaws.{upd_same, upd_other, all_other}
 
 one_le : (b : Bool) → one b ≤ 1
 one_le true = omega arith
@@ -53,14 +53,14 @@ count_upd p lo (suc n) k b l h =
 -- the entries of a list of keys that all had the value b' changed to b
 pub count-all : (p : ℕ → Bool) (lo n : ℕ) (ks : List ℕ) (b b' : Bool) → Distinct ks
     → ((k : ℕ) → Mem k ks → (lo ≤ k) × (k < lo + n) × (p k ≡ b'))
-    → count (updAll p ks b) lo n + length ks * one b' ≡ count p lo n + length ks * one b
-unfolding updAll
+    → count (upd_all p ks b) lo n + length ks * one b' ≡ count p lo n + length ks * one b
+unfolding upd_all
 count-all p lo n [] b b' d h = omega arith
 count-all p lo n (k ∷ ks) b b' (more o d) h =
     let i = h k (here refl) in
-    let e : updAll p ks b k ≡ b' = all-other p ks b k o ∙ i.2 in
-    let u : count (upd (updAll p ks b) k b) lo n + one b' ≡ count (updAll p ks b) lo n + one b
-    = subst (λ x. count (upd (updAll p ks b) k b) lo n + one x ≡ count (updAll p ks b) lo n + one b) e (count_upd (updAll p ks b) lo n k b i.0 i.1) in
+    let e : upd_all p ks b k ≡ b' = all_other p ks b k o ∙ i.2 in
+    let u : count (upd (upd_all p ks b) k b) lo n + one b' ≡ count (upd_all p ks b) lo n + one b
+    = subst (λ x. count (upd (upd_all p ks b) k b) lo n + one x ≡ count (upd_all p ks b) lo n + one b) e (count_upd (upd_all p ks b) lo n k b i.0 i.1) in
     omega (arith, u, count-all p lo n ks b b' d (λ j m. h j (there m)))
 
 -- counting from the front is counting from the back
@@ -167,20 +167,20 @@ module _ (u : ℕ → Bool) where
   count_none lo zero h = refl
   count_none lo (suc n) h = absurd (omega arith)
 
-  count-first : (lo n : ℕ) → count u lo (suc n) ≡ one (u lo) + count u (lo + 1) n
+  count_first_lem : (lo n : ℕ) → count u lo (suc n) ≡ one (u lo) + count u (lo + 1) n
   unfolding count
-  count-first lo n = rw add-one refl
+  count_first_lem lo n = rw add-one refl
 
   pub count_yes : (lo hi : ℕ) → lo < hi → u lo ≡ true → count u lo (hi - lo) ≡ 1 + count u (lo + 1) (hi - (lo + 1))
   count_yes lo hi h e =
-      ap (count u lo) (omega arith) ∙ count-first lo (hi - (lo + 1)) ∙ ap (λ (b : Bool). one b + count u (lo + 1) (hi - (lo + 1))) e
+      ap (count u lo) (omega arith) ∙ count_first_lem lo (hi - (lo + 1)) ∙ ap (λ (b : Bool). one b + count u (lo + 1) (hi - (lo + 1))) e
 
-  count-over : (d lo n : ℕ) → ((j : ℕ) → lo ≤ j → j < lo + d → u j ≡ false) → count u lo (d + n) ≡ count u (lo + d) n
-  count-over zero lo n f = ap₂ (count u) (omega arith) (omega arith)
-  count-over (suc d) lo n f =
-      ap (count u lo) (omega arith) ∙ count-first lo (d + n)
+  count_over : (d lo n : ℕ) → ((j : ℕ) → lo ≤ j → j < lo + d → u j ≡ false) → count u lo (d + n) ≡ count u (lo + d) n
+  count_over zero lo n f = ap₂ (count u) (omega arith) (omega arith)
+  count_over (suc d) lo n f =
+      ap (count u lo) (omega arith) ∙ count_first_lem lo (d + n)
       ∙ (ap (λ (b : Bool). one b + count u (lo + 1) (d + n)) (f lo (omega arith) (omega arith))
-      ∙ (omega (arith, count-over d (lo + 1) n (λ j a b. f j (omega arith) (omega arith)), ap (λ (x : ℕ). count u x n) (plus d))))
+      ∙ (omega (arith, count_over d (lo + 1) n (λ j a b. f j (omega arith) (omega arith)), ap (λ (x : ℕ). count u x n) (plus d))))
     where
       plus : (d : ℕ) → lo + 1 + d ≡ lo + suc d
       plus d = omega arith
@@ -188,4 +188,4 @@ module _ (u : ℕ → Bool) where
   -- numbers that fail do not count
   pub count-beyond : (lo e hi : ℕ) → lo ≤ e → e ≤ hi → ((j : ℕ) → lo ≤ j → j < e → u j ≡ false) → count u lo (hi - lo) ≡ count u e (hi - e)
   count-beyond lo e hi h i f =
-      ap (count u lo) (omega arith) ∙ count-over (e - lo) lo (hi - e) (λ j a b. f j a (omega arith)) ∙ ap (λ (x : ℕ). count u x (hi - e)) (omega arith)
+      ap (count u lo) (omega arith) ∙ count_over (e - lo) lo (hi - e) (λ j a b. f j a (omega arith)) ∙ ap (λ (x : ℕ). count u x (hi - e)) (omega arith)

@@ -49,31 +49,31 @@ distinct_take (suc n) (x ∷ xs) (more o d) = more (λ m. o (mem_take n xs m)) (
 -- ---- a test that every number passes
 
 module _ (p : ℕ → Bool) where
-  pub every-head : (k : ℕ) (ks : List ℕ) → every p (k ∷ ks) ≡ true → p k ≡ true
+  pub every_head : (k : ℕ) (ks : List ℕ) → every p (k ∷ ks) ≡ true → p k ≡ true
   unfolding every
-  every-head k ks e = by (p k) refl
+  every_head k ks e = by (p k) refl
     where
       by : (b : Bool) → p k ≡ b → p k ≡ true
       by true q = q
       by false q = absurd (false≢true (rw q at e))
 
-  pub every-tail : (k : ℕ) (ks : List ℕ) → every p (k ∷ ks) ≡ true → every p ks ≡ true
+  pub every_tail : (k : ℕ) (ks : List ℕ) → every p (k ∷ ks) ≡ true → every p ks ≡ true
   unfolding every
-  every-tail k ks e = rw (every-head k ks e) at e
+  every_tail k ks e = rw (every_head k ks e) at e
 
   pub every-cons : (k : ℕ) (ks : List ℕ) → p k ≡ true → every p ks ≡ true → every p (k ∷ ks) ≡ true
   unfolding every
   every-cons k ks h t = rw h t
 
-  pub every-mem : (ks : List ℕ) → every p ks ≡ true → (k : ℕ) → Mem k ks → p k ≡ true
-  every-mem (x ∷ xs) e k (here q) = rw q (every-head x xs e)
-  every-mem (x ∷ xs) e k (there m) = every-mem xs (every-tail x xs e) k m
-  every-mem [] e k x'' = elim x'' [ ]
+  pub every_mem : (ks : List ℕ) → every p ks ≡ true → (k : ℕ) → Mem k ks → p k ≡ true
+  every_mem (x ∷ xs) e k (here q) = rw q (every_head x xs e)
+  every_mem (x ∷ xs) e k (there m) = every_mem xs (every_tail x xs e) k m
+  every_mem [] e k x'' = elim x'' [ ]
 
-  pub mem-every : (ks : List ℕ) → ((k : ℕ) → Mem k ks → p k ≡ true) → every p ks ≡ true
+  pub mem_every : (ks : List ℕ) → ((k : ℕ) → Mem k ks → p k ≡ true) → every p ks ≡ true
   unfolding every
-  mem-every [] h = refl
-  mem-every (x ∷ xs) h = every-cons x xs (h x (here refl)) (mem-every xs (λ k m. h k (there m)))
+  mem_every [] h = refl
+  mem_every (x ∷ xs) h = every-cons x xs (h x (here refl)) (mem_every xs (λ k m. h k (there m)))
 
 -- ---- numbers in a row
 

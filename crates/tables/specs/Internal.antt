@@ -4,9 +4,9 @@ use Rattle.tables.specs.Table.{upd}
 
 module _ {ℓ} {A : Type ℓ} where
   -- the table with v at each key of a list
-  unfoldable pub updAll : (ℕ → A) → List ℕ → A → ℕ → A
-  updAll f [] v = f
-  updAll f (k ∷ ks) v = upd (updAll f ks v) k v
+  unfoldable pub upd_all : (ℕ → A) → List ℕ → A → ℕ → A
+  upd_all f [] v = f
+  upd_all f (k ∷ ks) v = upd (upd_all f ks v) k v
 
   -- the table with z at each key that the test does not pass
   unfoldable pub only : (ℕ → Bool) → A → (ℕ → A) → ℕ → A

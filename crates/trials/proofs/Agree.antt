@@ -90,9 +90,9 @@ row_T10_shrink : agrees T10_shrink ≡ true
 unfolding opened
 row_T10_shrink = refl
 
-row_old-entries : agrees old_entries ≡ true
+row_old_entries : agrees old_entries ≡ true
 unfolding opened
-row_old-entries = refl
+row_old_entries = refl
 
 row_eight_list : agrees eight_list ≡ true
 unfolding opened
@@ -136,7 +136,7 @@ trials_agree =
     (more T10_shrink _ row_T10_shrink
     (more T11 _ row_T11
     (more T12 _ row_T12
-    (more old_entries _ row_old-entries
+    (more old_entries _ row_old_entries
     (more eight_list _ row_eight_list
     (more eight_extend _ row_eight_extend
     (more eight_shrink _ row_eight_shrink

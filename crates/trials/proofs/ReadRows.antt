@@ -29,7 +29,7 @@ use Rattle.trials.specs.File.{earlier, trial_set}
 use Rattle.trials.specs.ReadTable.{Read, chained, said_of, wanted_of, same_part, same_read, read_agrees, all_reads_agree, hundred, spoiled, R1, R2, R3, R4, R5, R6, R7, R8, R9, reads}
 use Rattle.trials.specs.Trial.{same_flag}
 use Rattle.trials.specs.Volume.{geometry, system, link_at, trial_entry, word_bytes, fat_bytes, padded, trial_bytes, linked}
-use Rattle.trials.proofs.Same.{all-reads_same}
+use Rattle.trials.proofs.Same.{all_reads_same}
 
 -- a read with everything open that has to compute
 unfoldable opened : Read → Bool
@@ -99,4 +99,4 @@ reads_agree =
 
 -- R1 to R9: what the definitions say is what is expected, row by row of the table
 pub reads_hold : map said_of reads ≡ map wanted_of reads
-reads_hold = all-reads_same reads reads_agree
+reads_hold = all_reads_same reads reads_agree

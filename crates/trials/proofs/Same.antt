@@ -113,9 +113,9 @@ same_read_lem a b e =
     λ i. (eqb-true a.0 b.0 p.0 i, same_part_lem a.1 b.1 p.1 i)
 
 -- the same of the reads
-pub all-reads_same : (rs : List Read) → all_reads_agree rs ≡ true → map said_of rs ≡ map wanted_of rs
+pub all_reads_same : (rs : List Read) → all_reads_agree rs ≡ true → map said_of rs ≡ map wanted_of rs
 unfolding all_reads_agree read_agrees
-all-reads_same [] e = refl
-all-reads_same (r ∷ rs) e =
+all_reads_same [] e = refl
+all_reads_same (r ∷ rs) e =
     let p = both (same_read (said_of r) (wanted_of r)) (all_reads_agree rs) e in
-    cc (same_read_lem (said_of r) (wanted_of r) p.0, all-reads_same rs p.1)
+    cc (same_read_lem (said_of r) (wanted_of r) p.0, all_reads_same rs p.1)

@@ -14,7 +14,7 @@ use Rattle.boot.specs.declared.layout.Layout.{Layout}
 use Rattle.boot.specs.Limits.{limits}
 use Rattle.boot.specs.Causes.{first_cause, admit_cause, heap_cause, space_cause}
 use Rattle.boot.proofs.CauseLaws.{cause_skip, cause_met, cause_last}
-use Rattle.boot.proofs.Admission.{limits-admitted, limits-refused}
+use Rattle.boot.proofs.Admission.{limits-admitted, limits_refused}
 use Rattle.stream.specs.declared.allocation.Allocation.{Allocation}
 use Rattle.entry_set.specs.declared.stamp.Stamp.{Stamp}
 use Rattle.entry_set.specs.declared.stamp.Stamps.{Stamps}
@@ -127,10 +127,10 @@ module _ (g : Geometry) (m d : List ℕ) (l : limits g (length d) m ≡ false) w
   -- any call on it is refused with 1
   pub broken : (c : Call) → step g m d c ≡ refuse 1 (hint_of c) d
   unfolding step new_file write_into set_length remove hint_of
-  broken (New name attributes hash t hint) = rw (limits-refused g d m l) refl
-  broken (Write i offset bs t hint) = rw (limits-refused g d m l) refl
-  broken (SetLength i len t hint) = rw (limits-refused g d m l) refl
-  broken (Remove i hint) = rw (limits-refused g d m l) refl
+  broken (New name attributes hash t hint) = rw (limits_refused g d m l) refl
+  broken (Write i offset bs t hint) = rw (limits_refused g d m l) refl
+  broken (SetLength i len t hint) = rw (limits_refused g d m l) refl
+  broken (Remove i hint) = rw (limits_refused g d m l) refl
 
   pub broken-number : (c : Call) → (step g m d c).answer.number ≡ 1
   unfolding refuse
@@ -138,10 +138,10 @@ module _ (g : Geometry) (m d : List ℕ) (l : limits g (length d) m ≡ false) w
 
   other-broken : (c : Call) → other_cause g m d c ≡ 1
   unfolding other_cause
-  other-broken (New name attributes hash t hint) = cause_met _ _ (λ z. omega (arith, limits-refused g d m l)) ∙ limits-refused g d m l
-  other-broken (Write i offset bs t hint) = cause_met _ _ (λ z. omega (arith, limits-refused g d m l)) ∙ limits-refused g d m l
-  other-broken (SetLength i len t hint) = cause_met _ _ (λ z. omega (arith, limits-refused g d m l)) ∙ limits-refused g d m l
-  other-broken (Remove i hint) = cause_met _ _ (λ z. omega (arith, limits-refused g d m l)) ∙ limits-refused g d m l
+  other-broken (New name attributes hash t hint) = cause_met _ _ (λ z. omega (arith, limits_refused g d m l)) ∙ limits_refused g d m l
+  other-broken (Write i offset bs t hint) = cause_met _ _ (λ z. omega (arith, limits_refused g d m l)) ∙ limits_refused g d m l
+  other-broken (SetLength i len t hint) = cause_met _ _ (λ z. omega (arith, limits_refused g d m l)) ∙ limits_refused g d m l
+  other-broken (Remove i hint) = cause_met _ _ (λ z. omega (arith, limits_refused g d m l)) ∙ limits_refused g d m l
 
 -- a refused call on any volume: the number, slot 0, the hint as given and the volume as it was
 pub refused_same : (g : Geometry) (m d : List ℕ) (c : Call) → (step g m d c).answer.number ≢ 0

@@ -29,9 +29,9 @@ use Rattle.stream.specs.Bytes.{bytes_in}
 use Rattle.directory.specs.Entries.{entry_count, is_file, entries_at, set_at, is_sound}
 use Rattle.directory.specs.Internal.{sets}
 use Rattle.directory.specs.Room.{with_zeros}
-use Rattle.directory.proofs.EntryLaws.{sound-file}
+use Rattle.directory.proofs.EntryLaws.{sound_file}
 use Rattle.directory.proofs.FitLaws.{fit_low}
-use Rattle.directory.proofs.OrderedLaws.{Ordered, file-room, file-fit, files-apart}
+use Rattle.directory.proofs.OrderedLaws.{Ordered, file_room, file_fit, files_apart}
 use Rattle.directory.proofs.StoreLaws.{sets-file, sets-none}
 use Rattle.directory.specs.Open.{file_record, shown}
 use Rattle.write.specs.Consistent.{Consistent, lay, root, root_clusters, root_bytes, file_at, set_of, stream_at, file_clusters, file_bytes}
@@ -40,7 +40,7 @@ use Rattle.write.specs.Space.{length_takes, sum, clusters_taken}
 use Rattle.write.specs.Demand.{entries_put, Lost}
 use Rattle.write.proofs.Reading.{record_same}
 use Rattle.write.proofs.Family.{Family, Outside, same_clusters}
-use Rattle.write.proofs.Scene.{clear_stream, clear_directory, lay_same, members, ordered, slot-stream, slot-number, slot-off, lost-outside}
+use Rattle.write.proofs.Scene.{clear_stream, clear_directory, lay_same, members, ordered, slot_stream, slot_number, slot_off, lost_outside}
 
 -- the clusters that the length of a slot's set takes, and the contents that the set shows
 unfoldable pub takes : Layout → Option (List ℕ) → ℕ
@@ -123,7 +123,7 @@ standing_consistent g m d S l w = record {
   streams_apart = λ i j p q n. f.apart (suc i) (suc j) (file i) (file j) (λ e. n (omega arith)) (member i p) (member j q);
   root_apart = λ i p. f.apart (suc i) 0 (file i) a (λ e. omega arith) (member i p) w.first;
   ended = w.in_order.ended;
-  sets_apart = files-apart y.count y.size bs w.in_order;
+  sets_apart = files_apart y.count y.size bs w.in_order;
 }
   where
     y : Layout
@@ -162,9 +162,9 @@ module _ (g : Geometry) (d : List ℕ) where
   abbrev bytes : List ℕ
   bytes = root_bytes g d
 
-  pub contents-is : Ordered (lay g d).count (lay g d).size (root_bytes g d) → (j : ℕ) → contents g d j ≡ contents_of (lay g d) d (sets (root_bytes g d) j)
+  pub contents_is : Ordered (lay g d).count (lay g d).size (root_bytes g d) → (j : ℕ) → contents g d j ≡ contents_of (lay g d) d (sets (root_bytes g d) j)
   unfolding contents has_file set_of stream_at
-  contents-is w j = by (is_file bytes j) refl
+  contents_is w j = by (is_file bytes j) refl
     where
       shows : Option (List ℕ)
       shows =
@@ -183,13 +183,13 @@ module _ (g : Geometry) (d : List ℕ) where
           ∙ sym (ap (contents_of (lay g d) d) (sets-file bytes j f) ∙ (unfold contents_of in refl))
       by false f =
           let n : is_sound (lay g d).count (lay g d).size bytes j ≡ false
-          = not_so _ (λ s. false≢true (sym f ∙ sound-file (lay g d).count (lay g d).size bytes j s)) in
+          = not_so _ (λ s. false≢true (sym f ∙ sound_file (lay g d).count (lay g d).size bytes j s)) in
           ap (λ (b : Bool). cond (b && not (is_directory (set_at bytes j))) shows none) n
           ∙ sym (ap (contents_of (lay g d) d) (sets-none bytes j f) ∙ (unfold contents_of in refl))
 
-  pub takes-is : (j : ℕ) → length_takes g d j ≡ takes (lay g d) (sets (root_bytes g d) j)
+  pub takes_is : (j : ℕ) → length_takes g d j ≡ takes (lay g d) (sets (root_bytes g d) j)
   unfolding length_takes file_at set_of sets
-  takes-is j = by (is_file bytes j)
+  takes_is j = by (is_file bytes j)
     where
       by : (b : Bool)
           → cond b (clusters_for (lay g d).size (data_length (set_at bytes j))) 0 ≡ takes (lay g d) (cond b (some (set_at bytes j)) none)
@@ -205,20 +205,20 @@ module _ (g : Geometry) (d : List ℕ) where
           absurd
           (omega (
             arith,
-            file-room (lay g d).count (lay g d).size bytes w j f,
-            fit_low (lay g d).count (lay g d).size (entries_at bytes j) (set_at bytes j) (file-fit (lay g d).count (lay g d).size bytes w j f),
+            file_room (lay g d).count (lay g d).size bytes w j f,
+            fit_low (lay g d).count (lay g d).size (entries_at bytes j) (set_at bytes j) (file_fit (lay g d).count (lay g d).size bytes w j f),
           ))
-      by false f = takes-is j ∙ ap (takes (lay g d)) (sets-none bytes j f) ∙ (unfold takes in refl)
+      by false f = takes_is j ∙ ap (takes (lay g d)) (sets-none bytes j f) ∙ (unfold takes in refl)
 
 -- ---- the changed volume
 
 module _ (g : Geometry) (m d d' : List ℕ) (more i : ℕ) (o : Option (List ℕ)) (c : Consistent g m d) (h : Change g m d d' more i o) where
-  same-lay : lay g d' ≡ lay g d
-  same-lay = lay_same g d d' h.long
+  same_lay : lay g d' ≡ lay g d
+  same_lay = lay_same g d d' h.long
 
   -- the record of another slot's stream
-  pub other-record : (j : ℕ) (s : List ℕ) → j ≢ i → sets (root_bytes g d) j ≡ some s → file_record (lay g d) d' s ≡ file_record (lay g d) d s
-  other-record j s n e = record_same (lay g d) d d' s (slot-number g m d c j s e) (h.others_read j s n e)
+  pub other_record : (j : ℕ) (s : List ℕ) → j ≢ i → sets (root_bytes g d) j ≡ some s → file_record (lay g d) d' s ≡ file_record (lay g d) d s
+  other_record j s n e = record_same (lay g d) d d' s (slot_number g m d c j s e) (h.others_read j s n e)
 
   -- what holds of the stream of every slot's set now
   each : (P : List ℕ → Allocation → ℕ → Type 0) → ((s : List ℕ) → o ≡ some s → P s (file_record (lay g d) d' s) i)
@@ -231,17 +231,17 @@ module _ (g : Geometry) (m d d' : List ℕ) (more i : ℕ) (o : Option (List ℕ
             subst (P s (file_record (lay g d) d' s)) (sym q) (own s r)
         | no q ↦
             let r : sets (root_bytes g d) j ≡ some s = sym (upd_other (sets (root_bytes g d)) i o j q) ∙ sym (h.table j) ∙ e in
-            subst (λ (a : Allocation). P s a j) (sym (other-record j s q r)) (other j s q r)
+            subst (λ (a : Allocation). P s a j) (sym (other_record j s q r)) (other j s q r)
       ]
 
   back : (j : ℕ) → sets (bytes_in (lay g d) d' (root_record (lay g d) d' (root_cluster g))) j ≡ sets (bytes_in (lay g d) d' h.after) j
   back j = ap (λ (a : Allocation). sets (bytes_in (lay g d) d' a) j) h.root_is
 
-  others-off : (j : ℕ) (s : List ℕ) → j ≢ i → sets (root_bytes g d) j ≡ some s → (x : ℕ)
+  others_off : (j : ℕ) (s : List ℕ) → j ≢ i → sets (root_bytes g d) j ≡ some s → (x : ℕ)
       → Mem x (clusters_in (lay g d) d' (file_record (lay g d) d s)) → in_map m x ≡ false
   unfolding clusters_in
-  others-off j s n e x q =
-      slot-off g m d c j s e x (subst (λ (r : Clusters). Mem x (clusters_of r)) (h.others_read j s n e) q)
+  others_off j s n e x q =
+      slot_off g m d c j s e x (subst (λ (r : Clusters). Mem x (clusters_of r)) (h.others_read j s n e) q)
 
   stands : Standing g m d' h.S' (lay g d)
   stands = record {
@@ -249,42 +249,42 @@ module _ (g : Geometry) (m d d' : List ℕ) (more i : ℕ) (o : Option (List ℕ
     all_apart = h.family;
     first = h.root_member ∙ ap some (sym h.root_is);
     others = λ j s e. each (λ _ a k. h.S' (suc k) ≡ some a) h.own_member h.other_member j s (sym (back j) ∙ e);
-    off_map = λ j s e. each (λ _ a k. (x : ℕ) → Mem x (clusters_in (lay g d) d' a) → in_map m x ≡ false) h.own_off_map others-off j s (sym (back j) ∙ e);
+    off_map = λ j s e. each (λ _ a k. (x : ℕ) → Mem x (clusters_in (lay g d) d' a) → in_map m x ≡ false) h.own_off_map others_off j s (sym (back j) ∙ e);
   }
 
-  stands-there : Standing g m d' h.S' (lay g d')
-  stands-there = subst (Standing g m d' h.S') (sym same-lay) stands
+  stands_there : Standing g m d' h.S' (lay g d')
+  stands_there = subst (Standing g m d' h.S') (sym same_lay) stands
 
-  pub change-consistent : Consistent g m d'
-  change-consistent = standing_consistent g m d' h.S' (ap (λ (x : ℕ). limits g x m) h.long ∙ c.limits_hold) stands-there
+  pub change_consistent : Consistent g m d'
+  change_consistent = standing_consistent g m d' h.S' (ap (λ (x : ℕ). limits g x m) h.long ∙ c.limits_hold) stands_there
 
   -- marked clusters of no stream
-  pub change-lost : (k : ℕ) → Lost g d k → Lost g d' k
-  change-lost k l =
-      standing_lost g m d' h.S' stands-there k
-      (subst (λ (y : Layout). Outside y d' h.S' k) (sym same-lay) (h.outside k (lost-outside g m d c k l)))
+  pub change_lost : (k : ℕ) → Lost g d k → Lost g d' k
+  change_lost k l =
+      standing_lost g m d' h.S' stands_there k
+      (subst (λ (y : Layout). Outside y d' h.S' k) (sym same_lay) (h.outside k (lost_outside g m d c k l)))
 
   -- the root afterwards
-  pub change-root : root g d' ≡ h.after
+  pub change_root : root g d' ≡ h.after
   unfolding root
-  change-root = ap (λ (y : Layout). root_record y d' (root_cluster g)) same-lay ∙ h.root_is
+  change_root = ap (λ (y : Layout). root_record y d' (root_cluster g)) same_lay ∙ h.root_is
 
-  pub change-bytes : root_bytes g d' ≡ bytes_in (lay g d) d' h.after
+  pub change_bytes : root_bytes g d' ≡ bytes_in (lay g d) d' h.after
   unfolding root_bytes
-  change-bytes = ap₂ (λ (y : Layout) (a : Allocation). bytes_in y d' a) same-lay change-root
+  change_bytes = ap₂ (λ (y : Layout) (a : Allocation). bytes_in y d' a) same_lay change_root
 
-  pub change-clusters : root_clusters g d' ≡ clusters_in (lay g d) d' h.after
+  pub change_clusters : root_clusters g d' ≡ clusters_in (lay g d) d' h.after
   unfolding root_clusters
-  change-clusters = ap₂ (λ (y : Layout) (a : Allocation). clusters_in y d' a) same-lay change-root
+  change_clusters = ap₂ (λ (y : Layout) (a : Allocation). clusters_in y d' a) same_lay change_root
 
-  pub change-root-bytes : root_bytes g d' ≡ splice (with_zeros (root_bytes g d) (more * (lay g d).size)) (32 * i) (entries_put (set_of g d i) o)
-  change-root-bytes = change-bytes ∙ h.root_bytes_are
+  pub change_root_bytes : root_bytes g d' ≡ splice (with_zeros (root_bytes g d) (more * (lay g d).size)) (32 * i) (entries_put (set_of g d i) o)
+  change_root_bytes = change_bytes ∙ h.root_bytes_are
 
-  pub change-root-clusters : take (length (root_clusters g d)) (root_clusters g d') ≡ root_clusters g d
-  change-root-clusters = ap (take (length (root_clusters g d))) change-clusters ∙ h.root_clusters_are
+  pub change_root_clusters : take (length (root_clusters g d)) (root_clusters g d') ≡ root_clusters g d
+  change_root_clusters = ap (take (length (root_clusters g d))) change_clusters ∙ h.root_clusters_are
 
-  pub change-sets : (j : ℕ) → sets (root_bytes g d') j ≡ upd (sets (root_bytes g d)) i o j
-  change-sets j = ap (λ (bs : List ℕ). sets bs j) change-bytes ∙ h.table j
+  pub change_sets : (j : ℕ) → sets (root_bytes g d') j ≡ upd (sets (root_bytes g d)) i o j
+  change_sets j = ap (λ (bs : List ℕ). sets bs j) change_bytes ∙ h.table j
 
   -- the stream of another slot
   module _ (j : ℕ) (n : j ≢ i) (f : file_at g d j ≡ true) where
@@ -292,62 +292,62 @@ module _ (g : Geometry) (m d d' : List ℕ) (more i : ℕ) (o : Option (List ℕ
     unfolding file_at set_of
     there = sets-file (root_bytes g d) j f
 
-    there-now : sets (root_bytes g d') j ≡ some (set_of g d j)
-    there-now = change-sets j ∙ upd_other (sets (root_bytes g d)) i o j n ∙ there
+    there_now : sets (root_bytes g d') j ≡ some (set_of g d j)
+    there_now = change_sets j ∙ upd_other (sets (root_bytes g d)) i o j n ∙ there
 
-    same-stream : stream_at g d' j ≡ file_record (lay g d) d (set_of g d j)
-    same-stream =
-        slot-stream g m d' change-consistent j (set_of g d j) there-now
-        ∙ ap (λ (y : Layout). file_record y d' (set_of g d j)) same-lay
-        ∙ other-record j (set_of g d j) n there
+    same_stream : stream_at g d' j ≡ file_record (lay g d) d (set_of g d j)
+    same_stream =
+        slot_stream g m d' change_consistent j (set_of g d j) there_now
+        ∙ ap (λ (y : Layout). file_record y d' (set_of g d j)) same_lay
+        ∙ other_record j (set_of g d j) n there
 
-    pub change-other-clusters : file_clusters g d' j ≡ file_clusters g d j
+    pub change_other_clusters : file_clusters g d' j ≡ file_clusters g d j
     unfolding file_clusters
-    change-other-clusters =
-        ap₂ (λ (y : Layout) (a : Allocation). clusters_in y d' a) same-lay same-stream
+    change_other_clusters =
+        ap₂ (λ (y : Layout) (a : Allocation). clusters_in y d' a) same_lay same_stream
         ∙ same_clusters (lay g d) d d' (file_record (lay g d) d (set_of g d j)) (h.others_read j (set_of g d j) n there)
         ∙ (unfold stream_at in refl)
 
-    pub change-other-bytes : file_bytes g d' j ≡ file_bytes g d j
+    pub change_other_bytes : file_bytes g d' j ≡ file_bytes g d j
     unfolding file_bytes
-    change-other-bytes =
-        ap₂ (λ (y : Layout) (a : Allocation). bytes_in y d' a) same-lay same-stream
+    change_other_bytes =
+        ap₂ (λ (y : Layout) (a : Allocation). bytes_in y d' a) same_lay same_stream
         ∙ h.others_bytes j (set_of g d j) n there
         ∙ (unfold stream_at in refl)
 
   -- what a slot shows now
-  shows-now : (j : ℕ) → contents g d' j ≡ contents_of (lay g d) d' (upd (sets (root_bytes g d)) i o j)
-  shows-now j =
-      contents-is g d' (ordered g m d' change-consistent) j
-      ∙ ap₂ (λ (y : Layout) (v : Option (List ℕ)). contents_of y d' v) same-lay (change-sets j)
+  shows_now : (j : ℕ) → contents g d' j ≡ contents_of (lay g d) d' (upd (sets (root_bytes g d)) i o j)
+  shows_now j =
+      contents_is g d' (ordered g m d' change_consistent) j
+      ∙ ap₂ (λ (y : Layout) (v : Option (List ℕ)). contents_of y d' v) same_lay (change_sets j)
 
-  shows-other : (j : ℕ) → j ≢ i → (v : Option (List ℕ)) → sets (root_bytes g d) j ≡ v → contents_of (lay g d) d' v ≡ contents_of (lay g d) d v
+  shows_other : (j : ℕ) → j ≢ i → (v : Option (List ℕ)) → sets (root_bytes g d) j ≡ v → contents_of (lay g d) d' v ≡ contents_of (lay g d) d v
   unfolding contents_of
-  shows-other j n none e = refl
-  shows-other j n (some s) e =
+  shows_other j n none e = refl
+  shows_other j n (some s) e =
       ap (λ (bs : List ℕ). cond (is_directory s) none (some (shown bs (valid_length s) (data_length s))))
-      (ap (bytes_in (lay g d) d') (other-record j s n e) ∙ h.others_bytes j s n e)
+      (ap (bytes_in (lay g d) d') (other_record j s n e) ∙ h.others_bytes j s n e)
 
-  pub change-contents : (j : ℕ) → contents g d' j ≡ upd (contents g d) i (contents_of (lay g d) d' o) j
-  change-contents j =
-      shows-now j
+  pub change_contents : (j : ℕ) → contents g d' j ≡ upd (contents g d) i (contents_of (lay g d) d' o) j
+  change_contents j =
+      shows_now j
       ∙ elim (ℕ_discrete j i) [
         | yes q ↦ ap (contents_of (lay g d) d') (ap (upd (sets (root_bytes g d)) i o) q ∙ upd_same (sets (root_bytes g d)) i o)
             ∙ sym (ap (upd (contents g d) i (contents_of (lay g d) d' o)) q ∙ upd_same (contents g d) i (contents_of (lay g d) d' o))
-        | no q ↦ ap (contents_of (lay g d) d') (upd_other (sets (root_bytes g d)) i o j q) ∙ shows-other j q (sets (root_bytes g d) j) refl
-            ∙ sym (contents-is g d (ordered g m d c) j) ∙ sym (upd_other (contents g d) i (contents_of (lay g d) d' o) j q)
+        | no q ↦ ap (contents_of (lay g d) d') (upd_other (sets (root_bytes g d)) i o j q) ∙ shows_other j q (sets (root_bytes g d) j) refl
+            ∙ sym (contents_is g d (ordered g m d c) j) ∙ sym (upd_other (contents g d) i (contents_of (lay g d) d' o) j q)
       ]
 
   -- ---- the marks
 
-  takes-now : (j : ℕ) → length_takes g d' j ≡ takes (lay g d) (upd (sets (root_bytes g d)) i o j)
-  takes-now j = takes-is g d' j ∙ ap₂ takes same-lay (change-sets j)
+  takes_now : (j : ℕ) → length_takes g d' j ≡ takes (lay g d) (upd (sets (root_bytes g d)) i o j)
+  takes_now j = takes_is g d' j ∙ ap₂ takes same_lay (change_sets j)
 
-  takes-own : length_takes g d' i ≡ takes (lay g d) o
-  takes-own = takes-now i ∙ ap (takes (lay g d)) (upd_same (sets (root_bytes g d)) i o)
+  takes_own : length_takes g d' i ≡ takes (lay g d) o
+  takes_own = takes_now i ∙ ap (takes (lay g d)) (upd_same (sets (root_bytes g d)) i o)
 
-  takes-other : (j : ℕ) → j ≢ i → length_takes g d' j ≡ length_takes g d j
-  takes-other j n = takes-now j ∙ ap (takes (lay g d)) (upd_other (sets (root_bytes g d)) i o j n) ∙ sym (takes-is g d j)
+  takes_other : (j : ℕ) → j ≢ i → length_takes g d' j ≡ length_takes g d j
+  takes_other j n = takes_now j ∙ ap (takes (lay g d)) (upd_other (sets (root_bytes g d)) i o j n) ∙ sym (takes_is g d j)
 
   sums : sum (length_takes g d') (entry_count (root_bytes g d')) + takes (lay g d) (sets (root_bytes g d) i)
       ≡ sum (length_takes g d) (entry_count (root_bytes g d)) + takes (lay g d) o
@@ -359,13 +359,13 @@ module _ (g : Geometry) (m d d' : List ℕ) (more i : ℕ) (o : Option (List ℕ
         arith,
         ap (sum (length_takes g d')) e,
         sum_past (length_takes g d) a (b + suc i) (takes_past g d (ordered g m d c)),
-        sum_past (length_takes g d') b (a + suc i) (takes_past g d' (ordered g m d' change-consistent)),
-        sum_change (length_takes g d) (length_takes g d') i (a + (b + suc i)) (omega arith) takes-other,
-        takes-own,
-        takes-is g d i,
+        sum_past (length_takes g d') b (a + suc i) (takes_past g d' (ordered g m d' change_consistent)),
+        sum_change (length_takes g d) (length_takes g d') i (a + (b + suc i)) (omega arith) takes_other,
+        takes_own,
+        takes_is g d i,
       )
 
-  pub change-marks : allocated_count (lay g d) d' + clusters_taken g d ≡ allocated_count (lay g d) d + clusters_taken g d'
+  pub change_marks : allocated_count (lay g d) d' + clusters_taken g d ≡ allocated_count (lay g d) d + clusters_taken g d'
   unfolding clusters_taken
-  change-marks =
-      omega (arith, allocated_is (lay g d) d, allocated_is (lay g d) d', h.marks, sums, ap length change-clusters)
+  change_marks =
+      omega (arith, allocated_is (lay g d) d, allocated_is (lay g d) d', h.marks, sums, ap length change_clusters)

@@ -27,18 +27,18 @@ use Rattle.entry_set.specs.declared.stamp.Stamps.{Stamps}
 use Rattle.entry_set.specs.Fields.{valid_length, data_length}
 use Rattle.entry_set.specs.Name.{name_ok, name_cause, attributes_ok, attribute_cause}
 use Rattle.entry_set.specs.New.{new_entries, new_set}
-use Rattle.entry_set.proofs.SetLaws.{new-length, new-zero, new-entries, new-valid, new-data, new-directory, new-few, new-formed}
-use Rattle.entry_set.proofs.LengthLaws.{clusters-none}
+use Rattle.entry_set.proofs.SetLaws.{new-length, new-zero, new-entries, new_valid, new_data, new_directory, new_few, new_formed}
+use Rattle.entry_set.proofs.LengthLaws.{clusters_none}
 use Rattle.directory.specs.Directory.{root_record}
 use Rattle.directory.specs.Entries.{entry_count}
 use Rattle.directory.specs.Internal.{sets}
 use Rattle.directory.specs.Room.{free_run, slot_of, with_zeros, growth}
 use Rattle.directory.proofs.FitLaws.{Fit}
-use Rattle.directory.proofs.DirectoryLaws.{clusters-length}
+use Rattle.directory.proofs.DirectoryLaws.{clusters_length}
 use Rattle.file.specs.Outcome.{carried}
 use Rattle.directory.specs.Open.{file_record, shown}
 use Rattle.write_dir.specs.Place.{GrownDirectory, grow_by}
-use Rattle.write_dir.proofs.InsertLaws.{insert-room, insert-free, insert-ordered, insert-sets}
+use Rattle.write_dir.proofs.InsertLaws.{insert_room, insert_free, insert_ordered, insert_sets}
 use Rattle.file.specs.Refresh.{entries_of}
 use Rattle.write_file.specs.NewFile.{new_growth, new_file_cause, placed}
 use Rattle.write_file.proofs.NewFileLaws.{space_enough}
@@ -49,14 +49,14 @@ use Rattle.write.specs.Model.{accepted, has_list, finds}
 use Rattle.write.specs.Space.{must_add}
 use Rattle.write.specs.Demand as demand
 use Rattle.write.proofs.Shown.{shown-empty}
-use Rattle.write.proofs.Reading.{reads_as, bytes-length, root_back, record-empty}
-use Rattle.write.proofs.Family.{Moved, Stored, same_clusters, out_of_empty, empty-clusters, empty-bytes, family_add, outside_add, moved_again, store-member}
-use Rattle.write.proofs.Zeroed.{Wider, grow-member}
-use Rattle.write.proofs.Scene.{both_clear, if_clear, mapped, root-first, root-chain, root-some, members, member-root, fits, size-per, per-low, root-count, ordered, family}
-use Rattle.write.proofs.Change.{Change, takes, contents_of, contents-is}
+use Rattle.write.proofs.Reading.{reads_as, bytes_length, root_back, record_empty}
+use Rattle.write.proofs.Family.{Moved, Stored, same_clusters, out_of_empty, empty_clusters, empty_bytes, family_add, outside_add, moved_again, store_member}
+use Rattle.write.proofs.Zeroed.{Wider, grow_member}
+use Rattle.write.proofs.Scene.{both_clear, if_clear, mapped, root_first, root-chain, root-some, members, member-root, fits, size_per, per_low, root-count, ordered, family}
+use Rattle.write.proofs.Change.{Change, takes, contents_of, contents_is}
 use Rattle.write.proofs.Steps.{Step, refused_step, carried_step}
-use Rattle.write.proofs.Hints.{hint-none, hint-some, grow_same, grow_next, root_last}
-use Rattle.write.proofs.Moves.{moves_none, moves-root, moves-file, change_of}
+use Rattle.write.proofs.Hints.{hint_none, hint_some, grow_same, grow_next, root_last}
+use Rattle.write.proofs.Moves.{moves_none, moves_root, moves_file, change_of}
 use Rattle.write.proofs.Answers.{decided-number, decided-carried, new-decided}
 
 module _ (g : Geometry) (m d : List ℕ) (c : Consistent g m d) (name : List ℕ) (attributes hash : ℕ) (t : Stamps) (hint : ℕ) where
@@ -126,12 +126,12 @@ module _ (g : Geometry) (m d : List ℕ) (c : Consistent g m d) (name : List ℕ
     -- the root grown
     wider : Wider y d S 0 (root g d) more w
     wider =
-        grow-member y m (mapped g m d c.limits_hold) 0 more (record { volume = d; directory = root g d; hint = hint }) (fits g m d c) S
+        grow_member y m (mapped g m d c.limits_hold) 0 more (record { volume = d; directory = root g d; hint = hint }) (fits g m d c) S
         (family g m d c) (member-root g d) (root-some g d) hint_in enough
 
-    bytes-wide : bytes_in y w.volume w.directory ≡ wide
+    bytes_wide : bytes_in y w.volume w.directory ≡ wide
     unfolding new_growth root_bytes
-    bytes-wide = wider.bytes
+    bytes_wide = wider.bytes
 
     placed_at : placed y w n x ≡ carried at w.hint d₂
     unfolding placed
@@ -139,19 +139,19 @@ module _ (g : Geometry) (m d : List ℕ) (c : Consistent g m d) (name : List ℕ
         ap
         (λ (bs : List ℕ). carried (slot_of (free_run bs n)) w.hint
         (store_at y w.volume (clusters_in y w.volume w.directory) (32 * slot_of (free_run bs n)) (take (32 * n) x)))
-        bytes-wide
+        bytes_wide
 
     -- the set
     fit : Fit y.count y.size n x
     fit = record {
       full = new-length name attributes hash t;
-      formed = new-formed name attributes hash t y.count y.size named;
+      formed = new_formed name attributes hash t y.count y.size named;
       count = new-entries name attributes hash t;
       rest = new-zero name attributes hash t;
     }
 
     per : 1 ≤ y.size / 32
-    per = omega (arith, per-low g m d c)
+    per = omega (arith, per_low g m d c)
 
     own : upd S 0 (some w.directory) 0 ≡ some w.directory
     own = upd_same S 0 (some w.directory)
@@ -167,31 +167,31 @@ module _ (g : Geometry) (m d : List ℕ) (c : Consistent g m d) (name : List ℕ
         let h : 32 * entry_count wide ≤ length wide = unfold entry_count in (omega arith) in
         omega (
           arith,
-          length-take-le (32 * n) x (omega (arith, fit.full, (new-few name attributes hash t named).1)),
-          insert-room y.count y.size (y.size / 32) (size-per g m d c) per R n x (ordered g m d c) fit,
-          ap length bytes-wide,
-          bytes-length y w.volume w.directory reads fits₁,
+          length-take-le (32 * n) x (omega (arith, fit.full, (new_few name attributes hash t named).1)),
+          insert_room y.count y.size (y.size / 32) (size_per g m d c) per R n x (ordered g m d c) fit,
+          ap length bytes_wide,
+          bytes_length y w.volume w.directory reads fits₁,
         )
 
     stored : Stored y w.volume d₂ (upd S 0 (some w.directory)) 0 w.directory (32 * at) (take (32 * n) x)
     stored =
-        store-member y w.volume fits₁ (upd S 0 (some w.directory)) wider.moved.family 0 w.directory own (32 * at) (take (32 * n) x) room
+        store_member y w.volume fits₁ (upd S 0 (some w.directory)) wider.moved.family 0 w.directory own (32 * at) (take (32 * n) x) room
 
     moved₂ : Moved y d d₂ S 0 (some w.directory)
     moved₂ = moved_again y d w.volume d₂ S 0 (some w.directory) (some w.directory) wider.moved stored.moved
 
     bytes₂ : bytes_in y d₂ w.directory ≡ splice wide (32 * at) (take (32 * n) x)
-    bytes₂ = stored.bytes ∙ ap (λ (bs : List ℕ). splice bs (32 * at) (take (32 * n) x)) bytes-wide
+    bytes₂ = stored.bytes ∙ ap (λ (bs : List ℕ). splice bs (32 * at) (take (32 * n) x)) bytes_wide
 
     free : sets R at ≡ none
-    free = insert-free y.count y.size (y.size / 32) (size-per g m d c) per R n x (ordered g m d c) fit
+    free = insert_free y.count y.size (y.size / 32) (size_per g m d c) per R n x (ordered g m d c) fit
 
     -- its record is empty
     back : file_record y d₂ x ≡ empty
-    back = record-empty y d₂ x (clusters-none y.size big (data_length x) (new-data name attributes hash t))
+    back = record_empty y d₂ x (clusters_none y.size big (data_length x) (new_data name attributes hash t))
 
-    back-of : (s : List ℕ) → some x ≡ some s → empty ≡ file_record y d₂ s
-    back-of s q = sym back ∙ ap (file_record y d₂) (some-injective x s q)
+    back_of : (s : List ℕ) → some x ≡ some s → empty ≡ file_record y d₂ s
+    back_of s q = sym back ∙ ap (file_record y d₂) (some-injective x s q)
 
     abbrev T : ℕ → Option Allocation
     T = upd S 0 (some w.directory)
@@ -206,15 +206,15 @@ module _ (g : Geometry) (m d : List ℕ) (c : Consistent g m d) (name : List ℕ
       outside = outside_add y d₂ T (suc at) empty refl;
     }
 
-    growth-is : growth y.size R n ≡ more
-    growth-is = unfold new_growth in (unfold root_bytes in refl)
+    growth_is : growth y.size R n ≡ more
+    growth_is = unfold new_growth in (unfold root_bytes in refl)
 
     -- the root's bytes, and its clusters
-    root-now : bytes_in y d₂ w.directory ≡ splice (with_zeros R (more * y.size)) (32 * at) (demand.entries_put (set_of g d at) (some x))
+    root_now : bytes_in y d₂ w.directory ≡ splice (with_zeros R (more * y.size)) (32 * at) (demand.entries_put (set_of g d at) (some x))
     unfolding demand.entries_put entries_of
-    root-now =
+    root_now =
         bytes₂
-        ∙ ap₂ (λ (k l : ℕ). splice (with_zeros R (k * y.size)) (32 * at) (take (32 * l) x)) growth-is (sym (new-entries name attributes hash t))
+        ∙ ap₂ (λ (k l : ℕ). splice (with_zeros R (k * y.size)) (32 * at) (take (32 * l) x)) growth_is (sym (new-entries name attributes hash t))
 
     root_kept : take (length (root_clusters g d)) (clusters_in y d₂ w.directory) ≡ root_clusters g d
     unfolding root_clusters
@@ -222,25 +222,25 @@ module _ (g : Geometry) (m d : List ℕ) (c : Consistent g m d) (name : List ℕ
 
     root_is : root_record y d₂ (root_cluster g) ≡ w.directory
     root_is =
-        ap (root_record y d₂) (sym (wider.led.first ∙ root-first g d))
+        ap (root_record y d₂) (sym (wider.led.first ∙ root_first g d))
         ∙ root_back y d₂ w.directory (clusters_in y w.volume w.directory) (stored.stream ∙ reads_as y w.volume w.directory reads)
         (wider.led.flag (root-chain g d)) (λ z. root-some g d (omega (arith, wider.counts)))
 
     change : Change g m d d₂ more at (some x)
     change =
         change_of g m d d₂ more at (some x) w.directory (upd T (suc at) (some empty))
-        (moves-file y d d₂ d₂ S T at (moves-root y d d d₂ S S at (moves_none y d S at (family g m d c)) (some w.directory) moved₂) (some empty) joined)
+        (moves_file y d d₂ d₂ S T at (moves_root y d d d₂ S S at (moves_none y d S at (family g m d c)) (some w.directory) moved₂) (some empty) joined)
         root_is
         (upd_other T (suc at) (some empty) 0 (λ q. omega arith) ∙ own)
-        (insert-ordered y.count y.size (y.size / 32) (size-per g m d c) per R n x (ordered g m d c) fit (bytes_in y d₂ w.directory) bytes₂)
-        (insert-sets y.count y.size (y.size / 32) (size-per g m d c) per R n x (ordered g m d c) fit (bytes_in y d₂ w.directory) bytes₂)
-        root-now
+        (insert_ordered y.count y.size (y.size / 32) (size_per g m d c) per R n x (ordered g m d c) fit (bytes_in y d₂ w.directory) bytes₂)
+        (insert_sets y.count y.size (y.size / 32) (size_per g m d c) per R n x (ordered g m d c) fit (bytes_in y d₂ w.directory) bytes₂)
+        root_now
         root_kept
-        (λ s q. upd_same T (suc at) (some empty) ∙ ap some (back-of s q))
+        (λ s q. upd_same T (suc at) (some empty) ∙ ap some (back_of s q))
         (λ s q k r.
         absurd
         (out_of_empty (clusters_in y d₂ (file_record y d₂ s))
-        (empty-clusters y d₂ (file_record y d₂ s) (ap (λ (a : Allocation). a.count) (sym (back-of s q)))) r))
+        (empty_clusters y d₂ (file_record y d₂ s) (ap (λ (a : Allocation). a.count) (sym (back_of s q)))) r))
         (omega (
           arith,
           stored.marks,
@@ -248,29 +248,29 @@ module _ (g : Geometry) (m d : List ℕ) (c : Consistent g m d) (name : List ℕ
           wider.counts,
           root-count g m d c,
           ap length (same_clusters y w.volume d₂ w.directory stored.stream),
-          clusters-length y w.volume w.directory reads,
-          takes-before,
-          takes-now,
+          clusters_length y w.volume w.directory reads,
+          takes_before,
+          takes_now,
         ))
       where
-        takes-before : takes y (sets R at) ≡ 0
-        takes-before = ap (takes y) free ∙ (unfold takes in refl)
+        takes_before : takes y (sets R at) ≡ 0
+        takes_before = ap (takes y) free ∙ (unfold takes in refl)
 
-        takes-now : takes y (some x) ≡ 0
-        takes-now = unfold takes in (clusters-none y.size big (data_length x) (new-data name attributes hash t))
+        takes_now : takes y (some x) ≡ 0
+        takes_now = unfold takes in (clusters_none y.size big (data_length x) (new_data name attributes hash t))
 
     -- it shows nothing
     shows : contents_of y d₂ (some x) ≡ some []
     unfolding contents_of
     shows =
-        ap (λ (b : Bool). cond b none (some (shown (bytes_in y d₂ (file_record y d₂ x)) (valid_length x) (data_length x)))) (new-directory name attributes hash t allowed)
+        ap (λ (b : Bool). cond b none (some (shown (bytes_in y d₂ (file_record y d₂ x)) (valid_length x) (data_length x)))) (new_directory name attributes hash t allowed)
         ∙ ap some
-        (ap₂ (λ (v l : ℕ). shown (bytes_in y d₂ (file_record y d₂ x)) v l) (new-valid name attributes hash t) (new-data name attributes hash t)
-        ∙ ap (λ (bs : List ℕ). shown bs 0 0) (empty-bytes y d₂ (file_record y d₂ x) (ap (λ (a : Allocation). a.count) back))
+        (ap₂ (λ (v l : ℕ). shown (bytes_in y d₂ (file_record y d₂ x)) v l) (new_valid name attributes hash t) (new_data name attributes hash t)
+        ∙ ap (λ (bs : List ℕ). shown bs 0 0) (empty_bytes y d₂ (file_record y d₂ x) (ap (λ (a : Allocation). a.count) back))
         ∙ shown-empty)
 
     none_before : contents g d at ≡ none
-    none_before = contents-is g d (ordered g m d c) at ∙ ap (contents_of y d) free ∙ (unfold contents_of in refl)
+    none_before = contents_is g d (ordered g m d c) at ∙ ap (contents_of y d) free ∙ (unfold contents_of in refl)
 
     -- the hint is as given, or after the root's last cluster
     hinted : w.hint ≡ demand.hint_answered g d d₂ (New name attributes hash t hint)
@@ -278,12 +278,12 @@ module _ (g : Geometry) (m d : List ℕ) (c : Consistent g m d) (name : List ℕ
     hinted =
         elim (ℕ_discrete more 0) [
           | yes z ↦ grow_same y m more (record { volume = d; directory = root g d; hint = hint }) z
-              ∙ hint-none g d d₂ (New name attributes hash t hint) z
+              ∙ hint_none g d d₂ (New name attributes hash t hint) z
           | no z ↦ grow_next y m (mapped g m d c.limits_hold) more (record { volume = d; directory = root g d; hint = hint }) (fits g m d c)
               (clusters_in y d (root g d)) (reads_as y d (root g d) ((family g m d c).reads 0 (root g d) (member-root g d))) hint_in enough (omega arith)
               ∙ ap (λ (k : ℕ). wrap y.count (k + 1))
               (sym (root_last g d d₂ w.directory change.long root_is (ap number_of stored.stream ∙ reads) (λ q. root-some g d (omega (arith, wider.counts)))))
-              ∙ hint-some g d d₂ (New name attributes hash t hint) z
+              ∙ hint_some g d d₂ (New name attributes hash t hint) z
         ]
 
     created : step g m d (New name attributes hash t hint) ≡ placed y w n x → Step g m d (New name attributes hash t hint)

@@ -30,7 +30,7 @@ use Rattle.write.specs.Consistent.{Consistent, lay, root, root_clusters, root_by
 use Rattle.write.specs.Contents.{has_file, contents}
 use Rattle.write.specs.Demand.{Lost}
 use Rattle.write.specs.Example.{example_geometry, example_map, word, filled, example_set, example_root, example_fat, example_marks, example_contents, example_volume}
-use Rattle.write.proofs.ExampleTests.{implies, owns, slot_test, pair_test, Passed, passed-lost, passed-consistent}
+use Rattle.write.proofs.ExampleTests.{implies, owns, slot_test, pair_test, Passed, passed_lost, passed_consistent}
 
 -- whose the clusters 0 to 10 are: slots 3, 6 and 12 have files, 16 stands for the root, 17 for none
 unfoldable owners : List ℕ
@@ -83,7 +83,7 @@ passed =
 
 -- the example is consistent
 pub example_consistent : Consistent example_geometry example_map example_volume
-example_consistent = passed-consistent example_geometry example_map example_volume owners 16 passed
+example_consistent = passed_consistent example_geometry example_map example_volume owners 16 passed
 
 -- cluster 10 is marked and of no stream
 ten_heap : in_heap (lay example_geometry example_volume).count 10 ≡ true
@@ -99,7 +99,7 @@ unfolding owners
 ten_owner = refl
 
 pub example_lost : Lost example_geometry example_volume 10
-example_lost = passed-lost example_geometry example_map example_volume owners 16 passed 10 ten_heap ten_marked (omega (arith, ten_owner))
+example_lost = passed_lost example_geometry example_map example_volume owners 16 passed 10 ten_heap ten_marked (omega (arith, ten_owner))
 
 -- and its files are there: the chain's with zeros from valid on, the run's, the empty one; at slot 12 stands the directory
 pub example_contents_lem : map (contents example_geometry example_volume) (3 ∷ 6 ∷ 9 ∷ 12 ∷ [])

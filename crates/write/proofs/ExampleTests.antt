@@ -12,7 +12,7 @@ use borrow.Author.Tests.{eqb-true, leb-true, not-true, lt-ltb, eq-eqb}
 use Rattle.primitives.specs.Bits.{bit_of}
 use Rattle.tables.specs.Lists.{Mem, every}
 use Rattle.tables.proofs.Cases.{not_so, and_left, and_right, and_both}
-use Rattle.tables.proofs.ListLaws.{every-mem}
+use Rattle.tables.proofs.ListLaws.{every_mem}
 use Rattle.boot.specs.declared.geometry.Geometry.{Geometry}
 use Rattle.boot.specs.Limits.{limits}
 use Rattle.boot.specs.Layout.{in_heap}
@@ -96,66 +96,66 @@ module _ (g : Geometry) (m d owners : List ℕ) (n : ℕ) (p : Passed g m d (roo
   unfolding file_at
   below i f = file_below (root_bytes g d) n i p.whole f
 
-  abbrev soundAt : ℕ → Bool
-  soundAt i = is_sound (lay g d).count (lay g d).size (root_bytes g d) i
+  abbrev sound_at : ℕ → Bool
+  sound_at i = is_sound (lay g d).count (lay g d).size (root_bytes g d) i
 
-  abbrev readAt : ℕ → Bool
-  readAt i = eqb (stream_cause (lay g d) d m (stream_at g d i)) 0
+  abbrev read_at : ℕ → Bool
+  read_at i = eqb (stream_cause (lay g d) d m (stream_at g d i)) 0
 
   abbrev own_at : ℕ → Bool
   own_at i = every (owns owners i) (file_clusters g d i)
 
-  slot : (i : ℕ) → file_at g d i ≡ true → (soundAt i && (readAt i && own_at i)) ≡ true
+  slot : (i : ℕ) → file_at g d i ≡ true → (sound_at i && (read_at i && own_at i)) ≡ true
   unfolding slot_test file_at set_of stream_at file_clusters
   slot i f =
-      implied (is_file (root_bytes g d) i) (soundAt i && (readAt i && own_at i))
+      implied (is_file (root_bytes g d) i) (sound_at i && (read_at i && own_at i))
       (all_whole (slot_test g m d (root_bytes g d) owners) 0 n p.slots i (omega arith) (omega (arith, below i f))) f
 
-  reads : (i : ℕ) → file_at g d i ≡ true → (readAt i && own_at i) ≡ true
-  reads i f = and_right (soundAt i) (readAt i && own_at i) (slot i f)
+  reads : (i : ℕ) → file_at g d i ≡ true → (read_at i && own_at i) ≡ true
+  reads i f = and_right (sound_at i) (read_at i && own_at i) (slot i f)
 
   owner : (i : ℕ) → file_at g d i ≡ true → (k : ℕ) → Mem k (file_clusters g d i) → get_or owners k 0 ≡ i
   unfolding owns
   owner i f k h =
-      eqb-true (get_or owners k 0) i (every-mem (owns owners i) (file_clusters g d i) (and_right (readAt i) (own_at i) (reads i f)) k h)
+      eqb-true (get_or owners k 0) i (every_mem (owns owners i) (file_clusters g d i) (and_right (read_at i) (own_at i) (reads i f)) k h)
 
-  root-owner : (k : ℕ) → Mem k (root_clusters g d) → get_or owners k 0 ≡ n
+  root_owner : (k : ℕ) → Mem k (root_clusters g d) → get_or owners k 0 ≡ n
   unfolding owns
-  root-owner k h = eqb-true (get_or owners k 0) n (every-mem (owns owners n) (root_clusters g d) p.root_owned k h)
+  root_owner k h = eqb-true (get_or owners k 0) n (every_mem (owns owners n) (root_clusters g d) p.root_owned k h)
 
   -- a marked cluster that belongs to none of them
-  pub passed-lost : (k : ℕ) → in_heap (lay g d).count k ≡ true → marked (lay g d) d k ≡ true → n < get_or owners k 0 → Lost g d k
-  passed-lost k h e o = record {
+  pub passed_lost : (k : ℕ) → in_heap (lay g d).count k ≡ true → marked (lay g d) d k ≡ true → n < get_or owners k 0 → Lost g d k
+  passed_lost k h e o = record {
     heap = h;
     mark = e;
-    off_root = λ q. omega (arith, root-owner k q);
+    off_root = λ q. omega (arith, root_owner k q);
     off_files = λ i f q. omega (arith, below i f, owner i f k q);
   }
 
   abbrev end_at : ℕ → ℕ → Bool
   end_at i j = implies (eqb (type_at (root_bytes g d) i) 0) (not (in_use (root_bytes g d) j))
 
-  abbrev bothFiles : ℕ → ℕ → Bool
-  bothFiles i j = is_file (root_bytes g d) i && is_file (root_bytes g d) j
+  abbrev both_files : ℕ → ℕ → Bool
+  both_files i j = is_file (root_bytes g d) i && is_file (root_bytes g d) j
 
-  abbrev apartAt : ℕ → ℕ → Bool
-  apartAt i j = implies (bothFiles i j) (leb (i + entries_at (root_bytes g d) i) j)
+  abbrev apart_at : ℕ → ℕ → Bool
+  apart_at i j = implies (both_files i j) (leb (i + entries_at (root_bytes g d) i) j)
 
-  pair : (i j : ℕ) → i < j → j < n → (end_at i j && apartAt i j) ≡ true
+  pair : (i j : ℕ) → i < j → j < n → (end_at i j && apart_at i j) ≡ true
   unfolding pair_test
   pair i j l h =
       let row = all_whole (λ i. all_from (pair_test (root_bytes g d) i) 0 n) 0 n p.pairs i (omega arith) (omega arith) in
-      implied (ltb i j) (end_at i j && apartAt i j)
+      implied (ltb i j) (end_at i j && apart_at i j)
       (all_whole (pair_test (root_bytes g d) i) 0 n row j (omega arith) (omega arith)) (lt-ltb i j l)
 
-  pub passed-consistent : Consistent g m d
-  passed-consistent = record {
+  pub passed_consistent : Consistent g m d
+  passed_consistent = record {
     limits_hold = p.limits_hold;
     root_reads = p.root_reads;
-    sound = λ i f. and_left (soundAt i) (readAt i && own_at i) (slot i f);
-    streams_read = λ i f. eqb-true (stream_cause (lay g d) d m (stream_at g d i)) 0 (and_left (readAt i) (own_at i) (reads i f));
+    sound = λ i f. and_left (sound_at i) (read_at i && own_at i) (slot i f);
+    streams_read = λ i f. eqb-true (stream_cause (lay g d) d m (stream_at g d i)) 0 (and_left (read_at i) (own_at i) (reads i f));
     streams_apart = λ i j f h o k a b. o (sym (owner i f k a) ∙ owner j h k b);
-    root_apart = λ i f k a b. omega (arith, below i f, owner i f k a, root-owner k b);
+    root_apart = λ i f k a b. omega (arith, below i f, owner i f k a, root_owner k b);
     ended = ended;
     sets_apart = apart;
   }
@@ -167,12 +167,12 @@ module _ (g : Geometry) (m d owners : List ℕ) (n : ℕ) (p : Passed g m d (roo
           off u =
               not-true (in_use (root_bytes g d) j)
               (implied (eqb (type_at (root_bytes g d) i) 0) (not (in_use (root_bytes g d) j))
-              (and_left (end_at i j) (apartAt i j) (pair i j l (use_below (root_bytes g d) n j p.whole u)))
+              (and_left (end_at i j) (apart_at i j) (pair i j l (use_below (root_bytes g d) n j p.whole u)))
               (eq-eqb (type_at (root_bytes g d) i) 0 t))
 
       apart : (i j : ℕ) → file_at g d i ≡ true → file_at g d j ≡ true → i < j → i + entries_at (root_bytes g d) i ≤ j
       apart i j f h l =
           leb-true (i + entries_at (root_bytes g d) i) j
-          (implied (bothFiles i j) (leb (i + entries_at (root_bytes g d) i) j)
-          (and_right (end_at i j) (apartAt i j) (pair i j l (below j h)))
+          (implied (both_files i j) (leb (i + entries_at (root_bytes g d) i) j)
+          (and_right (end_at i j) (apart_at i j) (pair i j l (below j h)))
           (and_both (is_file (root_bytes g d) i) (is_file (root_bytes g d) j) (unfold file_at in f) (unfold file_at in h)))

@@ -15,7 +15,7 @@ use Rattle.tables.specs.Lists.{Mem, every}
 use Rattle.tables.specs.Count.{count}
 use Rattle.tables.proofs.Cases.{clash, and_both}
 use Rattle.tables.proofs.TableLaws.{upd_same, upd_other}
-use Rattle.tables.proofs.ListLaws.{every-mem}
+use Rattle.tables.proofs.ListLaws.{every_mem}
 use Rattle.tables.proofs.CountLaws.{count_cong}
 use Rattle.boot.specs.declared.layout.Layout.{Layout}
 use Rattle.boot.specs.Layout.{in_heap, is_bitmap_cluster}
@@ -30,9 +30,9 @@ use Rattle.stream.specs.Chain.{listed}
 use Rattle.stream.specs.Stream.{number_of, stream_of, clusters_of, clusters_in}
 use Rattle.stream.specs.Bytes.{bytes_of, store_at, bytes_in}
 use Rattle.stream.proofs.Distinct.{stream_frame}
-use Rattle.stream.proofs.BytesLaws.{length-store, fat-store, mark-store, bytes-store-apart, bytes_store}
-use Rattle.directory.proofs.DirectoryLaws.{clusters-heap}
-use Rattle.write.proofs.Reading.{clusters-of, number-of, reads_as, empty-reads, clusters-distinct}
+use Rattle.stream.proofs.BytesLaws.{length_store, fat_store, mark_store, bytes_store_apart, bytes_store}
+use Rattle.directory.proofs.DirectoryLaws.{clusters_heap}
+use Rattle.write.proofs.Reading.{clusters_of_lem, number_of_lem, reads_as, empty-reads, clusters_distinct}
 
 -- records that read, with no bitmap cluster, and no two of them with a cluster in common
 pub record Family (y : Layout) (d : List ℕ) (S : ℕ → Option Allocation) : Type 0 where
@@ -83,8 +83,8 @@ module _ (S : ℕ → Option Allocation) (i : ℕ) where
   old-member : (o : Option Allocation) (j : ℕ) (b : Allocation) → j ≢ i → upd S i o j ≡ some b → S j ≡ some b
   old-member o j b n e = sym (upd_other S i o j n) ∙ e
 
-  pub kept-member : (o : Option Allocation) (j : ℕ) (b : Allocation) → j ≢ i → S j ≡ some b → upd S i o j ≡ some b
-  kept-member o j b n e = upd_other S i o j n ∙ e
+  pub kept_member : (o : Option Allocation) (j : ℕ) (b : Allocation) → j ≢ i → S j ≡ some b → upd S i o j ≡ some b
+  kept_member o j b n e = upd_other S i o j n ∙ e
 
   new-member : (a : Allocation) (j : ℕ) (b : Allocation) → upd S i (some a) j ≡ some b → ((j ≡ i) × (a ≡ b)) ⊎ ((j ≢ i) × (S j ≡ some b))
   new-member a j b e =
@@ -138,19 +138,19 @@ out_of_empty (x ∷ xs) e m = clash (cc)
 
 -- an empty record has no clusters and no bytes
 module _ (y : Layout) (d : List ℕ) (a : Allocation) (z : a.count ≡ 0) where
-  pub empty-clusters : clusters_in y d a ≡ []
-  empty-clusters = clusters-of y d a [] (empty-reads y d a z)
+  pub empty_clusters : clusters_in y d a ≡ []
+  empty_clusters = clusters_of_lem y d a [] (empty-reads y d a z)
 
-  pub empty-bytes : bytes_in y d a ≡ []
+  pub empty_bytes : bytes_in y d a ≡ []
   unfolding bytes_in
-  empty-bytes = ap (bytes_of y d) empty-clusters ∙ (unfold bytes_of in refl)
+  empty_bytes = ap (bytes_of y d) empty_clusters ∙ (unfold bytes_of in refl)
 
 -- and may always join
 pub family_add : (y : Layout) (d : List ℕ) (S : ℕ → Option Allocation) (i : ℕ) (a : Allocation) → a.count ≡ 0 → Family y d S → Family y d (upd S i (some a))
 family_add y d S i a z f =
-    let e = empty-clusters y d a z in
+    let e = empty_clusters y d a z in
     family_put y d S i a (λ j b n. f.reads j b) (λ j b n. f.plains j b) (λ j l b c _ _ n. f.apart j l b c n)
-    (number-of y d a [] (empty-reads y d a z)) (ap (every (plain y)) e ∙ (unfold every in refl))
+    (number_of_lem y d a [] (empty-reads y d a z)) (ap (every (plain y)) e ∙ (unfold every in refl))
     (λ j b n s k m. absurd (out_of_empty (clusters_in y d a) e m))
 
 -- what it leaves outside
@@ -160,7 +160,7 @@ outside_add y d S i a z k l = record {
   heap = l.heap;
   mark = l.mark;
   off = λ j b e.
-      ⊎_elim (λ q p. out_of_empty (clusters_in y d b) (empty-clusters y d b (ap (λ (x : Allocation). x.count) (sym q.1) ∙ z)) p) (λ q. l.off j b q.1)
+      ⊎_elim (λ q p. out_of_empty (clusters_in y d b) (empty_clusters y d b (ap (λ (x : Allocation). x.count) (sym q.1) ∙ z)) p) (λ q. l.off j b q.1)
       (new-member S i a j b e);
 }
 
@@ -230,7 +230,7 @@ moved_drop y d d' S i o v = record {
 }
   where
     back : (j : ℕ) (b : Allocation) → upd S i none j ≡ some b → upd S i o j ≡ some b
-    back j b e = let r = none-member S i j b e in kept-member S i o j b r.0 r.1
+    back j b e = let r = none-member S i j b e in kept_member S i o j b r.0 r.1
 
 -- the same member changed twice
 pub moved_again : (y : Layout) (d e d' : List ℕ) (S : ℕ → Option Allocation) (i : ℕ) (o o' : Option Allocation)
@@ -238,8 +238,8 @@ pub moved_again : (y : Layout) (d e d' : List ℕ) (S : ℕ → Option Allocatio
 moved_again y d e d' S i o o' v u = record {
   long = u.long ∙ v.long;
   family = family_cong y d' (upd (upd S i o) i o') (upd S i o') same u.family;
-  streams = λ j b n s. u.streams j b n (kept-member S i o j b n s) ∙ v.streams j b n s;
-  bytes = λ j b n s. u.bytes j b n (kept-member S i o j b n s) ∙ v.bytes j b n s;
+  streams = λ j b n s. u.streams j b n (kept_member S i o j b n s) ∙ v.streams j b n s;
+  bytes = λ j b n s. u.bytes j b n (kept_member S i o j b n s) ∙ v.bytes j b n s;
   outside = λ k l.
       outside_less y d' (upd (upd S i o) i o') (upd S i o') k (λ j b q. sym (same j) ∙ q) (u.outside k (v.outside k l));
 }
@@ -269,47 +269,47 @@ module _ (y : Layout) (d : List ℕ) (w : Fits y d) (S : ℕ → Option Allocati
   d₁ = store_at y d ks at bs
 
   heap : every (in_heap y.count) ks ≡ true
-  heap = clusters-heap y d a (f.reads i a s)
+  heap = clusters_heap y d a (f.reads i a s)
 
-  fat-same : (k : ℕ) → in_heap y.count k ≡ true → fat_entry y d₁ k ≡ fat_entry y d k
-  fat-same k h = fat-store y d w ks heap at bs k (in_heap_lem y.count k h).1
+  fat_same : (k : ℕ) → in_heap y.count k ≡ true → fat_entry y d₁ k ≡ fat_entry y d k
+  fat_same k h = fat_store y d w ks heap at bs k (in_heap_lem y.count k h).1
 
-  mark-same : (k : ℕ) → in_heap y.count k ≡ true → marked y d₁ k ≡ marked y d k
-  mark-same k h = mark-store y d w ks heap at bs (f.plains i a s) k h
+  mark_same : (k : ℕ) → in_heap y.count k ≡ true → marked y d₁ k ≡ marked y d k
+  mark_same k h = mark_store y d w ks heap at bs (f.plains i a s) k h
 
   -- every record that reads, reads as before
-  stream-same : (b : Allocation) → number_of (stream_of y d b) ≡ 0 → stream_of y d₁ b ≡ stream_of y d b
-  stream-same b e = again ∙ sym (reads_as y d b e)
+  stream_same : (b : Allocation) → number_of (stream_of y d b) ≡ 0 → stream_of y d₁ b ≡ stream_of y d b
+  stream_same b e = again ∙ sym (reads_as y d b e)
     where
       inside : (k : ℕ) → Mem k (clusters_in y d b) → in_heap y.count k ≡ true
-      inside k m = every-mem (in_heap y.count) (clusters_in y d b) (clusters-heap y d b e) k m
+      inside k m = every_mem (in_heap y.count) (clusters_in y d b) (clusters_heap y d b e) k m
 
       again : stream_of y d₁ b ≡ listed (clusters_in y d b)
       again =
           unfold stream_of in
           (stream_frame y.count (fat_entry y d) (fat_entry y d₁) (marked y d) (marked y d₁) b (clusters_in y d b) (small y d w)
-          (λ k m. fat-same k (inside k m)) (λ k m. mark-same k (inside k m)) (unfold stream_of in (reads_as y d b e)))
+          (λ k m. fat_same k (inside k m)) (λ k m. mark_same k (inside k m)) (unfold stream_of in (reads_as y d b e)))
 
-  pub store-member : Stored y d (store_at y d (clusters_in y d a) at bs) S i a at bs
-  store-member = record {
-    moved = moved y d d₁ S i f (length-store y d w ks heap at bs)
-        (λ j b n t. stream-same b (f.reads j b t))
-        (λ j b n t. bytes-store-apart y d w ks heap at bs (clusters_in y d b) (clusters-heap y d b (f.reads j b t)) (λ k p q. f.apart j i b a n t s k p q))
-        (λ k l. mark-same k l.heap)
+  pub store_member : Stored y d (store_at y d (clusters_in y d a) at bs) S i a at bs
+  store_member = record {
+    moved = moved y d d₁ S i f (length_store y d w ks heap at bs)
+        (λ j b n t. stream_same b (f.reads j b t))
+        (λ j b n t. bytes_store_apart y d w ks heap at bs (clusters_in y d b) (clusters_heap y d b (f.reads j b t)) (λ k p q. f.apart j i b a n t s k p q))
+        (λ k l. mark_same k l.heap)
         a
-        (ap number_of (stream-same a own) ∙ own)
+        (ap number_of (stream_same a own) ∙ own)
         (ap (every (plain y)) clusters ∙ f.plains i a s)
         (λ j b n t k p q. f.apart j i b a n t s k q (subst (Mem k) clusters p))
         (λ k l p. l.off i a s (subst (Mem k) clusters p));
-    stream = stream-same a own;
+    stream = stream_same a own;
     bytes =
         unfold bytes_in in
-        (ap (bytes_of y d₁) clusters ∙ bytes_store y d w ks (clusters-distinct y d a own w) heap at bs room);
-    marks = unfold marked_count in (count_cong (marked y d) (marked y d₁) 2 y.count (λ k l b. mark-same k (heap_in y.count k l (omega arith))));
+        (ap (bytes_of y d₁) clusters ∙ bytes_store y d w ks (clusters_distinct y d a own w) heap at bs room);
+    marks = unfold marked_count in (count_cong (marked y d) (marked y d₁) 2 y.count (λ k l b. mark_same k (heap_in y.count k l (omega arith))));
   }
     where
       own : number_of (stream_of y d a) ≡ 0
       own = f.reads i a s
 
       clusters : clusters_in y d₁ a ≡ ks
-      clusters = same_clusters y d d₁ a (stream-same a own)
+      clusters = same_clusters y d d₁ a (stream_same a own)

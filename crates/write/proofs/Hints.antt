@@ -29,34 +29,34 @@ use Rattle.choice.specs.Choice.{choose}
 use Rattle.write_alloc.specs.Outcome.{Outcome}
 use Rattle.boot.specs.Causes.{wrap}
 use Rattle.write_alloc.specs.Allocate.{new_run, new_chain, new_stream}
-use Rattle.choice.proofs.ChoiceLaws.{few-count}
-use Rattle.write_alloc.proofs.AllocateLaws.{stream-run, stream-chain}
+use Rattle.choice.proofs.ChoiceLaws.{few_count}
+use Rattle.write_alloc.proofs.AllocateLaws.{stream_run, stream_chain}
 use Rattle.write_extend.specs.Extend.{in_place, longer_run, longer_chain, longer, extend_in}
-use Rattle.write_extend.proofs.ExtendLaws.{longer-in, longer-out}
-use Rattle.write_extend.proofs.EnoughLaws.{grow-new, grow-longer}
+use Rattle.write_extend.proofs.ExtendLaws.{longer_in, longer_out}
+use Rattle.write_extend.proofs.EnoughLaws.{grow_new, grow_longer}
 use Rattle.directory.specs.Directory.{root_record}
 use Rattle.directory.specs.Internal.{sets}
 use Rattle.directory.specs.Open.{file_record}
 use Rattle.write_dir.specs.Place.{GrownDirectory, grow_one, grow_by}
-use Rattle.write_dir.proofs.AddedLaws.{grow-one}
+use Rattle.write_dir.proofs.AddedLaws.{grow_one_lem}
 use Rattle.write.specs.Calls.{Call}
 use Rattle.write.specs.Consistent.{Consistent, lay, root, root_clusters, root_bytes, stream_at, file_clusters}
 use Rattle.write.specs.Space.{must_add}
 use Rattle.write.specs.Demand.{hint_of, clusters_grown, hint_answered}
 use Rattle.write.proofs.Reading.{reads_as, last_is}
-use Rattle.write.proofs.Scene.{lay_same, slot-stream}
-use Rattle.write.proofs.Change.{Change, change-consistent, change-sets}
+use Rattle.write.proofs.Scene.{lay_same, slot_stream}
+use Rattle.write.proofs.Change.{Change, change_consistent, change_sets}
 
 -- ---- where a call adds nothing, and where it adds
 
 module _ (g : Geometry) (d d' : List ℕ) (c : Call) where
-  pub hint-none : must_add g d c ≡ 0 → hint_of c ≡ hint_answered g d d' c
+  pub hint_none : must_add g d c ≡ 0 → hint_of c ≡ hint_answered g d d' c
   unfolding hint_answered
-  hint-none z = rw (eq-eqb (must_add g d c) 0 z) refl
+  hint_none z = rw (eq-eqb (must_add g d c) 0 z) refl
 
-  pub hint-some : must_add g d c ≢ 0 → wrap (lay g d).count (last_or 0 (clusters_grown g d' c) + 1) ≡ hint_answered g d d' c
+  pub hint_some : must_add g d c ≢ 0 → wrap (lay g d).count (last_or 0 (clusters_grown g d' c) + 1) ≡ hint_answered g d d' c
   unfolding hint_answered
-  hint-some n = rw (ne_eqb (must_add g d c) 0 n) refl
+  hint_some n = rw (ne_eqb (must_add g d c) 0 n) refl
 
 -- ---- clusters added to a record that reads
 
@@ -66,27 +66,27 @@ module _ (y : Layout) (d m : List ℕ) (w : Fits y d) (a : Allocation) (n hint :
   abbrev Next : Outcome → Type 0
   Next o = o.answer.hint ≡ wrap y.count (o.answer.allocation.last + 1)
 
-  new-next : Next (new_stream y d m n hint hint)
-  new-next = by (choose (is_usable y d m) y.count n hint) refl
+  new_next : Next (new_stream y d m n hint hint)
+  new_next = by (choose (is_usable y d m) y.count n hint) refl
     where
       by : (c : Choice) → choose (is_usable y d m) y.count n hint ≡ c → Next (new_stream y d m n hint hint)
-      by (Run k) q = subst Next (sym (stream-run y d m n hint hint k q)) (unfold new_run in (ap (wrap y.count) (omega arith)))
+      by (Run k) q = subst Next (sym (stream_run y d m n hint hint k q)) (unfold new_run in (ap (wrap y.count) (omega arith)))
       by Scattered q =
-          subst Next (sym (stream-chain y d m n hint hint (in_heap_lem y.count hint hint_in).0 q)) (unfold new_chain in refl)
-      by TooFew q = let f = few-count (is_usable y d m) y.count n hint q in absurd (omega arith)
+          subst Next (sym (stream_chain y d m n hint hint (in_heap_lem y.count hint hint_in).0 q)) (unfold new_chain in refl)
+      by TooFew q = let f = few_count (is_usable y d m) y.count n hint q in absurd (omega arith)
 
-  longer-next : Next (longer y d m a n)
-  longer-next = by (in_place y d m a n) refl
+  longer_next : Next (longer y d m a n)
+  longer_next = by (in_place y d m a n) refl
     where
       by : (b : Bool) → in_place y d m a n ≡ b → Next (longer y d m a n)
-      by true q = subst Next (sym (longer-in y d m a n q)) (unfold longer_run in refl)
-      by false q = subst Next (sym (longer-out y d m a n q)) (unfold longer_chain in refl)
+      by true q = subst Next (sym (longer_in y d m a n q)) (unfold longer_run in refl)
+      by false q = subst Next (sym (longer_out y d m a n q)) (unfold longer_chain in refl)
 
-  pub extend-next : (extend_in y d m a n hint).answer.hint ≡ wrap y.count ((extend_in y d m a n hint).answer.allocation.last + 1)
-  extend-next =
+  pub extend_next : (extend_in y d m a n hint).answer.hint ≡ wrap y.count ((extend_in y d m a n hint).answer.allocation.last + 1)
+  extend_next =
       elim (ℕ_discrete a.count 0) [
-        | yes c ↦ subst Next (sym (grow-new y d m w a n hint reads hint_in c one enough)) new-next
-        | no c ↦ subst Next (sym (grow-longer y d m w a n hint reads hint_in (omega arith) one enough)) longer-next
+        | yes c ↦ subst Next (sym (grow_new y d m w a n hint reads hint_in c one enough)) new_next
+        | no c ↦ subst Next (sym (grow_longer y d m w a n hint reads hint_in (omega arith) one enough)) longer_next
       ]
 
 -- a directory grown by none, and by at least one cluster
@@ -102,10 +102,10 @@ unfolding grow_by
 grow_next y m mapped zero v w ks e i h one = absurd (omega arith)
 grow_next y m mapped (suc zero) v w ks e i h one =
     unfold grow_one in
-    (extend-next y v.volume m w v.directory 1 v.hint (ap number_of e ∙ (unfold number_of in refl)) i (omega arith) (omega arith))
+    (extend_next y v.volume m w v.directory 1 v.hint (ap number_of e ∙ (unfold number_of in refl)) i (omega arith) (omega arith))
 grow_next y m mapped (suc (suc n)) v w ks e i h one =
     let k = (extend_in y v.volume m v.directory 1 v.hint).answer.allocation.last in
-    let a = grow-one y m v w mapped ks e i (omega arith) in
+    let a = grow_one_lem y m v w mapped ks e i (omega arith) in
     grow_next y m mapped (suc n) (grow_one y m v) (fits_kept y v.volume (grow_one y m v).volume a.long w) (ks ++ k ∷ []) a.reads a.hint_in
     (omega (arith, a.usable)) (omega arith)
 
@@ -135,9 +135,9 @@ file_last g m d d' more i s c h full =
     same = lay_same g d d' h.long
 
     now : sets (root_bytes g d') i ≡ some s
-    now = change-sets g m d d' more i (some s) c h i ∙ upd_same (sets (root_bytes g d)) i (some s)
+    now = change_sets g m d d' more i (some s) c h i ∙ upd_same (sets (root_bytes g d)) i (some s)
 
     stream : stream_at g d' i ≡ file_record (lay g d) d' s
     stream =
-        slot-stream g m d' (change-consistent g m d d' more i (some s) c h) i s now
+        slot_stream g m d' (change_consistent g m d d' more i (some s) c h) i s now
         ∙ ap (λ (y : Layout). file_record y d' s) same

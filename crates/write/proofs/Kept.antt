@@ -14,28 +14,28 @@ use Rattle.metadata.specs.Marks.{marked}
 use Rattle.kept.specs.Outer.{Outer}
 use Rattle.kept.specs.Copies.{Twins, fat0_at, fat1_at, bitmap0_at, bitmap1_at}
 use Rattle.kept.specs.Kept.{RestKept, Intact}
-use Rattle.metadata.proofs.Stores.{usable-not-free, free-marked}
-use Rattle.kept.proofs.OuterKeeps.{outer-keeps, before_fats, length_keeps}
+use Rattle.metadata.proofs.Stores.{usable-not_free, free_marked}
+use Rattle.kept.proofs.OuterKeeps.{outer_keeps, before_fats, length_keeps}
 use Rattle.kept.proofs.BitmapKeeps.{BitsKept, bits_keeps, rest_keeps}
 use Rattle.kept.proofs.TwinKeeps.{FatTwins, BitmapTwins, fat_keeps, bitmap_keeps}
 use Rattle.kept.proofs.IntactKeeps.{OthersIntact, intact_keeps}
 use Rattle.write.specs.Calls.{Call, step, run}
 use Rattle.write.specs.Consistent.{lay}
 use Rattle.write.specs.Demand.{call_slot, Foreign, Lost}
-use Rattle.write.proofs.Scene.{lay_same, fits-of}
+use Rattle.write.proofs.Scene.{lay_same, fits_of}
 use Rattle.write.proofs.Answers.{broken-number, refused_volume}
 use Rattle.write.proofs.Reached.{Reach, step_keeps}
 
 -- ---- bytes of no cluster
 
 pub outer_kept : (g : Geometry) (m d : List ℕ) (c : Call) (p : ℕ) → Outer (lay g d) p → get_or (step g m d c).volume p 0 ≡ get_or d p 0
-outer_kept g m d c = step_keeps g m d c (λ e f. (p : ℕ) → Outer (lay g d) p → get_or f p 0 ≡ get_or e p 0) (outer-keeps (lay g d) _)
+outer_kept g m d c = step_keeps g m d c (λ e f. (p : ℕ) → Outer (lay g d) p → get_or f p 0 ≡ get_or e p 0) (outer_keeps (lay g d) _)
 
 pub boot_kept : (g : Geometry) (m d : List ℕ) (c : Call) (p : ℕ) → p < fat_offset g * sector_size g → get_or (step g m d c).volume p 0 ≡ get_or d p 0
 boot_kept g m d c p h = by (limits g (length d) m) refl
   where
     by : (b : Bool) → limits g (length d) m ≡ b → get_or (step g m d c).volume p 0 ≡ get_or d p 0
-    by true l = outer_kept g m d c p (unfold lay in (before_fats g (length d) (unfold lay in (fits-of g m d l).apart) p h))
+    by true l = outer_kept g m d c p (unfold lay in (before_fats g (length d) (unfold lay in (fits_of g m d l).apart) p h))
     by false l = ap (λ (v : List ℕ). get_or v p 0) (refused_volume g m d c (λ z. omega (arith, broken-number g m d l c)))
 
 -- ---- bitmaps and FATs
@@ -67,7 +67,7 @@ foreign_kept g m d c k f =
 pub lost_foreign : (g : Geometry) (m d : List ℕ) (i k : ℕ) → Lost g d k → Foreign g m d i k
 lost_foreign g m d i k l = record {
   heap = l.heap;
-  not_usable = usable-not-free (lay g d) d m k (free-marked (lay g d) d m k l.mark);
+  not_usable = usable-not_free (lay g d) d m k (free_marked (lay g d) d m k l.mark);
   not_root = l.off_root;
   not_file = l.off_files i;
 }

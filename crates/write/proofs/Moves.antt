@@ -54,8 +54,8 @@ moves_none y d S i f = record {
 
 module _ (y : Layout) (d d₁ d₂ : List ℕ) (S S₁ : ℕ → Option Allocation) (i : ℕ) (w : Moves y d d₁ S S₁ i) where
   -- one more, of any key but those of other slots
-  then-moved : (k : ℕ) (o : Option Allocation) → ((j : ℕ) → j ≢ i → suc j ≢ k) → Moved y d₁ d₂ S₁ k o → Moves y d d₂ S (upd S₁ k o) i
-  then-moved k o h v = record {
+  then_moved : (k : ℕ) (o : Option Allocation) → ((j : ℕ) → j ≢ i → suc j ≢ k) → Moved y d₁ d₂ S₁ k o → Moves y d d₂ S (upd S₁ k o) i
+  then_moved k o h v = record {
     long = v.long ∙ w.long;
     family = v.family;
     others = λ j n. upd_other S₁ k o (suc j) (h j n) ∙ w.others j n;
@@ -65,12 +65,12 @@ module _ (y : Layout) (d d₁ d₂ : List ℕ) (S S₁ : ℕ → Option Allocati
   }
 
   -- of the root
-  pub moves-root : (o : Option Allocation) → Moved y d₁ d₂ S₁ 0 o → Moves y d d₂ S (upd S₁ 0 o) i
-  moves-root o = then-moved 0 o (λ j n e. omega arith)
+  pub moves_root : (o : Option Allocation) → Moved y d₁ d₂ S₁ 0 o → Moves y d d₂ S (upd S₁ 0 o) i
+  moves_root o = then_moved 0 o (λ j n e. omega arith)
 
   -- of the slot's stream
-  pub moves-file : (o : Option Allocation) → Moved y d₁ d₂ S₁ (suc i) o → Moves y d d₂ S (upd S₁ (suc i) o) i
-  moves-file o = then-moved (suc i) o (λ j n e. n (omega arith))
+  pub moves_file : (o : Option Allocation) → Moved y d₁ d₂ S₁ (suc i) o → Moves y d d₂ S (upd S₁ (suc i) o) i
+  moves_file o = then_moved (suc i) o (λ j n e. n (omega arith))
 
 -- a root that did not grow
 pub no_zeros : (bs : List ℕ) (size : ℕ) → with_zeros bs (0 * size) ≡ bs

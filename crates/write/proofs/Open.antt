@@ -12,7 +12,7 @@ use Rattle.boot.proofs.CauseLaws.{cause_none}
 use Rattle.entry_set.specs.Fields.{is_directory}
 use Rattle.directory.specs.Entries.{is_sound}
 use Rattle.directory.specs.Internal.{sets}
-use Rattle.directory.proofs.EntryLaws.{sound-file}
+use Rattle.directory.proofs.EntryLaws.{sound_file}
 use Rattle.directory.proofs.StoreLaws.{sets-file}
 use Rattle.directory.specs.Open.{entry_cause, directory_attribute_cause, set_in, file_cause}
 use Rattle.file.specs.Refresh.{open_cause}
@@ -30,25 +30,25 @@ module _ (g : Geometry) (m d : List ℕ) (i hint : ℕ) (e : open_cause (lay g d
   clear = let r = cause_none _ _ e in (r.0, (both_clear _ _ r.1).1)
 
   -- the hint is in the heap
-  pub open-hint : in_heap (lay g d).count hint ≡ true
+  pub open_hint : in_heap (lay g d).count hint ≡ true
   unfolding heap_cause
-  open-hint = if_clear _ 2 (λ z. omega arith) clear.0
+  open_hint = if_clear _ 2 (λ z. omega arith) clear.0
 
-  file-clear : (is_sound (lay g d).count (lay g d).size (root_bytes g d) i ≡ true) × (is_directory (set_of g d i) ≡ false)
+  file_clear : (is_sound (lay g d).count (lay g d).size (root_bytes g d) i ≡ true) × (is_directory (set_of g d i) ≡ false)
   unfolding file_cause entry_cause directory_attribute_cause set_in root_bytes set_of
-  file-clear =
+  file_clear =
       let a = cause_none _ _ clear.1 in
       (if_clear _ 10 (λ z. omega arith) a.0, unless_clear _ 11 (λ z. omega arith) (cause_none _ _ a.1).0)
 
   -- a file stands at the slot
   pub open_at : file_at g d i ≡ true
   unfolding file_at
-  open_at = sound-file (lay g d).count (lay g d).size (root_bytes g d) i file-clear.0
+  open_at = sound_file (lay g d).count (lay g d).size (root_bytes g d) i file_clear.0
 
-  pub open-set : sets (root_bytes g d) i ≡ some (set_of g d i)
+  pub open_set : sets (root_bytes g d) i ≡ some (set_of g d i)
   unfolding set_of
-  open-set = sets-file (root_bytes g d) i (unfold file_at in open_at)
+  open_set = sets-file (root_bytes g d) i (unfold file_at in open_at)
 
   -- that is no directory
-  pub open-file : is_directory (set_of g d i) ≡ false
-  open-file = file-clear.1
+  pub open_file_lem : is_directory (set_of g d i) ≡ false
+  open_file_lem = file_clear.1

@@ -12,7 +12,7 @@ use lib.ListN.{length}
 use borrow.Author.Tests.{eq-eqb, ne_eqb}
 use Rattle.tables.specs.Lists.{Mem, here, Distinct, every, last_or}
 use Rattle.tables.proofs.Cases.{clash}
-use Rattle.tables.proofs.ListLaws.{every-mem, last_of}
+use Rattle.tables.proofs.ListLaws.{every_mem, last_of}
 use Rattle.boot.specs.declared.layout.Layout.{Layout}
 use Rattle.boot.specs.Layout.{in_heap}
 use Rattle.boot.proofs.Apart.{in_heap_lem}
@@ -23,10 +23,10 @@ use Rattle.stream.specs.declared.allocation.Allocation.{Allocation}
 use Rattle.stream.specs.Chain.{Clusters, listed, refused, read_chain}
 use Rattle.stream.specs.Stream.{number_of, stream_of, check_chain, clusters_of, empty, clusters_in}
 use Rattle.stream.specs.Internal.{after, along}
-use Rattle.stream.proofs.ChainLaws.{stream-empty, stream-chain}
-use Rattle.stream.proofs.StreamLaws.{Read, read-facts, along-step, last_consec}
-use Rattle.stream.proofs.Distinct.{read_length, read-run, read-distinct}
-use Rattle.stream.proofs.BytesLaws.{length-of}
+use Rattle.stream.proofs.ChainLaws.{stream_empty, stream_chain}
+use Rattle.stream.proofs.StreamLaws.{Read, read_facts, along-step, last_consec}
+use Rattle.stream.proofs.Distinct.{read_length, read-run, read_distinct}
+use Rattle.stream.proofs.BytesLaws.{length_of}
 use Rattle.entry_set.specs.Fields.{no_fat_chain, first_cluster, data_length, clusters_for}
 use Rattle.directory.specs.Directory.{chain_record, root_record}
 use Rattle.stream.specs.Bytes.{bytes_in}
@@ -37,12 +37,12 @@ use Rattle.file.proofs.RefreshLaws.{stream_is}
 
 module _ (y : Layout) (d : List ℕ) (a : Allocation) where
   -- its clusters, from the list that it reads as
-  pub clusters-of : (ks : List ℕ) → stream_of y d a ≡ listed ks → clusters_in y d a ≡ ks
+  pub clusters_of_lem : (ks : List ℕ) → stream_of y d a ≡ listed ks → clusters_in y d a ≡ ks
   unfolding clusters_in
-  clusters-of ks e = ap clusters_of e
+  clusters_of_lem ks e = ap clusters_of e
 
-  pub number-of : (ks : List ℕ) → stream_of y d a ≡ listed ks → number_of (stream_of y d a) ≡ 0
-  number-of ks e = ap number_of e ∙ (unfold number_of in refl)
+  pub number_of_lem : (ks : List ℕ) → stream_of y d a ≡ listed ks → number_of (stream_of y d a) ≡ 0
+  number_of_lem ks e = ap number_of e ∙ (unfold number_of in refl)
 
   pub reads_as : number_of (stream_of y d a) ≡ 0 → stream_of y d a ≡ listed (clusters_in y d a)
   unfolding clusters_in
@@ -51,21 +51,21 @@ module _ (y : Layout) (d : List ℕ) (a : Allocation) where
   -- count 0 has no clusters, whatever the rest
   pub empty-reads : a.count ≡ 0 → stream_of y d a ≡ listed []
   unfolding stream_of
-  empty-reads z = stream-empty y.count (fat_entry y d) (marked y d) a z
+  empty-reads z = stream_empty y.count (fat_entry y d) (marked y d) a z
 
 module _ (y : Layout) (d : List ℕ) (a : Allocation) (e : number_of (stream_of y d a) ≡ 0) where
   pub reads : Read y.count (fat_entry y d) (marked y d) a (clusters_in y d a)
-  reads = read-facts y.count (fat_entry y d) (marked y d) a (clusters_in y d a) (unfold stream_of in (reads_as y d a e))
+  reads = read_facts y.count (fat_entry y d) (marked y d) a (clusters_in y d a) (unfold stream_of in (reads_as y d a e))
 
-  pub clusters-marked : every (marked y d) (clusters_in y d a) ≡ true
-  clusters-marked = reads.marks
+  pub clusters_marked : every (marked y d) (clusters_in y d a) ≡ true
+  clusters_marked = reads.marks
 
-  pub clusters-distinct : Fits y d → Distinct (clusters_in y d a)
-  clusters-distinct w = read-distinct y.count (fat_entry y d) (marked y d) a (small y d w) (clusters_in y d a) reads
+  pub clusters_distinct : Fits y d → Distinct (clusters_in y d a)
+  clusters_distinct w = read_distinct y.count (fat_entry y d) (marked y d) a (small y d w) (clusters_in y d a) reads
 
-  pub bytes-length : Fits y d → length (bytes_in y d a) ≡ length (clusters_in y d a) * y.size
+  pub bytes_length : Fits y d → length (bytes_in y d a) ≡ length (clusters_in y d a) * y.size
   unfolding bytes_in
-  bytes-length w = length-of y d w (clusters_in y d a) reads.heap
+  bytes_length w = length_of y d w (clusters_in y d a) reads.heap
 
 -- ---- a record that reads as some clusters
 
@@ -82,10 +82,10 @@ check_listed mark last count (listed l) ks e = by (eqb (length l) count && eqb (
 
 module _ (y : Layout) (d : List ℕ) (a : Allocation) (ks : List ℕ) (e : stream_of y d a ≡ listed ks) where
   read_of : Read y.count (fat_entry y d) (marked y d) a ks
-  read_of = read-facts y.count (fat_entry y d) (marked y d) a ks (unfold stream_of in e)
+  read_of = read_facts y.count (fat_entry y d) (marked y d) a ks (unfold stream_of in e)
 
-  pub count-is : a.count ≡ length ks
-  count-is = sym (read_length y.count (fat_entry y d) (marked y d) a ks read_of)
+  pub count_is : a.count ≡ length ks
+  count_is = sym (read_length y.count (fat_entry y d) (marked y d) a ks read_of)
 
   module _ (some : a.count ≢ 0) where
     starts : (rest : List ℕ) × (ks ≡ a.first ∷ rest)
@@ -94,11 +94,11 @@ module _ (y : Layout) (d : List ℕ) (a : Allocation) (ks : List ℕ) (e : strea
       read_of.goes ∙ along-step (fat_entry y d) a.no_fat_chain a.first a.count (omega arith),
     )
 
-    first-mem : Mem a.first ks
-    first-mem = subst (Mem a.first) (sym starts.1) (here refl)
+    first_mem : Mem a.first ks
+    first_mem = subst (Mem a.first) (sym starts.1) (here refl)
 
     pub first_heap : in_heap y.count a.first ≡ true
-    first_heap = every-mem (in_heap y.count) ks read_of.heap a.first first-mem
+    first_heap = every_mem (in_heap y.count) ks read_of.heap a.first first_mem
 
     pub last_is : last_or 0 ks ≡ a.last
     last_is = read_of.last some 0
@@ -106,11 +106,11 @@ module _ (y : Layout) (d : List ℕ) (a : Allocation) (ks : List ℕ) (e : strea
     last_heap : in_heap y.count a.last ≡ true
     last_heap =
         ap (in_heap y.count) (sym last_is)
-        ∙ every-mem (in_heap y.count) ks read_of.heap (last_or 0 ks) (last_of 0 ks (omega (arith, count-is)))
+        ∙ every_mem (in_heap y.count) ks read_of.heap (last_or 0 ks) (last_of 0 ks (omega (arith, count_is)))
 
     -- a run's last, and where a run ends
-    pub run-last : a.no_fat_chain ≡ true → a.last + 1 ≡ a.first + a.count
-    run-last t =
+    pub run_last : a.no_fat_chain ≡ true → a.last + 1 ≡ a.first + a.count
+    run_last t =
         omega (
           arith,
           last_is,
@@ -119,13 +119,13 @@ module _ (y : Layout) (d : List ℕ) (a : Allocation) (ks : List ℕ) (e : strea
         )
 
     pub run_ends : a.no_fat_chain ≡ true → a.first + a.count ≤ y.count + 2
-    run_ends t = omega (arith, run-last t, (in_heap_lem y.count a.last last_heap).1)
+    run_ends t = omega (arith, run_last t, (in_heap_lem y.count a.last last_heap).1)
 
     -- a chain is what the walk of the FAT finds
     pub chain-reads : a.no_fat_chain ≡ false → read_chain y.count (fat_entry y d) a.first ≡ listed ks
     chain-reads t =
         check_listed (marked y d) a.last a.count _ ks
-        (sym (stream-chain y.count (fat_entry y d) (marked y d) a some t) ∙ (unfold stream_of in e))
+        (sym (stream_chain y.count (fat_entry y d) (marked y d) a some t) ∙ (unfold stream_of in e))
 
 -- ---- the root's record
 
@@ -139,36 +139,36 @@ root_back y d a ks e t some =
     (λ i. record {
       first = a.first;
       last = last_is y d a ks e some i;
-      count = sym (count-is y d a ks e) i;
+      count = sym (count_is y d a ks e) i;
       no_fat_chain = sym t i;
     }))
 
 -- ---- a file's record
 
 module _ (y : Layout) (d : List ℕ) (s : List ℕ) where
-  pub record-empty : clusters_for y.size (data_length s) ≡ 0 → file_record y d s ≡ empty
+  pub record_empty : clusters_for y.size (data_length s) ≡ 0 → file_record y d s ≡ empty
   unfolding file_record
-  record-empty e = rw (eq-eqb (clusters_for y.size (data_length s)) 0 e) refl
+  record_empty e = rw (eq-eqb (clusters_for y.size (data_length s)) 0 e) refl
 
   -- its fields, if it has clusters
   module _ (n : clusters_for y.size (data_length s) ≢ 0) where
-    pub record-first : (file_record y d s).first ≡ first_cluster s
+    pub record_first : (file_record y d s).first ≡ first_cluster s
     unfolding file_record
-    record-first = rw (ne_eqb (clusters_for y.size (data_length s)) 0 n) refl
+    record_first = rw (ne_eqb (clusters_for y.size (data_length s)) 0 n) refl
 
-    pub record-run : (file_record y d s).no_fat_chain ≡ no_fat_chain s
+    pub record_run : (file_record y d s).no_fat_chain ≡ no_fat_chain s
     unfolding file_record
-    record-run = rw (ne_eqb (clusters_for y.size (data_length s)) 0 n) refl
+    record_run = rw (ne_eqb (clusters_for y.size (data_length s)) 0 n) refl
 
-    record-some : (file_record y d s).count ≡ clusters_for y.size (data_length s)
+    record_some : (file_record y d s).count ≡ clusters_for y.size (data_length s)
     unfolding file_record
-    record-some = rw (ne_eqb (clusters_for y.size (data_length s)) 0 n) refl
+    record_some = rw (ne_eqb (clusters_for y.size (data_length s)) 0 n) refl
 
   pub record_count : (file_record y d s).count ≡ clusters_for y.size (data_length s)
   record_count =
       elim (ℕ_discrete (clusters_for y.size (data_length s)) 0) [
-        | yes e ↦ ap (λ (a : Allocation). a.count) (record-empty e) ∙ sym e
-        | no n ↦ record-some n
+        | yes e ↦ ap (λ (a : Allocation). a.count) (record_empty e) ∙ sym e
+        | no n ↦ record_some n
       ]
 
 -- the record of a set that has its first cluster, its flag and a length that takes its count
@@ -192,7 +192,7 @@ file_back y d s b ks e first flag count none =
       where
         by : (t : Bool) → b.no_fat_chain ≡ t
             → cond (no_fat_chain s) (b.first + b.count - 1) (last_or 0 (clusters_of (read_chain y.count (fat_entry y d) b.first))) ≡ b.last
-        by true t = rw (flag ∙ t) (omega (arith, run-last y d b ks e some t))
+        by true t = rw (flag ∙ t) (omega (arith, run_last y d b ks e some t))
         by false t =
             rw (flag ∙ t) (ap (λ (c : Clusters). last_or 0 (clusters_of c)) (chain-reads y d b ks e some t) ∙ last_is y d b ks e some)
 
@@ -201,7 +201,7 @@ pub record_same : (y : Layout) (d d' : List ℕ) (s : List ℕ) → number_of (s
     → stream_of y d' (file_record y d s) ≡ stream_of y d (file_record y d s) → file_record y d' s ≡ file_record y d s
 record_same y d d' s r e =
     elim (ℕ_discrete (clusters_for y.size (data_length s)) 0) [
-      | yes z ↦ record-empty y d' s z ∙ sym (record-empty y d s z)
+      | yes z ↦ record_empty y d' s z ∙ sym (record_empty y d s z)
       | no n ↦ file_back y d' s (file_record y d s) (clusters_in y d (file_record y d s)) (e ∙ reads_as y d (file_record y d s) r)
-          (sym (record-first y d s n)) (sym (record-run y d s n)) (sym (record_count y d s)) (λ z. absurd (n (sym (record_count y d s) ∙ z)))
+          (sym (record_first y d s n)) (sym (record_run y d s n)) (sym (record_count y d s)) (λ z. absurd (n (sym (record_count y d s) ∙ z)))
     ]

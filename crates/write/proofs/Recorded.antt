@@ -15,13 +15,13 @@ use Rattle.stream.specs.Chain.{listed}
 use Rattle.stream.specs.Stream.{stream_of, empty}
 use Rattle.entry_set.specs.declared.stamp.Stamp.{Stamp}
 use Rattle.entry_set.specs.Fields.{secondary_count, is_directory, no_fat_chain, valid_length, first_cluster, data_length, clusters_for}
-use Rattle.entry_set.proofs.SetLaws.{StreamFits, refreshed-length, refreshed-byte, refreshed-count, refreshed-directory, refreshed-run, refreshed-valid, refreshed-first, refreshed-data, refreshed-formed}
-use Rattle.entry_set.proofs.LengthLaws.{clusters-hold, clusters-none, clusters-some}
+use Rattle.entry_set.proofs.SetLaws.{StreamFits, refreshed-length, refreshed_byte, refreshed-count, refreshed_directory, refreshed-run, refreshed_valid, refreshed_first, refreshed_data, refreshed_formed}
+use Rattle.entry_set.proofs.LengthLaws.{clusters_hold, clusters_none, clusters_some}
 use Rattle.directory.proofs.FitLaws.{Fit, fit_low}
-use Rattle.directory.proofs.CursorLaws.{count-few}
+use Rattle.directory.proofs.CursorLaws.{count_few}
 use Rattle.directory.specs.Open.{file_record}
 use Rattle.file.specs.Refresh.{entries_of, recorded}
-use Rattle.write.proofs.Reading.{number-of, first_heap, run_ends, file_back}
+use Rattle.write.proofs.Reading.{number_of_lem, first_heap, run_ends, file_back}
 
 -- whatever the stream, as many bytes
 pub recorded-length : (s : List ℕ) (b : Allocation) (valid len : ℕ) (t : Stamp) → length (recorded s b valid len t) ≡ length s
@@ -39,34 +39,34 @@ module _ (y : Layout) (d : List ℕ) (w : Fits y d) (b : Allocation) (ks : List 
   big = let l = w.laid.size_low in omega arith
 
   few : b.count ≤ y.count
-  few = count-few y d w b (number-of y d b ks e)
+  few = count_few y d w b (number_of_lem y d b ks e)
 
   -- a length that the heap holds
-  pub length-small : len < 2 ^ 64
-  length-small =
+  pub length_small : len < 2 ^ 64
+  length_small =
       let l = w.laid in
       omega (
         arith,
-        clusters-hold y.size big len,
+        clusters_hold y.size big len,
         mul-le-mul_right {m = clusters_for y.size len} {n = y.count} y.size (omega (arith, all, few)),
         l.heap_in,
         l.len_high,
       )
 
   some-count : len ≢ 0 → b.count ≢ 0
-  some-count n z = clusters-some y.size big len n (all ∙ z)
+  some-count n z = clusters_some y.size big len n (all ∙ z)
 
   module _ (valid : ℕ) (v : valid ≤ len) where
-    pub stream-fits : StreamFits y.count y.size b.first b.no_fat_chain valid len
-    stream-fits = record {
+    pub stream_fits : StreamFits y.count y.size b.first b.no_fat_chain valid len
+    stream_fits = record {
       valid_le = v;
-      len_lt = length-small;
+      len_lt = length_small;
       first_lt = elim (ℕ_discrete b.count 0) [
         | yes z ↦ (let r : b.first ≡ 0 = ap (λ (x : Allocation). x.first) (bare z) in omega arith)
         | no n ↦ omega (arith, (in_heap_lem y.count b.first (first_heap y d b ks e n)).1, w.laid.count_high)
       ];
       empty = λ z.
-          let r : b ≡ empty = bare (sym all ∙ clusters-none y.size big len z) in
+          let r : b ≡ empty = bare (sym all ∙ clusters_none y.size big len z) in
           (ap (λ (x : Allocation). x.first) r, ap (λ (x : Allocation). x.no_fat_chain) r);
       in_heap_lem = λ n. first_heap y d b ks e (some-count n);
       room = λ n. omega (arith, all, few);
@@ -74,41 +74,41 @@ module _ (y : Layout) (d : List ℕ) (w : Fits y d) (b : Allocation) (ks : List 
     }
 
     module _ (n : ℕ) (s : List ℕ) (f : Fit y.count y.size n s) (t : Stamp) where
-      pub recorded-fit : Fit y.count y.size n (recorded s b valid len t)
+      pub recorded_fit : Fit y.count y.size n (recorded s b valid len t)
       unfolding recorded
-      recorded-fit = record {
+      recorded_fit = record {
         full = refreshed-length s (entries_of s) b.first b.no_fat_chain valid len t ∙ f.full;
-        formed = refreshed-formed s (entries_of s) b.first b.no_fat_chain valid len t f.full y.count y.size f.formed
-            (unfold entries_of in refl) stream-fits;
+        formed = refreshed_formed s (entries_of s) b.first b.no_fat_chain valid len t f.full y.count y.size f.formed
+            (unfold entries_of in refl) stream_fits;
         count = ap (λ (x : ℕ). 1 + x) (refreshed-count s (entries_of s) b.first b.no_fat_chain valid len t) ∙ f.count;
         rest = λ k l.
-            refreshed-byte s (entries_of s) b.first b.no_fat_chain valid len t k (omega (arith, fit_low y.count y.size n s f))
+            refreshed_byte s (entries_of s) b.first b.no_fat_chain valid len t k (omega (arith, fit_low y.count y.size n s f))
             ∙ f.rest k l;
       }
 
       -- its fields
-      pub recorded-directory : is_directory (recorded s b valid len t) ≡ is_directory s
+      pub recorded_directory : is_directory (recorded s b valid len t) ≡ is_directory s
       unfolding recorded
-      recorded-directory = refreshed-directory s (entries_of s) b.first b.no_fat_chain valid len t f.full
+      recorded_directory = refreshed_directory s (entries_of s) b.first b.no_fat_chain valid len t f.full
 
-      pub recorded-valid : valid_length (recorded s b valid len t) ≡ valid
+      pub recorded_valid : valid_length (recorded s b valid len t) ≡ valid
       unfolding recorded
-      recorded-valid =
-          refreshed-valid s (entries_of s) b.first b.no_fat_chain valid len t f.full (omega (arith, length-small))
+      recorded_valid =
+          refreshed_valid s (entries_of s) b.first b.no_fat_chain valid len t f.full (omega (arith, length_small))
 
-      pub recorded-data : data_length (recorded s b valid len t) ≡ len
+      pub recorded_data : data_length (recorded s b valid len t) ≡ len
       unfolding recorded
-      recorded-data = refreshed-data s (entries_of s) b.first b.no_fat_chain valid len t f.full length-small
+      recorded_data = refreshed_data s (entries_of s) b.first b.no_fat_chain valid len t f.full length_small
 
       recorded-run : no_fat_chain (recorded s b valid len t) ≡ b.no_fat_chain
       unfolding recorded
       recorded-run = refreshed-run s (entries_of s) b.first b.no_fat_chain valid len t f.full
 
-      recorded-first : first_cluster (recorded s b valid len t) ≡ b.first
+      recorded_first : first_cluster (recorded s b valid len t) ≡ b.first
       unfolding recorded
-      recorded-first = refreshed-first s (entries_of s) b.first b.no_fat_chain valid len t f.full stream-fits.first_lt
+      recorded_first = refreshed_first s (entries_of s) b.first b.no_fat_chain valid len t f.full stream_fits.first_lt
 
       -- its record
-      pub recorded-back : file_record y d (recorded s b valid len t) ≡ b
-      recorded-back =
-          file_back y d (recorded s b valid len t) b ks e recorded-first recorded-run (ap (clusters_for y.size) recorded-data ∙ all) bare
+      pub recorded_back : file_record y d (recorded s b valid len t) ≡ b
+      recorded_back =
+          file_back y d (recorded s b valid len t) b ks e recorded_first recorded-run (ap (clusters_for y.size) recorded_data ∙ all) bare

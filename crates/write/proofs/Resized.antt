@@ -14,7 +14,7 @@ use borrow.Author.Tests.{lt-leb, le-leb}
 use Rattle.tables.specs.Lists.{Mem, every, last_or}
 use Rattle.tables.specs.Count.{count}
 use Rattle.tables.proofs.Cases.{not_so}
-use Rattle.tables.proofs.ListLaws.{mem_append, mem_take, mem_right, every-mem, mem-every}
+use Rattle.tables.proofs.ListLaws.{mem_append, mem_take, mem_right, every_mem, mem_every}
 use Rattle.boot.specs.declared.layout.Layout.{Layout}
 use Rattle.boot.specs.Limits.{in_map}
 use Rattle.boot.specs.Layout.{in_heap, is_bitmap_cluster}
@@ -31,16 +31,16 @@ use Rattle.stream.specs.Chain.{listed}
 use Rattle.stream.specs.Stream.{number_of, stream_of, system_cause, clusters_in}
 use Rattle.stream.specs.Bytes.{bytes_of, bytes_in}
 use Rattle.stream.proofs.StreamLaws.{Read}
-use Rattle.stream.proofs.BytesLaws.{cluster_cong, bytes-cong, bytes-append, length-of, take-of}
+use Rattle.stream.proofs.BytesLaws.{cluster_cong, bytes_cong, bytes_append, length_of, take_of}
 use Rattle.write_alloc.specs.Outcome.{Outcome}
 use Rattle.write_extend.specs.Extend.{extend_in}
 use Rattle.write_shrink.specs.Shrink.{kept_record, shrink_cause, cut, shrink_in}
-use Rattle.write_alloc.proofs.GrowLaws.{Grown, grown-other}
-use Rattle.write_extend.proofs.EnoughLaws.{Extended, extend-done}
-use Rattle.write_shrink.proofs.Cutting.{shrink-by}
-use Rattle.write_shrink.proofs.ShrinkLaws.{Shrunk, cut-reads, cut-shrunk}
-use Rattle.directory.proofs.DirectoryLaws.{clusters-heap, clusters-length}
-use Rattle.write.proofs.Reading.{clusters-of, number-of, reads_as, empty-reads, reads, clusters-marked, count-is}
+use Rattle.write_alloc.proofs.GrowLaws.{Grown, grown_other}
+use Rattle.write_extend.proofs.EnoughLaws.{Extended, extend_done}
+use Rattle.write_shrink.proofs.Cutting.{shrink_by}
+use Rattle.write_shrink.proofs.ShrinkLaws.{Shrunk, cut-reads, cut_shrunk}
+use Rattle.directory.proofs.DirectoryLaws.{clusters_heap, clusters_length}
+use Rattle.write.proofs.Reading.{clusters_of_lem, number_of_lem, reads_as, empty-reads, reads, clusters_marked, count_is}
 use Rattle.write.proofs.Family.{Family, Outside, Moved, plain_at, moved}
 
 -- bitmap clusters are in the system map
@@ -52,7 +52,7 @@ bytes_plain : (y : Layout) (d e : List ℕ) → length e ≡ length d
     → ((k j : ℕ) → plain y k ≡ true → j < y.size → cluster_byte y e k j ≡ cluster_byte y d k j)
     → (ks : List ℕ) → every (plain y) ks ≡ true → bytes_of y e ks ≡ bytes_of y d ks
 bytes_plain y d e long same ks p =
-    bytes-cong y d e ks (λ k m. cluster_cong y d e k long (λ r b. same k r (every-mem (plain y) ks p k m) b))
+    bytes_cong y d e ks (λ k m. cluster_cong y d e k long (λ r b. same k r (every_mem (plain y) ks p k m) b))
 
 -- a cluster of the heap outside the system map is no bitmap's
 plain_off_map : (y : Layout) (m : List ℕ) → Mapped y m → (k : ℕ) → in_heap y.count k ≡ true → in_map m k ≡ false → plain y k ≡ true
@@ -84,7 +84,7 @@ module _ (y : Layout) (d m : List ℕ) (w : Fits y d) (mapped : Mapped y m) (S :
   o = extend_in y d m a n hint
 
   took : Extended y d m o old n
-  took = extend-done y d m w a old (reads_as y d a own) n hint hint_in enough
+  took = extend_done y d m w a old (reads_as y d a own) n hint hint_in enough
 
   abbrev got : List ℕ
   got = took.new
@@ -92,61 +92,61 @@ module _ (y : Layout) (d m : List ℕ) (w : Fits y d) (mapped : Mapped y m) (S :
   grown : Grown y d m o.volume o.answer.allocation old got
   grown = took.grows
 
-  new-heap : (k : ℕ) → Mem k got → in_heap y.count k ≡ true
-  new-heap k q = every-mem (in_heap y.count) got grown.fresh.heap k q
+  new_heap : (k : ℕ) → Mem k got → in_heap y.count k ≡ true
+  new_heap k q = every_mem (in_heap y.count) got grown.fresh.heap k q
 
-  new-facts : (k : ℕ) → Mem k got → (marked y d k ≡ false) × (in_map m k ≡ false)
-  new-facts k q = let r = usable_facts y d m k (every-mem (is_usable y d m) got grown.fresh.usable k q) in (r.0, r.1)
+  new_facts : (k : ℕ) → Mem k got → (marked y d k ≡ false) × (in_map m k ≡ false)
+  new_facts k q = let r = usable_facts y d m k (every_mem (is_usable y d m) got grown.fresh.usable k q) in (r.0, r.1)
 
   all_plain : every (plain y) (old ++ got) ≡ true
   all_plain =
-      mem-every (plain y) (old ++ got)
-      (λ k q. ⊎_elim (λ p. every-mem (plain y) old (f.plains i a s) k p)
-      (λ p. plain_off_map y m mapped k (new-heap k p) (new-facts k p).1) (mem_append old q))
+      mem_every (plain y) (old ++ got)
+      (λ k q. ⊎_elim (λ p. every_mem (plain y) old (f.plains i a s) k p)
+      (λ p. plain_off_map y m mapped k (new_heap k p) (new_facts k p).1) (mem_append old q))
 
-  clusters-are : clusters_in y o.volume o.answer.allocation ≡ old ++ got
-  clusters-are = clusters-of y o.volume o.answer.allocation (old ++ got) grown.reads
+  clusters_are : clusters_in y o.volume o.answer.allocation ≡ old ++ got
+  clusters_are = clusters_of_lem y o.volume o.answer.allocation (old ++ got) grown.reads
 
-  longer-moved : Moved y d o.volume S i (some o.answer.allocation)
-  longer-moved =
+  longer_moved : Moved y d o.volume S i (some o.answer.allocation)
+  longer_moved =
       moved y d o.volume S i f grown.long
-      (λ j b n t. grown-other y d m o.volume o.answer.allocation old got w grown b (clusters_in y d b) (reads_as y d b (f.reads j b t))
+      (λ j b n t. grown_other y d m o.volume o.answer.allocation old got w grown b (clusters_in y d b) (reads_as y d b (f.reads j b t))
       (λ k p q. f.apart j i b a n t s k p q) ∙ sym (reads_as y d b (f.reads j b t)))
       (λ j b n t. bytes_plain y d o.volume grown.long grown.bytes_kept (clusters_in y d b) (f.plains j b t))
       (λ k l. grown.marks_kept k l.heap (not_new k l))
       o.answer.allocation
-      (number-of y o.volume o.answer.allocation (old ++ got) grown.reads)
-      (ap (every (plain y)) clusters-are ∙ all_plain)
+      (number_of_lem y o.volume o.answer.allocation (old ++ got) grown.reads)
+      (ap (every (plain y)) clusters_are ∙ all_plain)
       (λ j b n t k p q. ⊎_elim (λ u. f.apart i j a b (λ z. n (sym z)) s t k u q)
-      (λ u. false≢true (sym (new-facts k u).0 ∙ every-mem (marked y d) (clusters_in y d b) (clusters-marked y d b (f.reads j b t)) k q))
-      (mem_append old (subst (Mem k) clusters-are p)))
-      (λ k l p. ⊎_elim (l.off i a s) (not_new k l) (mem_append old (subst (Mem k) clusters-are p)))
+      (λ u. false≢true (sym (new_facts k u).0 ∙ every_mem (marked y d) (clusters_in y d b) (clusters_marked y d b (f.reads j b t)) k q))
+      (mem_append old (subst (Mem k) clusters_are p)))
+      (λ k l p. ⊎_elim (l.off i a s) (not_new k l) (mem_append old (subst (Mem k) clusters_are p)))
     where
       -- a marked cluster was not taken
       not_new : (k : ℕ) → Outside y d S k → Mem k got → ⊥
-      not_new k l q = false≢true (sym (new-facts k q).0 ∙ l.mark)
+      not_new k l q = false≢true (sym (new_facts k q).0 ∙ l.mark)
 
   count-longer : o.answer.allocation.count ≡ a.count + n
   count-longer =
       omega (
         arith,
-        count-is y o.volume o.answer.allocation (old ++ got) grown.reads,
+        count_is y o.volume o.answer.allocation (old ++ got) grown.reads,
         length-append old got,
         took.many,
-        clusters-length y d a own,
+        clusters_length y d a own,
       )
 
-  pub extend-member : Longer y d m S i a n (extend_in y d m a n hint)
-  extend-member = record {
-    moved = longer-moved;
+  pub extend_member : Longer y d m S i a n (extend_in y d m a n hint)
+  extend_member = record {
+    moved = longer_moved;
     new = got;
-    clusters = clusters-are;
+    clusters = clusters_are;
     bytes =
         unfold bytes_in in
-        (ap (bytes_of y o.volume) clusters-are
+        (ap (bytes_of y o.volume) clusters_are
         ∙ bytes_plain y d o.volume grown.long grown.bytes_kept (old ++ got) all_plain
-        ∙ bytes-append y d old got);
-    off_map = λ k q. (new-facts k q).1;
+        ∙ bytes_append y d old got);
+    off_map = λ k q. (new_facts k q).1;
     marks = grown.counts ∙ ap (λ (x : ℕ). marked_count y d + x) took.many;
     counts = count-longer;
   }
@@ -188,35 +188,35 @@ module _ (y : Layout) (d m : List ℕ) (w : Fits y d) (S : ℕ → Option Alloca
         ∙ sym (reads_as y d b (f.reads j b t)))
         (λ j b n t. bytes_plain y d e long same (clusters_in y d b) (f.plains j b t))
         outside
-        a' (number-of y e a' (take keep ks) reads) (ap (every (plain y)) clusters ∙ front-plain)
+        a' (number_of_lem y e a' (take keep ks) reads) (ap (every (plain y)) clusters ∙ front_plain)
         (λ j b n t k p q. f.apart i j a b (λ z. n (sym z)) s t k (mem_take keep ks (subst (Mem k) clusters p)) q)
         (λ k l p. l.off i a s (mem_take keep ks (subst (Mem k) clusters p)));
     clusters = clusters;
-    bytes = unfold bytes_in in (ap (bytes_of y e) clusters ∙ bytes_plain y d e long same (take keep ks) front-plain ∙ sym front_bytes);
+    bytes = unfold bytes_in in (ap (bytes_of y e) clusters ∙ bytes_plain y d e long same (take keep ks) front_plain ∙ sym front_bytes);
     marks = counts;
-    counts = count-is y e a' (take keep ks) reads;
+    counts = count_is y e a' (take keep ks) reads;
   }
     where
       clusters : clusters_in y e a' ≡ take keep ks
-      clusters = clusters-of y e a' (take keep ks) reads
+      clusters = clusters_of_lem y e a' (take keep ks) reads
 
-      front-plain : every (plain y) (take keep ks) ≡ true
-      front-plain = mem-every (plain y) (take keep ks) (λ k q. every-mem (plain y) ks (f.plains i a s) k (mem_take keep ks q))
+      front_plain : every (plain y) (take keep ks) ≡ true
+      front_plain = mem_every (plain y) (take keep ks) (λ k q. every_mem (plain y) ks (f.plains i a s) k (mem_take keep ks q))
 
       front_bytes : take (keep * y.size) (bytes_of y d ks) ≡ bytes_of y d (take keep ks)
       front_bytes =
           elim (dec_lt keep (length ks)) [
-            | yes h ↦ take-of y d w keep ks (omega arith) (clusters-heap y d a own')
+            | yes h ↦ take_of y d w keep ks (omega arith) (clusters_heap y d a own')
             | no h ↦ take_all (keep * y.size) (bytes_of y d ks)
-                (omega (arith, length-of y d w ks (clusters-heap y d a own'), mul-le-mul_right {m = length ks} {n = keep} y.size (omega arith)))
+                (omega (arith, length_of y d w ks (clusters_heap y d a own'), mul-le-mul_right {m = length ks} {n = keep} y.size (omega arith)))
                 ∙ ap (bytes_of y d) (sym (take_all keep ks (omega arith)))
           ]
 
   -- nothing is freed: the record may become a run, and reads the same
-  idle-volume : a.count ≤ keep → d₁ ≡ d
-  idle-volume l =
+  idle_volume : a.count ≤ keep → d₁ ≡ d
+  idle_volume l =
       ap (λ (o : Outcome). o.volume)
-      (shrink-by y d m a keep hint true 0 (le-leb a.count keep l) (cause_skip _ _ (heap_kept y.count hint hint_in) ∙ cause_last 0))
+      (shrink_by y d m a keep hint true 0 (le-leb a.count keep l) (cause_skip _ _ (heap_kept y.count hint hint_in) ∙ cause_last 0))
 
   same_reads : (l : List ℕ) → ks ≡ l → stream_of y d (kept_record a l) ≡ listed l
   same_reads [] q = empty-reads y d (kept_record a []) (unfold kept_record in refl)
@@ -226,7 +226,7 @@ module _ (y : Layout) (d m : List ℕ) (w : Fits y d) (S : ℕ → Option Alloca
       r = reads y d a own'
 
       some : a.count ≢ 0
-      some z = let n = ap length q in omega (arith, clusters-length y d a own')
+      some z = let n = ap length q in omega (arith, clusters_length y d a own')
 
       last : last_or c cs ≡ a.last
       last = unfold last_or in (ap (last_or 0) (sym q) ∙ r.last some 0)
@@ -245,13 +245,13 @@ module _ (y : Layout) (d m : List ℕ) (w : Fits y d) (S : ℕ → Option Alloca
   cut-volume : keep < a.count → d₁ ≡ (cut y d a keep hint).volume
   cut-volume l =
       ap (λ (o : Outcome). o.volume)
-      (shrink-by y d m a keep hint false 0 (lt-leb a.count keep l)
+      (shrink_by y d m a keep hint false 0 (lt-leb a.count keep l)
       (cause_skip _ _ (heap_kept y.count hint hint_in) ∙ cause_last _ ∙ clear))
     where
       system : system_cause m (drop keep ks) ≡ 0
       system =
           unfold system_cause in
-          (ap (λ (b : Bool). cond b 0 9) (mem-every (λ k. not (in_map m k)) (drop keep ks) (λ k q. ap not (off k (inside k q)))))
+          (ap (λ (b : Bool). cond b 0 9) (mem_every (λ k. not (in_map m k)) (drop keep ks) (λ k q. ap not (off k (inside k q)))))
 
       clear : shrink_cause y d m a keep ≡ 0
       clear = unfold shrink_cause in (cause_skip _ _ own' ∙ cause_last _ ∙ (unfold clusters_in in system))
@@ -260,25 +260,25 @@ module _ (y : Layout) (d m : List ℕ) (w : Fits y d) (S : ℕ → Option Alloca
   unfolding clusters_in
   cut-member =
       elim (dec_lt keep a.count) [
-        | yes l ↦ subst (λ (e : List ℕ). Shorter y d S i a keep e a') (sym (cut-volume l)) freed-others
-        | no l ↦ subst (λ (e : List ℕ). Shorter y d S i a keep e a') (sym (idle-volume (omega arith))) (all-kept (omega arith))
+        | yes l ↦ subst (λ (e : List ℕ). Shorter y d S i a keep e a') (sym (cut-volume l)) freed_others
+        | no l ↦ subst (λ (e : List ℕ). Shorter y d S i a keep e a') (sym (idle_volume (omega arith))) (all_kept (omega arith))
       ]
     where
       d₂ : List ℕ
       d₂ = (cut y d a keep hint).volume
 
       shrunk : Shrunk y d a keep d₂
-      shrunk = cut-shrunk y d w a keep own' hint
+      shrunk = cut_shrunk y d w a keep own' hint
 
-      freed-others : Shorter y d S i a keep d₂ a'
-      freed-others =
+      freed_others : Shorter y d S i a keep d₂ a'
+      freed_others =
           shorter d₂ shrunk.long shrunk.others shrunk.bytes
           (λ k l. shrunk.marks k l.heap (λ q. l.off i a s (inside k q)))
           shrunk.reads
           (ap (λ (x : ℕ). marked_count y d₂ + x) (sym (length-drop keep ks)) ∙ shrunk.counts)
 
-      all-kept : a.count ≤ keep → Shorter y d S i a keep d a'
-      all-kept l =
-          let n = clusters-length y d a own' in
+      all_kept : a.count ≤ keep → Shorter y d S i a keep d a'
+      all_kept l =
+          let n = clusters_length y d a own' in
           let q : take keep ks ≡ ks = take_all keep ks (omega arith) in
           shorter d refl (λ b js e _. e) (λ _ _ _ _. refl) (λ _ _. refl) (same_reads (take keep ks) (sym q)) (omega arith)

@@ -11,14 +11,14 @@ use lib.ListN.{length}
 use borrow.Author.Tests.{not-true}
 use Rattle.tables.specs.Lists.{Mem, every}
 use Rattle.tables.proofs.Cases.{clash, not_so}
-use Rattle.tables.proofs.ListLaws.{every-mem, mem-every}
+use Rattle.tables.proofs.ListLaws.{every_mem, mem_every}
 use Rattle.boot.specs.declared.geometry.Geometry.{Geometry}
 use Rattle.boot.specs.declared.layout.Layout.{Layout}
 use Rattle.boot.specs.Geometry.{root_cluster}
 use Rattle.boot.specs.Limits.{in_map, apart, limits}
 use Rattle.boot.specs.Layout.{layout_of, in_heap, is_bitmap_cluster}
 use Rattle.boot.specs.Causes.{first_cause}
-use Rattle.boot.proofs.Admission.{limits-admits}
+use Rattle.boot.proofs.Admission.{limits_admits}
 use Rattle.boot.proofs.CauseLaws.{cause_skip, cause_last, cause_none}
 use Rattle.metadata.specs.Fat.{fat_entry}
 use Rattle.metadata.specs.Marks.{marked}
@@ -27,17 +27,17 @@ use Rattle.metadata.proofs.View.{plain, plain_off}
 use Rattle.stream.specs.declared.allocation.Allocation.{Allocation}
 use Rattle.stream.specs.Chain.{Clusters, listed, refused, read_chain}
 use Rattle.stream.specs.Stream.{number_of, stream_of, clusters_of, system_cause, clusters_in}
-use Rattle.stream.proofs.StreamLaws.{Read, read-chain-facts}
+use Rattle.stream.proofs.StreamLaws.{Read, read-chain_facts}
 use Rattle.stream.proofs.Distinct.{read_length}
-use Rattle.stream.proofs.ListingLaws.{stream-read}
-use Rattle.stream.proofs.BytesLaws.{length-of}
+use Rattle.stream.proofs.ListingLaws.{stream_read}
+use Rattle.stream.proofs.BytesLaws.{length_of}
 use Rattle.entry_set.specs.Fields.{data_length, clusters_for}
 use Rattle.directory.specs.Directory.{chain_record, root_record, bitmap_cause, directory_cause}
 use Rattle.stream.specs.Bytes.{bytes_in}
 use Rattle.directory.specs.Entries.{entry_count, entries_at}
 use Rattle.directory.specs.Internal.{sets}
 use Rattle.directory.proofs.FitLaws.{Fit}
-use Rattle.directory.proofs.OrderedLaws.{Ordered, file-fit}
+use Rattle.directory.proofs.OrderedLaws.{Ordered, file_fit}
 use Rattle.directory.proofs.StoreLaws.{sets-some}
 use Rattle.directory.specs.Open.{file_record, stream_cause}
 use Rattle.file.proofs.CallLaws as call
@@ -69,13 +69,13 @@ pub stream_clear_lem : (y : Layout) (d m : List ℕ) (a : Allocation) → stream
 unfolding stream_cause system_cause
 stream_clear_lem y d m a e =
     let r = both_clear _ _ e in
-    (r.0, λ k i. not-true (in_map m k) (every-mem (λ k. not (in_map m k)) _ (if_clear _ 9 (λ z. omega arith) r.1) k i))
+    (r.0, λ k i. not-true (in_map m k) (every_mem (λ k. not (in_map m k)) _ (if_clear _ 9 (λ z. omega arith) r.1) k i))
 
 pub clear_stream : (y : Layout) (d m : List ℕ) (a : Allocation) → number_of (stream_of y d a) ≡ 0
     → ((k : ℕ) → Mem k (clusters_in y d a) → in_map m k ≡ false) → stream_cause y d m a ≡ 0
 unfolding stream_cause system_cause
 clear_stream y d m a e h =
-    clear_both _ _ e (rw (mem-every (λ k. not (in_map m k)) (clusters_in y d a) (λ k i. ap not (h k i))) refl)
+    clear_both _ _ e (rw (mem_every (λ k. not (in_map m k)) (clusters_in y d a) (λ k i. ap not (h k i))) refl)
 
 -- a directory that reads, from clusters that are no bitmap's
 pub clear_directory : (y : Layout) (d : List ℕ) (a : Allocation) → number_of (stream_of y d a) ≡ 0 → every (plain y) (clusters_in y d a) ≡ true
@@ -83,7 +83,7 @@ pub clear_directory : (y : Layout) (d : List ℕ) (a : Allocation) → number_of
 unfolding directory_cause bitmap_cause clusters_in
 clear_directory y d a e h =
     clear_both _ _ e
-    (rw (mem-every (λ k. not (is_bitmap_cluster y k)) (clusters_of (stream_of y d a)) (λ k i. ap not (plain_off y k (every-mem (plain y) _ h k i)))) refl)
+    (rw (mem_every (λ k. not (is_bitmap_cluster y k)) (clusters_of (stream_of y d a)) (λ k i. ap not (plain_off y k (every_mem (plain y) _ h k i)))) refl)
 
 -- ---- the limits
 
@@ -92,17 +92,17 @@ unfolding lay
 lay_same g d d' e = ap (layout_of g) e
 
 module _ (g : Geometry) (m d : List ℕ) (l : limits g (length d) m ≡ true) where
-  pub fits-of : Fits (lay g d) d
+  pub fits_of : Fits (lay g d) d
   unfolding lay
-  fits-of = let w = limits-admits g d m l in record { laid = w.laid; apart = w.apart; long = w.long }
+  fits_of = let w = limits_admits g d m l in record { laid = w.laid; apart = w.apart; long = w.long }
 
   -- a bitmap's clusters are in the system map
   pub mapped : (k : ℕ) → is_bitmap_cluster (lay g d) k ≡ true → in_map m k ≡ true
   unfolding lay
-  mapped = (limits-admits g d m l).mapped
+  mapped = (limits_admits g d m l).mapped
 
-  pub off-bitmap : (k : ℕ) → in_map m k ≡ false → is_bitmap_cluster (lay g d) k ≡ false
-  off-bitmap k e = not_so (is_bitmap_cluster (lay g d) k) (λ b. false≢true (sym e ∙ mapped k b))
+  pub off_bitmap : (k : ℕ) → in_map m k ≡ false → is_bitmap_cluster (lay g d) k ≡ false
+  off_bitmap k e = not_so (is_bitmap_cluster (lay g d) k) (λ b. false≢true (sym e ∙ mapped k b))
 
 -- ---- the root
 
@@ -118,13 +118,13 @@ chain_kind first (refused n) = refl
 
 chain-some : (C : ℕ) (fat : ℕ → ℕ) (first : ℕ) (c : Clusters) → read_chain C fat first ≡ c → (chain_record first c).count ≢ 0
 unfolding chain_record
-chain-some C fat first (listed ks) e z = let s = (read-chain-facts C fat first ks e).1.some in omega arith
+chain-some C fat first (listed ks) e z = let s = (read-chain_facts C fat first ks e).1.some in omega arith
 chain-some C fat first (refused n) e z = omega arith
 
 module _ (g : Geometry) (d : List ℕ) where
-  pub root-first : (root g d).first ≡ root_cluster g
+  pub root_first : (root g d).first ≡ root_cluster g
   unfolding root root_record
-  root-first = chain_first (root_cluster g) _
+  root_first = chain_first (root_cluster g) _
 
   pub root-chain : (root g d).no_fat_chain ≡ false
   unfolding root root_record
@@ -168,42 +168,42 @@ file-member g d j a e = by (sets (root_bytes g d) j) refl e
 
 module _ (g : Geometry) (m d : List ℕ) (c : Consistent g m d) where
   pub fits : Fits (lay g d) d
-  fits = fits-of g m d c.limits_hold
+  fits = fits_of g m d c.limits_hold
 
   -- a cluster holds a whole number of entries, 16 at least
-  pub size-per : (lay g d).size ≡ 32 * ((lay g d).size / 32)
-  size-per = sym fits.laid.whole
+  pub size_per : (lay g d).size ≡ 32 * ((lay g d).size / 32)
+  size_per = sym fits.laid.whole
 
-  pub per-low : 16 ≤ (lay g d).size / 32
-  per-low = let l = fits.laid.size_low in omega arith
+  pub per_low : 16 ≤ (lay g d).size / 32
+  per_low = let l = fits.laid.size_low in omega arith
 
-  pub root-number : number_of (stream_of (lay g d) d (root g d)) ≡ 0
-  root-number = call.directory-reads (lay g d) d (root g d) c.root_reads
+  pub root_number : number_of (stream_of (lay g d) d (root g d)) ≡ 0
+  root_number = call.directory_reads (lay g d) d (root g d) c.root_reads
 
   root-read : Read (lay g d).count (fat_entry (lay g d) d) (marked (lay g d) d) (root g d) (root_clusters g d)
   unfolding root_clusters clusters_in
-  root-read = stream-read (lay g d) d (root g d) root-number
+  root-read = stream_read (lay g d) d (root g d) root_number
 
-  pub root-listed : stream_of (lay g d) d (root g d) ≡ listed (root_clusters g d)
+  pub root_listed : stream_of (lay g d) d (root g d) ≡ listed (root_clusters g d)
   unfolding root_clusters
-  root-listed = reads_as (lay g d) d (root g d) root-number
+  root_listed = reads_as (lay g d) d (root g d) root_number
 
   -- its record is read back where it reads as before
-  pub root-again : (d' : List ℕ) → stream_of (lay g d) d' (root g d) ≡ stream_of (lay g d) d (root g d) → root_record (lay g d) d' (root_cluster g) ≡ root g d
-  root-again d' e =
-      ap (root_record (lay g d) d') (sym (root-first g d))
-      ∙ root_back (lay g d) d' (root g d) (root_clusters g d) (e ∙ root-listed) (root-chain g d) (root-some g d)
+  pub root_again : (d' : List ℕ) → stream_of (lay g d) d' (root g d) ≡ stream_of (lay g d) d (root g d) → root_record (lay g d) d' (root_cluster g) ≡ root g d
+  root_again d' e =
+      ap (root_record (lay g d) d') (sym (root_first g d))
+      ∙ root_back (lay g d) d' (root g d) (root_clusters g d) (e ∙ root_listed) (root-chain g d) (root-some g d)
 
   pub root-count : (root g d).count ≡ length (root_clusters g d)
   root-count = sym (read_length (lay g d).count (fat_entry (lay g d) d) (marked (lay g d) d) (root g d) (root_clusters g d) root-read)
 
-  pub root-plain : every (plain (lay g d)) (root_clusters g d) ≡ true
+  pub root_plain : every (plain (lay g d)) (root_clusters g d) ≡ true
   unfolding root_clusters
-  root-plain = call.directory-plain (lay g d) d (root g d) c.root_reads
+  root_plain = call.directory_plain (lay g d) d (root g d) c.root_reads
 
   pub root-length : length (root_bytes g d) ≡ length (root_clusters g d) * (lay g d).size
   unfolding root_bytes bytes_in root_clusters
-  root-length = length-of (lay g d) d fits (root_clusters g d) root-read.heap
+  root-length = length_of (lay g d) d fits (root_clusters g d) root-read.heap
 
   -- the root's bytes are in order
   pub ordered : Ordered (lay g d).count (lay g d).size (root_bytes g d)
@@ -212,7 +212,7 @@ module _ (g : Geometry) (m d : List ℕ) (c : Consistent g m d) where
     where
       entries : length (root_bytes g d) ≡ 32 * (length (root_clusters g d) * ((lay g d).size / 32))
       entries =
-          root-length ∙ ap (λ (x : ℕ). length (root_clusters g d) * x) size-per
+          root-length ∙ ap (λ (x : ℕ). length (root_clusters g d) * x) size_per
           ∙ mul_left_comm (length (root_clusters g d)) 32 ((lay g d).size / 32)
 
       whole : length (root_bytes g d) ≡ 32 * entry_count (root_bytes g d)
@@ -220,69 +220,69 @@ module _ (g : Geometry) (m d : List ℕ) (c : Consistent g m d) where
 
   -- the file at a slot
   module _ (j : ℕ) (s : List ℕ) (e : sets (root_bytes g d) j ≡ some s) where
-    pub slot-file : file_at g d j ≡ true
+    pub slot_file : file_at g d j ≡ true
     unfolding file_at
-    slot-file = (sets-some (root_bytes g d) j s e).0
+    slot_file = (sets-some (root_bytes g d) j s e).0
 
-    pub slot-set : set_of g d j ≡ s
+    pub slot_set : set_of g d j ≡ s
     unfolding set_of
-    slot-set = (sets-some (root_bytes g d) j s e).1
+    slot_set = (sets-some (root_bytes g d) j s e).1
 
-    pub slot-stream : stream_at g d j ≡ file_record (lay g d) d s
+    pub slot_stream : stream_at g d j ≡ file_record (lay g d) d s
     unfolding stream_at
-    slot-stream = ap (file_record (lay g d) d) slot-set
+    slot_stream = ap (file_record (lay g d) d) slot_set
 
-    pub slot-clusters : file_clusters g d j ≡ clusters_in (lay g d) d (file_record (lay g d) d s)
+    pub slot_clusters : file_clusters g d j ≡ clusters_in (lay g d) d (file_record (lay g d) d s)
     unfolding file_clusters
-    slot-clusters = ap (clusters_in (lay g d) d) slot-stream
+    slot_clusters = ap (clusters_in (lay g d) d) slot_stream
 
-    slot-clear : stream_cause (lay g d) d m (file_record (lay g d) d s) ≡ 0
-    slot-clear = ap (stream_cause (lay g d) d m) (sym slot-stream) ∙ c.streams_read j slot-file
+    slot_clear : stream_cause (lay g d) d m (file_record (lay g d) d s) ≡ 0
+    slot_clear = ap (stream_cause (lay g d) d m) (sym slot_stream) ∙ c.streams_read j slot_file
 
     -- its stream reads
-    pub slot-number : number_of (stream_of (lay g d) d (file_record (lay g d) d s)) ≡ 0
-    slot-number = (stream_clear_lem (lay g d) d m (file_record (lay g d) d s) slot-clear).0
+    pub slot_number : number_of (stream_of (lay g d) d (file_record (lay g d) d s)) ≡ 0
+    slot_number = (stream_clear_lem (lay g d) d m (file_record (lay g d) d s) slot_clear).0
 
     slot_read : Read (lay g d).count (fat_entry (lay g d) d) (marked (lay g d) d) (file_record (lay g d) d s) (clusters_in (lay g d) d (file_record (lay g d) d s))
     unfolding clusters_in
-    slot_read = stream-read (lay g d) d (file_record (lay g d) d s) slot-number
+    slot_read = stream_read (lay g d) d (file_record (lay g d) d s) slot_number
 
     -- from clusters off the system map
-    pub slot-off : (k : ℕ) → Mem k (clusters_in (lay g d) d (file_record (lay g d) d s)) → in_map m k ≡ false
-    slot-off = (stream_clear_lem (lay g d) d m (file_record (lay g d) d s) slot-clear).1
+    pub slot_off : (k : ℕ) → Mem k (clusters_in (lay g d) d (file_record (lay g d) d s)) → in_map m k ≡ false
+    slot_off = (stream_clear_lem (lay g d) d m (file_record (lay g d) d s) slot_clear).1
 
-    pub slot-plain : every (plain (lay g d)) (clusters_in (lay g d) d (file_record (lay g d) d s)) ≡ true
-    slot-plain =
-        mem-every (plain (lay g d)) (clusters_in (lay g d) d (file_record (lay g d) d s))
-        (λ k i. plain_at (lay g d) k (every-mem (in_heap (lay g d).count) (clusters_in (lay g d) d (file_record (lay g d) d s)) slot_read.heap k i)
-        (off-bitmap g m d c.limits_hold k (slot-off k i)))
+    pub slot_plain : every (plain (lay g d)) (clusters_in (lay g d) d (file_record (lay g d) d s)) ≡ true
+    slot_plain =
+        mem_every (plain (lay g d)) (clusters_in (lay g d) d (file_record (lay g d) d s))
+        (λ k i. plain_at (lay g d) k (every_mem (in_heap (lay g d).count) (clusters_in (lay g d) d (file_record (lay g d) d s)) slot_read.heap k i)
+        (off_bitmap g m d c.limits_hold k (slot_off k i)))
 
     -- as many as its length takes
-    pub slot-takes : length (clusters_in (lay g d) d (file_record (lay g d) d s)) ≡ clusters_for (lay g d).size (data_length s)
-    slot-takes =
+    pub slot_takes : length (clusters_in (lay g d) d (file_record (lay g d) d s)) ≡ clusters_for (lay g d).size (data_length s)
+    slot_takes =
         read_length (lay g d).count (fat_entry (lay g d) d) (marked (lay g d) d) (file_record (lay g d) d s) (clusters_in (lay g d) d (file_record (lay g d) d s))
         slot_read
         ∙ record_count (lay g d) d s
 
     -- and its set is well formed
-    pub slot-fit : Fit (lay g d).count (lay g d).size (entries_at (root_bytes g d) j) s
-    slot-fit =
+    pub slot_fit : Fit (lay g d).count (lay g d).size (entries_at (root_bytes g d) j) s
+    slot_fit =
         subst (Fit (lay g d).count (lay g d).size (entries_at (root_bytes g d) j)) (sets-some (root_bytes g d) j s e).1
-        (file-fit (lay g d).count (lay g d).size (root_bytes g d) ordered j (sets-some (root_bytes g d) j s e).0)
+        (file_fit (lay g d).count (lay g d).size (root_bytes g d) ordered j (sets-some (root_bytes g d) j s e).0)
 
   first : (a : Allocation) → members g d 0 ≡ some a → root g d ≡ a
   first a e = some-injective (root g d) a (sym (member-root g d) ∙ e)
 
   -- the clusters of the root, and of a slot's file
-  in-root : (a : Allocation) → members g d 0 ≡ some a → (k : ℕ) → Mem k (clusters_in (lay g d) d a) → Mem k (root_clusters g d)
-  in-root a e k i = unfold root_clusters in (subst (λ (x : Allocation). Mem k (clusters_in (lay g d) d x)) (sym (first a e)) i)
+  in_root : (a : Allocation) → members g d 0 ≡ some a → (k : ℕ) → Mem k (clusters_in (lay g d) d a) → Mem k (root_clusters g d)
+  in_root a e k i = unfold root_clusters in (subst (λ (x : Allocation). Mem k (clusters_in (lay g d) d x)) (sym (first a e)) i)
 
-  in-file : (j : ℕ) (a : Allocation) → members g d (suc j) ≡ some a → (k : ℕ) → Mem k (clusters_in (lay g d) d a)
+  in_file : (j : ℕ) (a : Allocation) → members g d (suc j) ≡ some a → (k : ℕ) → Mem k (clusters_in (lay g d) d a)
       → (file_at g d j ≡ true) × Mem k (file_clusters g d j)
-  in-file j a e k i =
+  in_file j a e k i =
       let r = file-member g d j a e in (
-        slot-file j r.0 r.1,
-        subst (Mem k) (sym (slot-clusters j r.0 r.1))
+        slot_file j r.0 r.1,
+        subst (Mem k) (sym (slot_clusters j r.0 r.1))
             (subst (λ (x : Allocation). Mem k (clusters_in (lay g d) d x)) (sym r.2) i),
       )
 
@@ -291,32 +291,32 @@ module _ (g : Geometry) (m d : List ℕ) (c : Consistent g m d) where
   family = record { reads = reads; plains = plains; apart = parts }
     where
       reads : (i : ℕ) (a : Allocation) → members g d i ≡ some a → number_of (stream_of (lay g d) d a) ≡ 0
-      reads zero a e = ap (λ (x : Allocation). number_of (stream_of (lay g d) d x)) (sym (first a e)) ∙ root-number
+      reads zero a e = ap (λ (x : Allocation). number_of (stream_of (lay g d) d x)) (sym (first a e)) ∙ root_number
       reads (suc j) a e =
           let r = file-member g d j a e in
-          ap (λ (x : Allocation). number_of (stream_of (lay g d) d x)) (sym r.2) ∙ slot-number j r.0 r.1
+          ap (λ (x : Allocation). number_of (stream_of (lay g d) d x)) (sym r.2) ∙ slot_number j r.0 r.1
 
       plains : (i : ℕ) (a : Allocation) → members g d i ≡ some a → every (plain (lay g d)) (clusters_in (lay g d) d a) ≡ true
       plains zero a e =
-          ap (λ (x : Allocation). every (plain (lay g d)) (clusters_in (lay g d) d x)) (sym (first a e)) ∙ (unfold root_clusters in root-plain)
+          ap (λ (x : Allocation). every (plain (lay g d)) (clusters_in (lay g d) d x)) (sym (first a e)) ∙ (unfold root_clusters in root_plain)
       plains (suc j) a e =
           let r = file-member g d j a e in
-          ap (λ (x : Allocation). every (plain (lay g d)) (clusters_in (lay g d) d x)) (sym r.2) ∙ slot-plain j r.0 r.1
+          ap (λ (x : Allocation). every (plain (lay g d)) (clusters_in (lay g d) d x)) (sym r.2) ∙ slot_plain j r.0 r.1
 
       parts : (i j : ℕ) (a b : Allocation) → i ≢ j → members g d i ≡ some a → members g d j ≡ some b → (k : ℕ)
           → Mem k (clusters_in (lay g d) d a) → Mem k (clusters_in (lay g d) d b) → ⊥
       parts zero zero a b n p q k u v = n refl
-      parts zero (suc j) a b n p q k u v = let r = in-file j b q k v in c.root_apart j r.0 k r.1 (in-root a p k u)
-      parts (suc i) zero a b n p q k u v = let r = in-file i a p k u in c.root_apart i r.0 k r.1 (in-root b q k v)
+      parts zero (suc j) a b n p q k u v = let r = in_file j b q k v in c.root_apart j r.0 k r.1 (in_root a p k u)
+      parts (suc i) zero a b n p q k u v = let r = in_file i a p k u in c.root_apart i r.0 k r.1 (in_root b q k v)
       parts (suc i) (suc j) a b n p q k u v =
-          let r = in-file i a p k u in
-          let s = in-file j b q k v in
+          let r = in_file i a p k u in
+          let s = in_file j b q k v in
           c.streams_apart i j r.0 s.0 (λ e. n (ap suc e)) k r.1 s.1
 
   -- a marked cluster of no stream is of none of them
-  pub lost-outside : (k : ℕ) → Lost g d k → Outside (lay g d) d (members g d) k
-  lost-outside k l = record { heap = l.heap; mark = l.mark; off = off }
+  pub lost_outside : (k : ℕ) → Lost g d k → Outside (lay g d) d (members g d) k
+  lost_outside k l = record { heap = l.heap; mark = l.mark; off = off }
     where
       off : (j : ℕ) (a : Allocation) → members g d j ≡ some a → Mem k (clusters_in (lay g d) d a) → ⊥
-      off zero a e i = l.off_root (in-root a e k i)
-      off (suc j) a e i = let r = in-file j a e k i in l.off_files j r.0 r.1
+      off zero a e i = l.off_root (in_root a e k i)
+      off (suc j) a e i = let r = in_file j a e k i in l.off_files j r.0 r.1

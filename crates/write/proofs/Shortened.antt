@@ -20,14 +20,14 @@ use Rattle.stream.specs.Stream.{number_of, stream_of, empty, clusters_in}
 use Rattle.stream.specs.Bytes.{store_at, bytes_in}
 use Rattle.entry_set.specs.declared.stamp.Stamp.{Stamp}
 use Rattle.entry_set.specs.Fields.{is_directory, valid_length, data_length, clusters_for}
-use Rattle.entry_set.proofs.SetLaws.{formed-lengths}
-use Rattle.entry_set.proofs.LengthLaws.{clusters-hold, clusters-mono}
+use Rattle.entry_set.proofs.SetLaws.{formed_lengths}
+use Rattle.entry_set.proofs.LengthLaws.{clusters_hold, clusters_mono}
 use Rattle.write_shrink.specs.Shrink.{kept_record, shrink_in}
 use Rattle.directory.specs.Entries.{entries_at}
 use Rattle.directory.specs.Internal.{sets}
 use Rattle.directory.proofs.FitLaws.{Fit}
-use Rattle.directory.proofs.StoreLaws.{sets-some, replaced-ordered, replaced-sets}
-use Rattle.directory.proofs.DirectoryLaws.{clusters-length}
+use Rattle.directory.proofs.StoreLaws.{sets-some, replaced_ordered, replaced_sets}
+use Rattle.directory.proofs.DirectoryLaws.{clusters_length}
 use Rattle.file.specs.Outcome.{carried}
 use Rattle.directory.specs.Open.{file_record, set_in, shown}
 use Rattle.file.specs.Refresh.{entries_of, recorded, stored, open_cause}
@@ -39,15 +39,15 @@ use Rattle.write.specs.Model.{resize, onto, accepted, has_list, finds}
 use Rattle.write.specs.Space.{beyond, must_add}
 use Rattle.write.specs.Demand.{call_slot, hint_of, set_after, entries_put, root_adds, slot_answered, hint_answered}
 use Rattle.write.proofs.Shown.{shown-shorter}
-use Rattle.write.proofs.Reading.{reads_as, bytes-length}
-use Rattle.write.proofs.Scene.{both_clear, members, fits, ordered, slot-number, slot-off, slot-takes, slot-fit}
-use Rattle.write.proofs.Change.{Change, takes, contents_of, contents-is}
+use Rattle.write.proofs.Reading.{reads_as, bytes_length}
+use Rattle.write.proofs.Scene.{both_clear, members, fits, ordered, slot_number, slot_off, slot_takes, slot_fit}
+use Rattle.write.proofs.Change.{Change, takes, contents_of, contents_is}
 use Rattle.write.proofs.Steps.{Step, carried_step}
-use Rattle.write.proofs.Hints.{hint-none}
+use Rattle.write.proofs.Hints.{hint_none}
 use Rattle.write.proofs.Answers.{decided-number, decided-carried, set_decided}
-use Rattle.write.proofs.Open.{open-set, open-file}
-use Rattle.write.proofs.Recorded.{recorded-length, recorded-entries, recorded-fit, recorded-directory, recorded-valid, recorded-data, recorded-back}
-use Rattle.write.proofs.Cut.{open-entries, cut-shorter, cut-clusters, cut-bytes, cut-marks, cut_fits, cut-change}
+use Rattle.write.proofs.Open.{open_set, open_file_lem}
+use Rattle.write.proofs.Recorded.{recorded-length, recorded-entries, recorded_fit, recorded_directory, recorded_valid, recorded_data, recorded_back}
+use Rattle.write.proofs.Cut.{open_entries, cut-shorter, cut_clusters, cut_bytes, cut_marks, cut_fits, cut_change}
 
 -- no kept clusters, an empty record
 kept_bare : (a : Allocation) (ks : List ℕ) → (kept_record a ks).count ≡ 0 → kept_record a ks ≡ empty
@@ -105,37 +105,37 @@ module _ (g : Geometry) (m d : List ℕ) (c : Consistent g m d) (i len : ℕ) (t
           (rw (lt-ltb len (data_length s) less) refl))))))
 
   own : sets (root_bytes g d) i ≡ some s
-  own = open-set g m d i hint opened
+  own = open_set g m d i hint opened
 
   fit : Fit y.count y.size (entries_at (root_bytes g d) i) s
-  fit = slot-fit g m d c i s own
+  fit = slot_fit g m d c i s own
 
   full : length x ≡ 608
   full = recorded-length s b' valid' len t ∙ fit.full
 
   entries : n ≡ entries_at (root_bytes g d) i
-  entries = open-entries g m d c i hint opened x full keep
+  entries = open_entries g m d c i hint opened x full keep
 
   big : 1 ≤ y.size
   big = let l = (fits g m d c).laid.size_low in omega arith
 
   fewer : keep ≤ clusters_for y.size (data_length s)
-  fewer = clusters-mono y.size big len (data_length s) (omega arith)
+  fewer = clusters_mono y.size big len (data_length s) (omega arith)
 
   -- the kept stream
   reads : number_of (stream_of y d₂ b') ≡ 0
   reads = (cut-shorter g m d c i hint opened x full keep).moved.family.reads (suc i) b' (upd_same (upd (members g d) 0 (some (root g d))) (suc i) (some b'))
 
-  listed-now : stream_of y d₂ b' ≡ listed (clusters_in y d₂ b')
-  listed-now = reads_as y d₂ b' reads
+  listed_now : stream_of y d₂ b' ≡ listed (clusters_in y d₂ b')
+  listed_now = reads_as y d₂ b' reads
 
   all : clusters_for y.size len ≡ b'.count
   all =
       omega (
         arith,
-        clusters-length y d₂ b' reads,
-        ap length (cut-clusters g m d c i hint opened x full keep),
-        length-take-le keep ks (omega (arith, fewer, slot-takes g m d c i s own)),
+        clusters_length y d₂ b' reads,
+        ap length (cut_clusters g m d c i hint opened x full keep),
+        length-take-le keep ks (omega (arith, fewer, slot_takes g m d c i s own)),
       )
 
   bare : b'.count ≡ 0 → b' ≡ empty
@@ -147,78 +147,78 @@ module _ (g : Geometry) (m d : List ℕ) (c : Consistent g m d) (i len : ℕ) (t
   fit' : Fit y.count y.size n x
   fit' =
       subst (λ (k : ℕ). Fit y.count y.size k x) (sym entries)
-      (recorded-fit y d₂ (cut_fits g m d c i hint opened x full keep) b' (clusters_in y d₂ b') listed-now len all bare valid' valid_le
+      (recorded_fit y d₂ (cut_fits g m d c i hint opened x full keep) b' (clusters_in y d₂ b') listed_now len all bare valid' valid_le
       (entries_at (root_bytes g d) i) s fit t)
 
-  data-now : data_length x ≡ len
-  data-now =
-      recorded-data y d₂ (cut_fits g m d c i hint opened x full keep) b' (clusters_in y d₂ b') listed-now len all bare valid' valid_le
+  data_now : data_length x ≡ len
+  data_now =
+      recorded_data y d₂ (cut_fits g m d c i hint opened x full keep) b' (clusters_in y d₂ b') listed_now len all bare valid' valid_le
       (entries_at (root_bytes g d) i) s fit t
 
-  valid-now : valid_length x ≡ valid'
-  valid-now =
-      recorded-valid y d₂ (cut_fits g m d c i hint opened x full keep) b' (clusters_in y d₂ b') listed-now len all bare valid' valid_le
+  valid_now : valid_length x ≡ valid'
+  valid_now =
+      recorded_valid y d₂ (cut_fits g m d c i hint opened x full keep) b' (clusters_in y d₂ b') listed_now len all bare valid' valid_le
       (entries_at (root_bytes g d) i) s fit t
 
-  kind-now : is_directory x ≡ false
-  kind-now =
-      recorded-directory y d₂ (cut_fits g m d c i hint opened x full keep) b' (clusters_in y d₂ b') listed-now len all bare valid' valid_le
+  kind_now : is_directory x ≡ false
+  kind_now =
+      recorded_directory y d₂ (cut_fits g m d c i hint opened x full keep) b' (clusters_in y d₂ b') listed_now len all bare valid' valid_le
       (entries_at (root_bytes g d) i) s fit t
-      ∙ open-file g m d i hint opened
+      ∙ open_file_lem g m d i hint opened
 
   back : file_record y d₂ x ≡ b'
   back =
-      recorded-back y d₂ (cut_fits g m d c i hint opened x full keep) b' (clusters_in y d₂ b') listed-now len all bare valid' valid_le
+      recorded_back y d₂ (cut_fits g m d c i hint opened x full keep) b' (clusters_in y d₂ b') listed_now len all bare valid' valid_le
       (entries_at (root_bytes g d) i) s fit t
 
-  back-of : (s' : List ℕ) → some x ≡ some s' → file_record y d₂ s' ≡ b'
-  back-of s' q = ap (file_record y d₂) (sym (some-injective x s' q)) ∙ back
+  back_of : (s' : List ℕ) → some x ≡ some s' → file_record y d₂ s' ≡ b'
+  back_of s' q = ap (file_record y d₂) (sym (some-injective x s' q)) ∙ back
 
   change : Change g m d d₂ 0 i (some x)
   change =
       let f = (sets-some (root_bytes g d) i s own).0 in
-      cut-change g m d c i hint opened x full keep (some x) (some b') (cut-shorter g m d c i hint opened x full keep).moved
-      (replaced-ordered y.count y.size (root_bytes g d) i n x (ordered g m d c) f entries fit')
-      (replaced-sets y.count y.size (root_bytes g d) i n x (ordered g m d c) f entries fit')
+      cut_change g m d c i hint opened x full keep (some x) (some b') (cut-shorter g m d c i hint opened x full keep).moved
+      (replaced_ordered y.count y.size (root_bytes g d) i n x (ordered g m d c) f entries fit')
+      (replaced_sets y.count y.size (root_bytes g d) i n x (ordered g m d c) f entries fit')
       (unfold entries_put in (ap (λ (k : ℕ). take (32 * k) x) (recorded-entries s b' valid' len t)))
-      (λ s' q. ap some (sym (back-of s' q)))
+      (λ s' q. ap some (sym (back_of s' q)))
       (λ s' q k r.
-      slot-off g m d c i s own k
+      slot_off g m d c i s own k
       (mem_take keep ks
-      (subst (Mem k) (ap (clusters_in y d₂) (back-of s' q) ∙ cut-clusters g m d c i hint opened x full keep) r)))
-      (omega (arith, cut-marks g m d c i hint opened x full keep, taken-before, taken-now, fewer))
+      (subst (Mem k) (ap (clusters_in y d₂) (back_of s' q) ∙ cut_clusters g m d c i hint opened x full keep) r)))
+      (omega (arith, cut_marks g m d c i hint opened x full keep, taken_before, taken_now, fewer))
     where
-      taken-before : takes y (sets (root_bytes g d) i) ≡ clusters_for y.size (data_length s)
-      taken-before = ap (takes y) own ∙ (unfold takes in refl)
+      taken_before : takes y (sets (root_bytes g d) i) ≡ clusters_for y.size (data_length s)
+      taken_before = ap (takes y) own ∙ (unfold takes in refl)
 
-      taken-now : takes y (some x) ≡ clusters_for y.size len
-      taken-now = unfold takes in (ap (clusters_for y.size) data-now)
+      taken_now : takes y (some x) ≡ clusters_for y.size len
+      taken_now = unfold takes in (ap (clusters_for y.size) data_now)
 
   -- what it showed, and shows
   before : contents g d i ≡ some (shown (bytes_in y d b) (valid_length s) (data_length s))
   before =
-      contents-is g d (ordered g m d c) i ∙ ap (contents_of y d) own
+      contents_is g d (ordered g m d c) i ∙ ap (contents_of y d) own
       ∙ (unfold contents_of in
-      (ap (λ (k : Bool). cond k none (some (shown (bytes_in y d b) (valid_length s) (data_length s)))) (open-file g m d i hint opened)))
+      (ap (λ (k : Bool). cond k none (some (shown (bytes_in y d b) (valid_length s) (data_length s)))) (open_file_lem g m d i hint opened)))
 
   room : data_length s ≤ length (bytes_in y d b)
   room =
       omega (
         arith,
-        bytes-length y d b (slot-number g m d c i s own) (fits g m d c),
-        clusters-hold y.size big (data_length s),
-        ap (λ (k : ℕ). k * y.size) (slot-takes g m d c i s own),
+        bytes_length y d b (slot_number g m d c i s own) (fits g m d c),
+        clusters_hold y.size big (data_length s),
+        ap (λ (k : ℕ). k * y.size) (slot_takes g m d c i s own),
       )
 
   after : contents_of y d₂ (some x) ≡ some (resize (shown (bytes_in y d b) (valid_length s) (data_length s)) len)
   unfolding contents_of
   after =
-      ap (λ (k : Bool). cond k none (some (shown (bytes_in y d₂ (file_record y d₂ x)) (valid_length x) (data_length x)))) kind-now
+      ap (λ (k : Bool). cond k none (some (shown (bytes_in y d₂ (file_record y d₂ x)) (valid_length x) (data_length x)))) kind_now
       ∙ ap some
-      (ap₂ (λ (v l : ℕ). shown (bytes_in y d₂ (file_record y d₂ x)) v l) valid-now data-now
-      ∙ ap (λ (bs : List ℕ). shown bs valid' len) (ap (bytes_in y d₂) back ∙ cut-bytes g m d c i hint opened x full keep)
-      ∙ shown-shorter (bytes_in y d b) (valid_length s) (data_length s) (formed-lengths y.count y.size s fit.formed).valid room
-      (keep * y.size) len (omega arith) (clusters-hold y.size big len))
+      (ap₂ (λ (v l : ℕ). shown (bytes_in y d₂ (file_record y d₂ x)) v l) valid_now data_now
+      ∙ ap (λ (bs : List ℕ). shown bs valid' len) (ap (bytes_in y d₂) back ∙ cut_bytes g m d c i hint opened x full keep)
+      ∙ shown-shorter (bytes_in y d b) (valid_length s) (data_length s) (formed_lengths y.count y.size s fit.formed).valid room
+      (keep * y.size) len (omega arith) (clusters_hold y.size big len))
 
   same : contents_of y d₂ (some x) ≡ onto (λ l. resize l len) (contents g d i)
   same = after ∙ sym (ap (onto (λ l. resize l len)) before ∙ (unfold onto in refl))
@@ -229,7 +229,7 @@ module _ (g : Geometry) (m d : List ℕ) (c : Consistent g m d) (i len : ℕ) (t
 
   hinted : hint ≡ hint_answered g d d₂ (SetLength i len t hint)
   unfolding hint_of must_add beyond
-  hinted = hint-none g d d₂ (SetLength i len t hint) (omega (arith, fewer))
+  hinted = hint_none g d d₂ (SetLength i len t hint) (omega (arith, fewer))
 
   pub shorter-step : Step g m d (SetLength i len t hint)
   unfolding call_slot accepted finds has_list root_adds slot_answered

@@ -9,7 +9,7 @@ use native.Mathlib.Omega.{arith}
 use lib.ListN.{length, get_or, take, drop, replicate, length-append, length-take, length-drop, length-replicate, replicate-append-replicate, get_or-append, get_or-eq_default}
 use lib.Seq.{length-take-le, take_all, take-append-le, take_at, get_or-take, get_or-drop, get_or-append-add, ext_get_or}
 use Rattle.primitives.specs.Splice.{splice}
-use Rattle.primitives.proofs.SpliceLaws.{length-splice, splice-in, splice-off}
+use Rattle.primitives.proofs.SpliceLaws.{length-splice, splice_in, splice_off}
 use Rattle.entry_set.proofs.NewLaws.{get_d_zeros}
 use Rattle.directory.specs.Open.{shown}
 use Rattle.read_file.proofs.PartLaws.{length-shown}
@@ -28,13 +28,13 @@ at_right a b i h =
 -- ---- what is shown, by place
 
 module _ (bs : List ℕ) (valid len : ℕ) (stored : valid ≤ length bs) (v : valid ≤ len) where
-  pub shown-below : (i : ℕ) → i < valid → get_or (shown bs valid len) i 0 ≡ get_or bs i 0
+  pub shown_below : (i : ℕ) → i < valid → get_or (shown bs valid len) i 0 ≡ get_or bs i 0
   unfolding shown
-  shown-below i h = at_left (take valid bs) (replicate (len - valid) 0) i (rw (length-take-le valid bs stored) h) ∙ get_or-take valid bs i 0 h
+  shown_below i h = at_left (take valid bs) (replicate (len - valid) 0) i (rw (length-take-le valid bs stored) h) ∙ get_or-take valid bs i 0 h
 
-  pub shown-above : (i : ℕ) → valid ≤ i → get_or (shown bs valid len) i 0 ≡ 0
+  pub shown_above : (i : ℕ) → valid ≤ i → get_or (shown bs valid len) i 0 ≡ 0
   unfolding shown
-  shown-above i h =
+  shown_above i h =
       at_right (take valid bs) (replicate (len - valid) 0) i (rw (length-take-le valid bs stored) h)
       ∙ get_d_zeros (len - valid) (i - length (take valid bs))
 
@@ -81,16 +81,16 @@ module _ (l : List ℕ) (offset : ℕ) (bs : List ℕ) where
             ∙ sym (get_or-eq_default l 0 (omega arith))
       ]
 
-  pub over-in : (r : ℕ) → r < length bs → get_or (overwrite l offset bs) (offset + r) 0 ≡ get_or bs r 0
+  pub over_in : (r : ℕ) → r < length bs → get_or (overwrite l offset bs) (offset + r) 0 ≡ get_or bs r 0
   unfolding overwrite
-  over-in r h =
+  over_in r h =
       let e : offset + r - length front ≡ r = omega (arith, front_length) in
       at_right front (bs ++ drop (offset + length bs) l) (offset + r) (omega (arith, front_length))
       ∙ ap (λ (x : ℕ). get_or (bs ++ drop (offset + length bs) l) x 0) e ∙ at_left bs (drop (offset + length bs) l) r h
 
-  pub over-above : (i : ℕ) → offset + length bs ≤ i → get_or (overwrite l offset bs) i 0 ≡ get_or l i 0
+  pub over_above : (i : ℕ) → offset + length bs ≤ i → get_or (overwrite l offset bs) i 0 ≡ get_or l i 0
   unfolding overwrite
-  over-above i h =
+  over_above i h =
       let e : i - length front ≡ i - offset = omega (arith, front_length) in
       let f : offset + length bs + (i - offset - length bs) ≡ i = omega arith in
       at_right front (bs ++ drop (offset + length bs) l) i (omega (arith, front_length))
@@ -110,31 +110,31 @@ module _ (R : List ℕ) (valid len offset : ℕ) (bs : List ℕ) (stored : valid
   zeros : length {A = ℕ} (replicate (offset - valid) 0) ≡ offset - valid
   zeros = length-replicate {A = ℕ} (offset - valid) 0
 
-  length-zeroed : length zeroed ≡ length R
-  length-zeroed = length-splice R valid (replicate (offset - valid) 0) (omega (arith, zeros))
+  length_zeroed : length zeroed ≡ length R
+  length_zeroed = length-splice R valid (replicate (offset - valid) 0) (omega (arith, zeros))
 
   length-written : length written ≡ length R
-  length-written = length-splice zeroed offset bs (omega (arith, length-zeroed)) ∙ length-zeroed
+  length-written = length-splice zeroed offset bs (omega (arith, length_zeroed)) ∙ length_zeroed
 
   written_in : (r : ℕ) → r < length bs → get_or written (offset + r) 0 ≡ get_or bs r 0
-  written_in r h = splice-in zeroed offset bs (omega (arith, length-zeroed)) r h
+  written_in r h = splice_in zeroed offset bs (omega (arith, length_zeroed)) r h
 
-  written-off : (i : ℕ) → ((r : ℕ) → r < length bs → i ≢ offset + r) → get_or written i 0 ≡ get_or zeroed i 0
-  written-off i o = splice-off zeroed offset bs (omega (arith, length-zeroed)) i o
+  written_off : (i : ℕ) → ((r : ℕ) → r < length bs → i ≢ offset + r) → get_or written i 0 ≡ get_or zeroed i 0
+  written_off i o = splice_off zeroed offset bs (omega (arith, length_zeroed)) i o
 
-  zeroed-off : (i : ℕ) → ((r : ℕ) → r < offset - valid → i ≢ valid + r) → get_or zeroed i 0 ≡ get_or R i 0
-  zeroed-off i o = splice-off R valid (replicate (offset - valid) 0) (omega (arith, zeros)) i (λ r h. o r (omega (arith, zeros)))
+  zeroed_off : (i : ℕ) → ((r : ℕ) → r < offset - valid → i ≢ valid + r) → get_or zeroed i 0 ≡ get_or R i 0
+  zeroed_off i o = splice_off R valid (replicate (offset - valid) 0) (omega (arith, zeros)) i (λ r h. o r (omega (arith, zeros)))
 
-  zeroed-in : (i : ℕ) → valid ≤ i → i < offset → get_or zeroed i 0 ≡ 0
-  zeroed-in i a b =
+  zeroed_in : (i : ℕ) → valid ≤ i → i < offset → get_or zeroed i 0 ≡ 0
+  zeroed_in i a b =
       let e : i ≡ valid + (i - valid) = omega arith in
       ap (λ (x : ℕ). get_or zeroed x 0) e
-      ∙ splice-in R valid (replicate (offset - valid) 0) (omega (arith, zeros)) (i - valid) (omega (arith, zeros))
+      ∙ splice_in R valid (replicate (offset - valid) 0) (omega (arith, zeros)) (i - valid) (omega (arith, zeros))
       ∙ get_d_zeros (offset - valid) (i - valid)
 
-  write-all : 1 ≤ length bs
+  write_all : 1 ≤ length bs
       → shown written (max valid (offset + length bs)) (max len (offset + length bs)) ≡ overwrite (shown R valid len) offset bs
-  write-all some =
+  write_all some =
       ext_get_or 0 new (overwrite old offset bs)
       (length-shown written valid' len' s' v' ∙ sym (length_over old offset bs ∙ ap (λ (x : ℕ). max x (offset + length bs)) (length-shown R valid len stored v)))
       (λ i _. at i (dec_lt i offset) (dec_lt i (offset + length bs)) (dec_lt i valid))
@@ -158,26 +158,26 @@ module _ (R : List ℕ) (valid len offset : ℕ) (bs : List ℕ) (stored : valid
       v' = omega arith
 
       below : (i : ℕ) → i < max valid (offset + length bs) → get_or new i 0 ≡ get_or written i 0
-      below i h = shown-below written valid' len' s' v' i h
+      below i h = shown_below written valid' len' s' v' i h
 
       at : (i : ℕ) → Dec (i < offset) → Dec (i < offset + length bs) → Dec (i < valid) → get_or new i 0 ≡ get_or (overwrite old offset bs) i 0
       at i (yes a) b (yes c) =
-          below i (omega arith) ∙ written-off i (λ r h. omega arith) ∙ zeroed-off i (λ r h. omega arith)
-          ∙ sym (over_below old offset bs i a ∙ shown-below R valid len stored v i c)
+          below i (omega arith) ∙ written_off i (λ r h. omega arith) ∙ zeroed_off i (λ r h. omega arith)
+          ∙ sym (over_below old offset bs i a ∙ shown_below R valid len stored v i c)
       at i (yes a) b (no c) =
-          below i (omega arith) ∙ written-off i (λ r h. omega arith) ∙ zeroed-in i (omega arith) a
-          ∙ sym (over_below old offset bs i a ∙ shown-above R valid len stored v i (omega arith))
+          below i (omega arith) ∙ written_off i (λ r h. omega arith) ∙ zeroed_in i (omega arith) a
+          ∙ sym (over_below old offset bs i a ∙ shown_above R valid len stored v i (omega arith))
       at i (no a) (yes b) c =
           let r : ℕ = i - offset in
           let e : i ≡ offset + r = omega arith in
           ap (λ (x : ℕ). get_or new x 0) e ∙ below (offset + r) (omega arith) ∙ written_in r (omega arith)
-          ∙ sym (ap (λ (x : ℕ). get_or (overwrite old offset bs) x 0) e ∙ over-in old offset bs r (omega arith))
+          ∙ sym (ap (λ (x : ℕ). get_or (overwrite old offset bs) x 0) e ∙ over_in old offset bs r (omega arith))
       at i (no a) (no b) (yes c) =
-          below i (omega arith) ∙ written-off i (λ r h. omega arith) ∙ zeroed-off i (λ r h. omega arith)
-          ∙ sym (over-above old offset bs i (omega arith) ∙ shown-below R valid len stored v i c)
+          below i (omega arith) ∙ written_off i (λ r h. omega arith) ∙ zeroed_off i (λ r h. omega arith)
+          ∙ sym (over_above old offset bs i (omega arith) ∙ shown_below R valid len stored v i c)
       at i (no a) (no b) (no c) =
-          shown-above written valid' len' s' v' i (omega arith)
-          ∙ sym (over-above old offset bs i (omega arith) ∙ shown-above R valid len stored v i (omega arith))
+          shown_above written valid' len' s' v' i (omega arith)
+          ∙ sym (over_above old offset bs i (omega arith) ∙ shown_above R valid len stored v i (omega arith))
 
 -- data written to a stream of bytes B that grew by X
 pub shown-written : (B X : List ℕ) (valid len offset : ℕ) (bs : List ℕ) → valid ≤ len → len ≤ length B → 1 ≤ length bs
@@ -186,7 +186,7 @@ pub shown-written : (B X : List ℕ) (valid len offset : ℕ) (bs : List ℕ) �
     ≡ overwrite (shown B valid len) offset bs
 shown-written B X valid len offset bs v l some room =
     let n = length-append B X in
-    write-all (B ++ X) valid len offset bs (omega arith) v (omega (arith, room)) some
+    write_all (B ++ X) valid len offset bs (omega arith) v (omega (arith, room)) some
     ∙ ap (λ (l : List ℕ). overwrite l offset bs) (shown_front B X valid len (omega arith))
 
 -- ---- a new length
@@ -254,16 +254,16 @@ module _ (B : List ℕ) (valid len : ℕ) (v : valid ≤ len) (l : len ≤ lengt
       at : (i : ℕ) → i < len' → Dec (i < valid)
           → get_or (shown (take k B) (min valid len') len') i 0 ≡ get_or (take len' old ++ replicate (len' - length old) 0) i 0
       at i h (yes c) =
-          shown-below (take k B) (min valid len') len' s' (omega arith) i (omega arith) ∙ get_or-take k B i 0 (omega arith)
-          ∙ sym (model i h ∙ shown-below B valid len (omega arith) v i c)
+          shown_below (take k B) (min valid len') len' s' (omega arith) i (omega arith) ∙ get_or-take k B i 0 (omega arith)
+          ∙ sym (model i h ∙ shown_below B valid len (omega arith) v i c)
       at i h (no c) =
-          shown-above (take k B) (min valid len') len' s' (omega arith) i (omega arith)
-          ∙ sym (model i h ∙ shown-above B valid len (omega arith) v i (omega arith))
+          shown_above (take k B) (min valid len') len' s' (omega arith) i (omega arith)
+          ∙ sym (model i h ∙ shown_above B valid len (omega arith) v i (omega arith))
 
   -- equal
-  pub shown-same : resize (shown B valid len) len ≡ shown B valid len
+  pub shown_same : resize (shown B valid len) len ≡ shown B valid len
   unfolding resize
-  shown-same =
+  shown_same =
       let e : len - length (shown B valid len) ≡ 0 = omega (arith, old-length) in
       ap₂ (λ (u : List ℕ) (n : ℕ). u ++ replicate n 0) (take_all len (shown B valid len) (omega (arith, old-length))) e
       ∙ append-nil (shown B valid len)

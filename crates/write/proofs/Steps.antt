@@ -11,7 +11,7 @@ use lib.ListN.{length}
 use borrow.Author.Tests.{eq-eqb, ne_eqb}
 use Rattle.tables.specs.Table.{upd}
 use Rattle.tables.proofs.Cases.{cond_case}
-use Rattle.tables.proofs.TableLaws.{upd_same, upd_other, upd-case}
+use Rattle.tables.proofs.TableLaws.{upd_same, upd_other, upd_case}
 use Rattle.boot.specs.declared.geometry.Geometry.{Geometry}
 use Rattle.boot.specs.declared.layout.Layout.{Layout}
 use Rattle.metadata.specs.Marks.{allocated_count}
@@ -27,7 +27,7 @@ use Rattle.write.specs.Model.{overwrite, resize, onto, accepted, finds, fed, mod
 use Rattle.write.specs.Space.{clusters_taken}
 use Rattle.write.specs.Demand.{call_slot, set_after, entries_at_slot, root_adds, root_grown, slot_answered, hint_answered, Lost, Done, Demand}
 use Rattle.write.proofs.Scene.{lay_same}
-use Rattle.write.proofs.Change.{contents_of, Change, change-consistent, change-lost, change-sets, change-root-bytes, change-root-clusters, change-other-clusters, change-other-bytes, change-contents, change-marks}
+use Rattle.write.proofs.Change.{contents_of, Change, change_consistent, change_lost, change_sets, change_root_bytes, change_root_clusters, change_other_clusters, change_other_bytes, change_contents, change_marks}
 use Rattle.write.proofs.Kept.{outer_kept, bits_kept, bitmap_rest_kept, foreign_kept, fats_alike, bitmaps_alike, lost_foreign}
 use Rattle.write.proofs.ReadAgain.{read-contents}
 use Rattle.write.proofs.Answers.{refused_same, refused_volume, numbered, seven, carried_out}
@@ -103,8 +103,8 @@ accepted-step : (g : Geometry) (m d : List ℕ) (c : Call) → Consistent g m d 
     → (step g m d c).answer.hint ≡ hint_answered g d (step g m d c).volume c
     → Step g m d c
 accepted-step g m d c w z h v f slot hinted = record {
-  consistent = change-consistent g m d (step g m d c).volume _ _ _ w h;
-  agree = λ j. change-contents g m d (step g m d c).volume _ _ _ w h j ∙ at j ∙ sym (fed-is j);
+  consistent = change_consistent g m d (step g m d c).volume _ _ _ w h;
+  agree = λ j. change_contents g m d (step g m d c).volume _ _ _ w h j ∙ at j ∙ sym (fed_is j);
   found = λ _. f;
   done = record {
     number = numbered g m d c;
@@ -119,24 +119,24 @@ accepted-step g m d c w z h v f slot hinted = record {
     slot_defined = λ _. slot;
     hint_defined = λ _. hinted;
     entries_defined = λ _. entry;
-    root_bytes_are = λ _. unfold root_grown in (change-root-bytes g m d (step g m d c).volume _ _ _ w h);
-    root_clusters_are = λ _. change-root-clusters g m d (step g m d c).volume _ _ _ w h;
-    others_set = other-set;
-    others_clusters = change-other-clusters g m d (step g m d c).volume _ _ _ w h;
-    others_bytes = change-other-bytes g m d (step g m d c).volume _ _ _ w h;
+    root_bytes_are = λ _. unfold root_grown in (change_root_bytes g m d (step g m d c).volume _ _ _ w h);
+    root_clusters_are = λ _. change_root_clusters g m d (step g m d c).volume _ _ _ w h;
+    others_set = other_set;
+    others_clusters = change_other_clusters g m d (step g m d c).volume _ _ _ w h;
+    others_bytes = change_other_bytes g m d (step g m d c).volume _ _ _ w h;
   };
-  marks = change-marks g m d (step g m d c).volume _ _ _ w h;
-  lost = change-lost g m d (step g m d c).volume _ _ _ w h;
+  marks = change_marks g m d (step g m d c).volume _ _ _ w h;
+  lost = change_lost g m d (step g m d c).volume _ _ _ w h;
 }
   where
-    fed-is : (j : ℕ) → fed (contents g d) c (step g m d c).answer j ≡ accepted (contents g d) c (step g m d c).answer.slot j
-    fed-is j = unfold fed in (rw (eq-eqb (step g m d c).answer.number 0 z) refl)
+    fed_is : (j : ℕ) → fed (contents g d) c (step g m d c).answer j ≡ accepted (contents g d) c (step g m d c).answer.slot j
+    fed_is j = unfold fed in (rw (eq-eqb (step g m d c).answer.number 0 z) refl)
 
     at : (j : ℕ)
         → upd (contents g d) (call_slot c (step g m d c).answer.slot) (contents_of (lay g d) (step g m d c).volume (set_after g m d c)) j
         ≡ accepted (contents g d) c (step g m d c).answer.slot j
     at j =
-        upd-case (λ (x : Option (List ℕ)). x ≡ accepted (contents g d) c (step g m d c).answer.slot j) (contents g d)
+        upd_case (λ (x : Option (List ℕ)). x ≡ accepted (contents g d) c (step g m d c).answer.slot j) (contents g d)
         (call_slot c (step g m d c).answer.slot) (contents_of (lay g d) (step g m d c).volume (set_after g m d c)) j
         (λ q. v ∙ ap (accepted (contents g d) c (step g m d c).answer.slot) (sym q))
         (λ q. sym (accepted_other (contents g d) c (step g m d c).answer.slot j q))
@@ -144,12 +144,12 @@ accepted-step g m d c w z h v f slot hinted = record {
     entry : entries_at_slot g (step g m d c).volume (call_slot c (step g m d c).answer.slot) ≡ set_after g m d c
     entry =
         slot_entries g (step g m d c).volume (call_slot c (step g m d c).answer.slot)
-        ∙ change-sets g m d (step g m d c).volume _ _ _ w h (call_slot c (step g m d c).answer.slot)
+        ∙ change_sets g m d (step g m d c).volume _ _ _ w h (call_slot c (step g m d c).answer.slot)
         ∙ upd_same (sets (root_bytes g d)) (call_slot c (step g m d c).answer.slot) (set_after g m d c)
 
-    other-set : (j : ℕ) → j ≢ call_slot c (step g m d c).answer.slot → entries_at_slot g (step g m d c).volume j ≡ entries_at_slot g d j
-    other-set j n =
-        slot_entries g (step g m d c).volume j ∙ change-sets g m d (step g m d c).volume _ _ _ w h j
+    other_set : (j : ℕ) → j ≢ call_slot c (step g m d c).answer.slot → entries_at_slot g (step g m d c).volume j ≡ entries_at_slot g d j
+    other_set j n =
+        slot_entries g (step g m d c).volume j ∙ change_sets g m d (step g m d c).volume _ _ _ w h j
         ∙ upd_other (sets (root_bytes g d)) (call_slot c (step g m d c).answer.slot) (set_after g m d c) j n ∙ sym (slot_entries g d j)
 
 -- the same by its outcome and the set that it leaves
@@ -174,10 +174,10 @@ carried_step g m d c slot hint d' more o w e after adds place hinted h shows fou
 -- ---- every list of calls
 
 module _ (g : Geometry) (m : List ℕ) (one : (d : List ℕ) (c : Call) → Consistent g m d → Step g m d c) where
-  run-consistent : (d : List ℕ) (cs : List Call) → Consistent g m d → Consistent g m (run g m d cs)
+  run_consistent : (d : List ℕ) (cs : List Call) → Consistent g m d → Consistent g m (run g m d cs)
   unfolding run
-  run-consistent d [] w = w
-  run-consistent d (c ∷ cs) w = run-consistent (step g m d c).volume cs (one d c w).consistent
+  run_consistent d [] w = w
+  run_consistent d (c ∷ cs) w = run_consistent (step g m d c).volume cs (one d c w).consistent
 
   run-contents : (d : List ℕ) (cs : List Call) → Consistent g m d → (i : ℕ)
       → contents g (run g m d cs) i ≡ model (contents g d) cs (answers g m d cs) i
@@ -202,38 +202,38 @@ module _ (g : Geometry) (m : List ℕ) (one : (d : List ℕ) (c : Call) → Cons
         ap (λ (y : Layout). allocated_count y (run g m (step g m d c).volume cs)) e,
       )
 
-  run-lost : (d : List ℕ) (cs : List Call) → Consistent g m d → (k : ℕ) → Lost g d k → Lost g (run g m d cs) k
+  run_lost : (d : List ℕ) (cs : List Call) → Consistent g m d → (k : ℕ) → Lost g d k → Lost g (run g m d cs) k
   unfolding run
-  run-lost d [] w k l = l
-  run-lost d (c ∷ cs) w k l = run-lost (step g m d c).volume cs (one d c w).consistent k ((one d c w).lost k l)
+  run_lost d [] w k l = l
+  run_lost d (c ∷ cs) w k l = run_lost (step g m d c).volume cs (one d c w).consistent k ((one d c w).lost k l)
 
   run_length : (d : List ℕ) (cs : List Call) → Consistent g m d → length (run g m d cs) ≡ length d
   unfolding run
   run_length d [] w = refl
   run_length d (c ∷ cs) w = let s = one d c w in run_length (step g m d c).volume cs s.consistent ∙ s.done.same_length
 
-  run-intact : (d : List ℕ) (cs : List Call) → Consistent g m d → (k : ℕ) → Lost g d k → Intact (lay g d) d (run g m d cs) k
+  run_intact : (d : List ℕ) (cs : List Call) → Consistent g m d → (k : ℕ) → Lost g d k → Intact (lay g d) d (run g m d cs) k
   unfolding run
-  run-intact d [] w k l = intact_same (lay g d) d k
-  run-intact d (c ∷ cs) w k l =
+  run_intact d [] w k l = intact_same (lay g d) d k
+  run_intact d (c ∷ cs) w k l =
       let s = one d c w in
       let v = (step g m d c).volume in
       intact_again (lay g d) d v (run g m v cs) k (s.done.foreign_kept k (lost_foreign g m d (call_slot c (step g m d c).answer.slot) k l))
-      (subst (λ (y : Layout). Intact y v (run g m v cs) k) (lay_same g d v s.done.same_length) (run-intact v cs s.consistent k (s.lost k l)))
+      (subst (λ (y : Layout). Intact y v (run g m v cs) k) (lay_same g d v s.done.same_length) (run_intact v cs s.consistent k (s.lost k l)))
 
   pub every : (d : List ℕ) (cs : List Call) → Consistent g m d → Demand g m d cs
   every d cs w = record {
-    consistent = run-consistent d cs w;
+    consistent = run_consistent d cs w;
     contents_agree = run-contents d cs w;
-    reads_back = λ z e i n h. read-contents g m (run g m d cs) (run-consistent d cs w) z e i n h ∙ run-contents d cs w i;
+    reads_back = λ z e i n h. read-contents g m (run g m d cs) (run_consistent d cs w) z e i n h ∙ run-contents d cs w i;
     slots_fit = λ before rest e c z.
         let v = run g m d before in
-        ap (finds c) (sym (run-contents d before w (call_slot c (step g m v c).answer.slot))) ∙ (one v c (run-consistent d before w)).found z;
-    each_call = λ before rest e c. (one (run g m d before) c (run-consistent d before w)).done;
+        ap (finds c) (sym (run-contents d before w (call_slot c (step g m v c).answer.slot))) ∙ (one v c (run_consistent d before w)).found z;
+    each_call = λ before rest e c. (one (run g m d before) c (run_consistent d before w)).done;
     marks_add_up = run_marks d cs w;
-    lost_kept = run-lost d cs w;
-    lost_entry = λ k l. let i = run-intact d cs w k l in (i.entry0, i.entry1);
-    lost_bytes = λ k l o. cluster_cong (lay g d) d (run g m d cs) k (run_length d cs w) ((run-intact d cs w k l).bytes o);
+    lost_kept = run_lost d cs w;
+    lost_entry = λ k l. let i = run_intact d cs w k l in (i.entry0, i.entry1);
+    lost_bytes = λ k l o. cluster_cong (lay g d) d (run g m d cs) k (run_length d cs w) ((run_intact d cs w k l).bytes o);
     seven = seven g m (run g m d cs);
     carried_out = carried_out g m (run g m d cs);
   }

@@ -10,7 +10,7 @@ use lib.ListN.{length, take}
 use lib.Seq.{take-append_seam}
 use Rattle.tables.specs.Lists.{Mem, every}
 use Rattle.tables.specs.Count.{count}
-use Rattle.tables.proofs.ListLaws.{mem_append, every-mem, mem-every}
+use Rattle.tables.proofs.ListLaws.{mem_append, every_mem, mem_every}
 use Rattle.boot.specs.declared.layout.Layout.{Layout}
 use Rattle.boot.specs.Layout.{in_heap}
 use Rattle.metadata.specs.Fat.{fat_entry}
@@ -25,11 +25,11 @@ use Rattle.stream.specs.Stream.{stream_of, clusters_in}
 use Rattle.stream.proofs.Distinct.{stream_frame}
 use Rattle.stream.specs.Bytes.{bytes_in}
 use Rattle.directory.specs.Room.{with_zeros}
-use Rattle.directory.proofs.DirectoryLaws.{clusters-heap, clusters-length}
+use Rattle.directory.proofs.DirectoryLaws.{clusters_heap, clusters_length}
 use Rattle.write_dir.specs.Place.{GrownDirectory, grow_by}
-use Rattle.write_dir.proofs.AddedLaws.{Zeroed, zeroed-clusters, zeroed-count, grow_many}
-use Rattle.write_dir.proofs.GrownLaws.{zeroed-off, zeroed-bytes, zeroed-in, Led, grow_led}
-use Rattle.write.proofs.Reading.{number-of, reads_as}
+use Rattle.write_dir.proofs.AddedLaws.{Zeroed, zeroed_clusters, zeroed_count, grow_many}
+use Rattle.write_dir.proofs.GrownLaws.{zeroed_off, zeroed_bytes, zeroed_in, Led, grow_led}
+use Rattle.write.proofs.Reading.{number_of_lem, reads_as}
 use Rattle.write.proofs.Family.{Family, Outside, Moved, moved}
 use Rattle.write.proofs.Resized.{Mapped}
 
@@ -74,14 +74,14 @@ module _ (y : Layout) (m : List ℕ) (mapped : Mapped y m) (i n : ℕ) (g : Grow
   z = grown.2
 
   clusters : clusters_in y d' v.directory ≡ old ++ new
-  clusters = zeroed-clusters y d m v old new z
+  clusters = zeroed_clusters y d m v old new z
 
   -- no member has a new cluster
   off : (j : ℕ) (b : Allocation) → S j ≡ some b → (k : ℕ) → Mem k (clusters_in y d b) → Mem k new → ⊥
-  off j b t = zeroed-off y d m v old new w z b (clusters_in y d b) (reads_as y d b (f.reads j b t))
+  off j b t = zeroed_off y d m v old new w z b (clusters_in y d b) (reads_as y d b (f.reads j b t))
 
-  off-marked : (k : ℕ) → Outside y d S k → Mem k new → ⊥
-  off-marked k l q = false≢true (sym (z.unmarked k q) ∙ l.mark)
+  off_marked : (k : ℕ) → Outside y d S k → Mem k new → ⊥
+  off_marked k l q = false≢true (sym (z.unmarked k q) ∙ l.mark)
 
   other : (j : ℕ) (b : Allocation) → j ≢ i → S j ≡ some b → stream_of y d' b ≡ stream_of y d b
   unfolding stream_of
@@ -94,24 +94,24 @@ module _ (y : Layout) (m : List ℕ) (mapped : Mapped y m) (i n : ℕ) (g : Grow
       e = reads_as y d b (f.reads j b t)
 
       heap : (k : ℕ) → Mem k (clusters_in y d b) → in_heap y.count k ≡ true
-      heap k p = every-mem (in_heap y.count) (clusters_in y d b) (clusters-heap y d b (f.reads j b t)) k p
+      heap k p = every_mem (in_heap y.count) (clusters_in y d b) (clusters_heap y d b (f.reads j b t)) k p
 
   all_plain : every (plain y) (old ++ new) ≡ true
   all_plain =
-      mem-every (plain y) (old ++ new)
-      (λ k q. ⊎_elim (every-mem (plain y) old (f.plains i a s) k) (every-mem (plain y) new z.plains k) (mem_append old q))
+      mem_every (plain y) (old ++ new)
+      (λ k q. ⊎_elim (every_mem (plain y) old (f.plains i a s) k) (every_mem (plain y) new z.plains k) (mem_append old q))
 
-  pub grow-member : Wider y g.volume S i g.directory n (grow_by y m n g)
-  grow-member = record {
+  pub grow_member : Wider y g.volume S i g.directory n (grow_by y m n g)
+  grow_member = record {
     moved = moved y d d' S i f z.long other
-        (λ j b r t. zeroed-bytes y d m v old new w z b (clusters_in y d b) (reads_as y d b (f.reads j b t)) (f.plains j b t))
-        (λ k l. z.marks_kept k l.heap (off-marked k l))
-        v.directory (number-of y d' v.directory (old ++ new) z.reads) (ap (every (plain y)) clusters ∙ all_plain)
+        (λ j b r t. zeroed_bytes y d m v old new w z b (clusters_in y d b) (reads_as y d b (f.reads j b t)) (f.plains j b t))
+        (λ k l. z.marks_kept k l.heap (off_marked k l))
+        v.directory (number_of_lem y d' v.directory (old ++ new) z.reads) (ap (every (plain y)) clusters ∙ all_plain)
         (λ j b r t k p q. ⊎_elim (λ u. f.apart i j a b (λ x. r (sym x)) s t k u q) (off j b t k q) (mem_append old (subst (Mem k) clusters p)))
-        (λ k l p. ⊎_elim (l.off i a s) (off-marked k l) (mem_append old (subst (Mem k) clusters p)));
-    bytes = zeroed-in y d m v old new w z a own (f.plains i a s) ∙ ap (λ (x : ℕ). with_zeros (bytes_in y d a) (x * y.size)) grown.1;
+        (λ k l p. ⊎_elim (l.off i a s) (off_marked k l) (mem_append old (subst (Mem k) clusters p)));
+    bytes = zeroed_in y d m v old new w z a own (f.plains i a s) ∙ ap (λ (x : ℕ). with_zeros (bytes_in y d a) (x * y.size)) grown.1;
     kept = ap (take (length old)) clusters ∙ take-append_seam old new;
     marks = omega (arith, z.counts, grown.1);
-    counts = omega (arith, zeroed-count y d m v old new z, clusters-length y d a (f.reads i a s), grown.1);
+    counts = omega (arith, zeroed_count y d m v old new z, clusters_length y d a (f.reads i a s), grown.1);
     led = grow_led y m mapped n g w old own hint_in enough (omega arith);
   }

@@ -27,7 +27,7 @@ use Rattle.metadata.specs.Marks.{marked, free_count}
 use Rattle.metadata.specs.Fat.{END, set_fat}
 use Rattle.metadata.specs.Usable.{is_usable}
 use Rattle.metadata.proofs.Frame.{Fits}
-use Rattle.metadata.proofs.Counting.{usable_count, usable-free}
+use Rattle.metadata.proofs.Counting.{usable_count, usable_free}
 use Rattle.choice.specs.Choice.{choose, around}
 use Rattle.choice.specs.Internal.{first_usable}
 use Rattle.write_alloc.specs.Take.{take_each}
@@ -37,9 +37,9 @@ use Rattle.choice.specs.declared.choice.Choice.TheVariants.{Run, Scattered, TooF
 use Rattle.write_alloc.specs.Outcome.{Outcome, unchanged}
 use Rattle.stream.specs.Stream.{empty}
 use Rattle.write_alloc.specs.Allocate.{near_cause, allocate_cause, new_run, new_chain, new_stream, allocate_in, allocate_clusters}
-use Rattle.choice.proofs.ChoiceLaws.{length-around, in-around, chosen-scattered, count-few}
+use Rattle.choice.proofs.ChoiceLaws.{length-around, in_around, chosen_scattered, count_few}
 use Rattle.write_alloc.specs.declared.take.Taken.{Taken}
-use Rattle.write_alloc.proofs.TakeLaws.{Before, Inside, taken-prev, taken_twice, last-twice}
+use Rattle.write_alloc.proofs.TakeLaws.{Before, Inside, taken_prev, taken_twice, last_twice}
 
 pub wrap_low : (C k : ℕ) → k < C + 2 → wrap C k ≡ k
 unfolding wrap
@@ -91,10 +91,10 @@ module _ (u : ℕ → Bool) (C start n : ℕ) (low : 2 ≤ start) (high : start 
   pub length_taken : n ≤ count u 2 C → length (take n (around u C start)) ≡ n
   length_taken h = length-take-le n (around u C start) (omega (arith, length-around u C start low (omega arith)))
 
-  pub last-small : (z : ℕ) → 1 ≤ n → n ≤ count u 2 C → last_or z (take n (around u C start)) < C + 2
-  last-small z l h =
+  pub last_small : (z : ℕ) → 1 ≤ n → n ≤ count u 2 C → last_or z (take n (around u C start)) < C + 2
+  last_small z l h =
       let m = last_of z (take n (around u C start)) (omega (arith, length_taken h)) in
-      (in_heap_lem C _ (in-around u C start low (omega arith) _ (mem_take n (around u C start) m)).0).1
+      (in_heap_lem C _ (in_around u C start low (omega arith) _ (mem_take n (around u C start) m)).0).1
 
 -- ---- usable clusters taken from a start to the end of the heap, and then from 2
 
@@ -115,17 +115,17 @@ module _ (y : Layout) (d m : List ℕ) (start n prev : ℕ) (l : Laid y) (x : Ap
         let f = prev_facts y d prev ok in
         rw (q, p) (
           last_before y prev (taken_from y d m start (y.count + 2) n) f.small from_start,
-          taken-prev y m d fits prev (taken_from y d m start (y.count + 2) n) f.before from_start f.taken,
+          taken_prev y m d fits prev (taken_from y d m start (y.count + 2) n) f.before from_start f.taken,
         )
 
-    pub then-done : (e' : List ℕ) (t' : Taken) → e' ≡ take_each y e t.prev (taken_from y e m 2 start t.left)
+    pub then_done : (e' : List ℕ) (t' : Taken) → e' ≡ take_each y e t.prev (taken_from y e m 2 start t.left)
         → t' ≡ taken_of t (taken_from y e m 2 start t.left)
         → (e' ≡ take_each y d prev (take n (around (is_usable y d m) y.count start)))
         × (t'.prev ≡ last_or prev (take n (around (is_usable y d m) y.count start)))
-    then-done e' t' r s =
+    then_done e' t' r s =
         let f = prev_facts y d prev ok in (
           (rw (q, p) at r) ∙ taken_twice y m d fits prev n start f.before f.taken low (omega arith),
-          (rw (q, p) at (ap (λ (v : Taken). v.prev) s)) ∙ last-twice y m d fits prev n start f.before f.taken low (omega arith),
+          (rw (q, p) at (ap (λ (v : Taken). v.prev) s)) ∙ last_twice y m d fits prev n start f.before f.taken low (omega arith),
         )
 
 -- ---- the outcomes
@@ -135,18 +135,18 @@ abbrev pub Shown : Outcome → Answer → List ℕ → Type 0
 Shown o r d = (r ≡ o.answer) × (d ≡ o.volume)
 
 module _ (y : Layout) (d m : List ℕ) (n start hint : ℕ) where
-  pub stream-run : (k : ℕ) → choose (is_usable y d m) y.count n start ≡ Run k → new_stream y d m n start hint ≡ new_run y d k n
+  pub stream_run : (k : ℕ) → choose (is_usable y d m) y.count n start ≡ Run k → new_stream y d m n start hint ≡ new_run y d k n
   unfolding new_stream
-  stream-run k e = rw e refl
+  stream_run k e = rw e refl
 
-  pub stream-chain : 2 ≤ start → choose (is_usable y d m) y.count n start ≡ Scattered
+  pub stream_chain : 2 ≤ start → choose (is_usable y d m) y.count n start ≡ Scattered
       → new_stream y d m n start hint ≡ new_chain y d (take n (around (is_usable y d m) y.count start))
   unfolding new_stream
-  stream-chain l e = rw e (ap (new_chain y d) (chosen-scattered (is_usable y d m) y.count n start l e))
+  stream_chain l e = rw e (ap (new_chain y d) (chosen_scattered (is_usable y d m) y.count n start l e))
 
-  pub stream-few : choose (is_usable y d m) y.count n start ≡ TooFew → new_stream y d m n start hint ≡ unchanged 7 empty hint d
+  pub stream_few : choose (is_usable y d m) y.count n start ≡ TooFew → new_stream y d m n start hint ≡ unchanged 7 empty hint d
   unfolding new_stream
-  stream-few e = rw e refl
+  stream_few e = rw e refl
 
 pub near_given : (C : ℕ) (given : Bool) (near : ℕ) → given ≡ true → eqb (near_cause C given near) 0 ≡ in_heap C near
 unfolding near_cause heap_cause
@@ -185,17 +185,17 @@ start_heap C true near hint h e = sym (near_given C true near refl) ∙ e
 start_heap C false near hint h e = h
 
 module _ (y : Layout) (d m : List ℕ) (n : ℕ) (given : Bool) (near hint : ℕ) where
-  pub in-hint : in_heap y.count hint ≡ false → allocate_in y d m n given near hint ≡ unchanged 2 empty hint d
+  pub in_hint : in_heap y.count hint ≡ false → allocate_in y d m n given near hint ≡ unchanged 2 empty hint d
   unfolding allocate_in first_cause
-  in-hint e = rw (heap_met y.count hint e) refl
+  in_hint e = rw (heap_met y.count hint e) refl
 
-  pub in-none : in_heap y.count hint ≡ true → n ≡ 0 → allocate_in y d m n given near hint ≡ unchanged 0 empty hint d
+  pub in_none : in_heap y.count hint ≡ true → n ≡ 0 → allocate_in y d m n given near hint ≡ unchanged 0 empty hint d
   unfolding allocate_in first_cause
-  in-none e z = rw (heap_kept y.count hint e, eq-eqb n 0 z) refl
+  in_none e z = rw (heap_kept y.count hint e, eq-eqb n 0 z) refl
 
-  pub in-free : in_heap y.count hint ≡ true → (n ≡ 0 → ⊥) → free_count y d < n → allocate_in y d m n given near hint ≡ unchanged 7 empty hint d
+  pub in_free : in_heap y.count hint ≡ true → (n ≡ 0 → ⊥) → free_count y d < n → allocate_in y d m n given near hint ≡ unchanged 7 empty hint d
   unfolding allocate_in first_cause allocate_cause
-  in-free e z h = rw (heap_kept y.count hint e, ne_eqb n 0 z, space_met n (free_count y d) h) refl
+  in_free e z h = rw (heap_kept y.count hint e, ne_eqb n 0 z, space_met n (free_count y d) h) refl
 
   pub in_near : in_heap y.count hint ≡ true → (n ≡ 0 → ⊥) → n ≤ free_count y d → eqb (near_cause y.count given near) 0 ≡ false
       → allocate_in y d m n given near hint ≡ unchanged 2 empty hint d
@@ -203,52 +203,52 @@ module _ (y : Layout) (d m : List ℕ) (n : ℕ) (given : Bool) (near hint : ℕ
   in_near e z h f =
       rw (heap_kept y.count hint e, ne_eqb n 0 z, space_kept n (free_count y d) h, near_two y.count given near f) refl
 
-  in-room : in_heap y.count hint ≡ true → (n ≡ 0 → ⊥) → n ≤ free_count y d → eqb (near_cause y.count given near) 0 ≡ true
+  in_room : in_heap y.count hint ≡ true → (n ≡ 0 → ⊥) → n ≤ free_count y d → eqb (near_cause y.count given near) 0 ≡ true
       → allocate_in y d m n given near hint ≡ new_stream y d m n (cond given near hint) hint
   unfolding allocate_in first_cause allocate_cause
-  in-room e z h f =
+  in_room e z h f =
       let u = is_usable y d m in
       let s = start_heap y.count given near hint e f in
       let k = eqb-true (near_cause y.count given near) 0 f in
       elim (dec_lt (count u 2 y.count) n) [
         | yes w ↦ rw (heap_kept y.count hint e, ne_eqb n 0 z, space_kept n (free_count y d) h, k, space_met n (count u 2 y.count) w)
-            (sym (stream-few y d m n (cond given near hint) hint (count-few u y.count n (cond given near hint) (in_heap_lem y.count (cond given near hint) s).0 w)))
+            (sym (stream_few y d m n (cond given near hint) hint (count_few u y.count n (cond given near hint) (in_heap_lem y.count (cond given near hint) s).0 w)))
         | no w ↦ rw (heap_kept y.count hint e, ne_eqb n 0 z, space_kept n (free_count y d) h, k, space_kept n (count u 2 y.count) (omega arith)) refl
       ]
 
   -- the free count decides only where near is refused: fewer usable clusters than n are 7 with it or without
-  pub in-new : in_heap y.count hint ≡ true → (n ≡ 0 → ⊥) → eqb (near_cause y.count given near) 0 ≡ true
+  pub in_new : in_heap y.count hint ≡ true → (n ≡ 0 → ⊥) → eqb (near_cause y.count given near) 0 ≡ true
       → allocate_in y d m n given near hint ≡ new_stream y d m n (cond given near hint) hint
-  in-new e z f =
+  in_new e z f =
       let s = in_heap_lem y.count (cond given near hint) (start_heap y.count given near hint e f) in
       elim (dec_lt (free_count y d) n) [
-        | yes h ↦ in-free e z h
-            ∙ sym (stream-few y d m n (cond given near hint) hint (count-few (is_usable y d m) y.count n (cond given near hint) s.0 (omega (arith, usables-free))))
-        | no h ↦ in-room e z (omega arith) f
+        | yes h ↦ in_free e z h
+            ∙ sym (stream_few y d m n (cond given near hint) hint (count_few (is_usable y d m) y.count n (cond given near hint) s.0 (omega (arith, usables_free))))
+        | no h ↦ in_room e z (omega arith) f
       ]
     where
-      usables-free : count (is_usable y d m) 2 y.count ≤ free_count y d
-      usables-free = unfold usable_count in (usable-free y d m)
+      usables_free : count (is_usable y d m) 2 y.count ≤ free_count y d
+      usables_free = unfold usable_count in (usable_free y d m)
 
 module _ (g : Geometry) (d m : List ℕ) (n : ℕ) (given : Bool) (near hint : ℕ) where
-  pub allocate-is : (y : Layout) → Admits g d m y → allocate_clusters g d m n given near hint ≡ allocate_in y d m n given near hint
+  pub allocate_is : (y : Layout) → Admits g d m y → allocate_clusters g d m n given near hint ≡ allocate_in y d m n given near hint
   unfolding allocate_clusters
-  allocate-is y w = rw (w.cause, w.is) refl
+  allocate_is y w = rw (w.cause, w.is) refl
 
-  pub allocate-not-admitted : (k : ℕ) → k ≡ admit_cause g d m → (k ≡ 0 → ⊥) → allocate_clusters g d m n given near hint ≡ unchanged k empty hint d
+  pub allocate_not-admitted : (k : ℕ) → k ≡ admit_cause g d m → (k ≡ 0 → ⊥) → allocate_clusters g d m n given near hint ≡ unchanged k empty hint d
   unfolding allocate_clusters
-  allocate-not-admitted k e z = rw (← e, ne_eqb k 0 z) refl
+  allocate_not-admitted k e z = rw (← e, ne_eqb k 0 z) refl
 
 -- the record and the volume of a chain of n clusters
 module _ (y : Layout) (d m : List ℕ) (n start : ℕ) (low : 2 ≤ start) (high : start < y.count + 2) (some : 1 ≤ n)
     (enough : n ≤ count (is_usable y d m) 2 y.count) where
-  pub chain-is : (first last hint : ℕ) (e : List ℕ) → first ≡ first_usable (is_usable y d m) y.count start
+  pub chain_is : (first last hint : ℕ) (e : List ℕ) → first ≡ first_usable (is_usable y d m) y.count start
       → last ≡ last_or 0 (take n (around (is_usable y d m) y.count start)) → hint ≡ wrap y.count (last + 1)
       → e ≡ set_fat y (take_each y d 0 (take n (around (is_usable y d m) y.count start))) last END
       → Shown (new_chain y d (take n (around (is_usable y d m) y.count start)))
       (record { number = 0; allocation = record { first = first; last = last; count = n; no_fat_chain = false }; hint = hint }) e
   unfolding new_chain first_usable
-  chain-is first last hint e p q r s =
+  chain_is first last hint e p q r s =
       let ks = take n (around (is_usable y d m) y.count start) in
       let c : length ks ≡ n = length_taken (is_usable y d m) y.count start n low high enough in
       let f : get_or ks 0 0 ≡ first = get_or-take n (around (is_usable y d m) y.count start) 0 0 (omega arith) ∙ sym p in

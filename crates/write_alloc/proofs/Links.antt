@@ -107,9 +107,9 @@ link-consec f k (suc n) j z a b =
     ]
 
 -- and the others stay, the number past the run too
-pub link-consec_other : (f : ℕ → ℕ) (k n j : ℕ) → ((k ≤ j) × (j < k + n) → ⊥) → link_all f k (consec (k + 1) n) j ≡ f j
+pub link_consec_other : (f : ℕ → ℕ) (k n j : ℕ) → ((k ≤ j) × (j < k + n) → ⊥) → link_all f k (consec (k + 1) n) j ≡ f j
 unfolding link_all consec
-link-consec_other f k zero j o = refl
-link-consec_other f k (suc n) j o =
-    link-consec_other (link_one f k (k + 1)) (k + 1) n j (λ i. o (omega arith, omega arith))
+link_consec_other f k zero j o = refl
+link_consec_other f k (suc n) j o =
+    link_consec_other (link_one f k (k + 1)) (k + 1) n j (λ i. o (omega arith, omega arith))
     ∙ one_other f k (k + 1) j (λ e. o (omega arith, omega arith))

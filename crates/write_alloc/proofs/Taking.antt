@@ -22,28 +22,28 @@ use Rattle.metadata.specs.Marks.{marked, set_mark, mark_run}
 use Rattle.metadata.specs.Usable.{is_usable}
 use Rattle.metadata.proofs.RowLaws.{row_append}
 use Rattle.search.specs.Search.{fewest}
-use Rattle.search.proofs.Lowest.{fewest-bounds, fewest-before}
-use Rattle.metadata.proofs.Frame.{Fits, fits_kept, length-mark, mark-mark-same, mark-mark-other, mark-fat}
-use Rattle.metadata.proofs.Counting.{usable-mark-other, usable-fat-marked, usable-fat-other}
+use Rattle.search.proofs.Lowest.{fewest_bounds, fewest_before}
+use Rattle.metadata.proofs.Frame.{Fits, fits_kept, length_mark, mark_mark_same, mark_mark_other, mark_fat}
+use Rattle.metadata.proofs.Counting.{usable_mark_other, usable_fat_marked, usable_fat_other}
 use Rattle.write_alloc.specs.declared.take.Taken.{Taken}
 use Rattle.tables.specs.Lists.{last_or}
 use Rattle.write_alloc.specs.Take.{link_run, take_single, take_each}
 use Rattle.write_alloc.specs.Internal.{prev_taken, taken_from, taken_of, whole_byte}
 
 module _ (y : Layout) (d : List ℕ) where
-  pub mark-none : (k n : ℕ) → n ≤ 0 → mark_run y d k n ≡ d
+  pub mark_none : (k n : ℕ) → n ≤ 0 → mark_run y d k n ≡ d
   unfolding mark_run
-  mark-none k zero h = refl
-  mark-none k (suc n) h = absurd (omega arith)
+  mark_none k zero h = refl
+  mark_none k (suc n) h = absurd (omega arith)
 
-  pub mark-step : (k n : ℕ) → 0 < n → mark_run y d k n ≡ mark_run y (set_mark y d k true) (k + 1) (n - 1)
+  pub mark_step : (k n : ℕ) → 0 < n → mark_run y d k n ≡ mark_run y (set_mark y d k true) (k + 1) (n - 1)
   unfolding mark_run
-  mark-step k zero h = absurd (omega arith)
-  mark-step k (suc n) h = rw sub-one refl
+  mark_step k zero h = absurd (omega arith)
+  mark_step k (suc n) h = rw sub-one refl
 
   -- eight at once
-  pub mark-eight : (k n : ℕ) → 8 ≤ n → mark_run y d k n ≡ mark_run y (mark_run y d k 8) (k + 8) (n - 8)
-  mark-eight k n h =
+  pub mark_eight : (k n : ℕ) → 8 ≤ n → mark_run y d k n ≡ mark_run y (mark_run y d k 8) (k + 8) (n - 8)
+  mark_eight k n h =
       let q : n ≡ 8 + (n - 8) = omega arith in
       ap (mark_run y d k) q ∙ row_append y d k 8 (n - 8)
 
@@ -57,9 +57,9 @@ module _ (y : Layout) (d : List ℕ) where
   link-step k zero h = absurd (omega arith)
   link-step k (suc n) h = rw sub-one refl
 
-  pub one-first : (prev k : ℕ) → prev ≡ 0 → take_single y d prev k ≡ set_mark y d k true
+  pub one_first : (prev k : ℕ) → prev ≡ 0 → take_single y d prev k ≡ set_mark y d k true
   unfolding take_single
-  one-first prev k e = rw (eq-eqb prev 0 e) refl
+  one_first prev k e = rw (eq-eqb prev 0 e) refl
 
   pub one_more : (prev k : ℕ) → prev ≢ 0 → take_single y d prev k ≡ set_fat y (set_mark y d k true) prev k
   unfolding take_single
@@ -68,39 +68,39 @@ module _ (y : Layout) (d : List ℕ) where
 -- ---- one cluster taken
 
 module _ (y : Layout) (d : List ℕ) (w : Fits y d) where
-  marked-fits : (k : ℕ) → Fits y (set_mark y d k true)
-  marked-fits k = fits_kept y d (set_mark y d k true) (length-mark y d k true) w
+  marked_fits : (k : ℕ) → Fits y (set_mark y d k true)
+  marked_fits k = fits_kept y d (set_mark y d k true) (length_mark y d k true) w
 
   -- the one before it is taken, where there is one
-  prev-marked : (prev : ℕ) → prev ≢ 0 → prev_taken y d prev ≡ true → marked y d prev ≡ true
+  prev_marked : (prev : ℕ) → prev ≢ 0 → prev_taken y d prev ≡ true → marked y d prev ≡ true
   unfolding prev_taken
-  prev-marked prev n e = rw (ne_eqb prev 0 n) at e
+  prev_marked prev n e = rw (ne_eqb prev 0 n) at e
 
   module _ (prev k : ℕ) (h : in_heap y.count k ≡ true) (b : prev < y.count + 2) (t : prev_taken y d prev ≡ true) where
     -- the others stay usable or not
     pub one-usable : (m : List ℕ) (j : ℕ) → in_heap y.count j ≡ true → j ≢ k → is_usable y (take_single y d prev k) m j ≡ is_usable y d m j
     one-usable m j i n =
         elim (ℕ_discrete prev 0) [
-          | yes e ↦ rw (one-first y d prev k e) marks
+          | yes e ↦ rw (one_first y d prev k e) marks
           | no e ↦ rw (one_more y d prev k e) (links e ∙ marks)
         ]
       where
         marks : is_usable y (set_mark y d k true) m j ≡ is_usable y d m j
-        marks = usable-mark-other y d w m k true j h i n
+        marks = usable_mark_other y d w m k true j h i n
 
         still : prev ≢ 0 → 2 ≤ prev → marked y (set_mark y d k true) prev ≡ true
         still e l =
             elim (ℕ_discrete prev k) [
-              | yes q ↦ rw q (mark-mark-same y d w k true h)
-              | no q ↦ mark-mark-other y d w k true prev h (heap_in y.count prev l b) q ∙ prev-marked prev e t
+              | yes q ↦ rw q (mark_mark_same y d w k true h)
+              | no q ↦ mark_mark_other y d w k true prev h (heap_in y.count prev l b) q ∙ prev_marked prev e t
             ]
 
         links : prev ≢ 0 → is_usable y (set_fat y (set_mark y d k true) prev k) m j ≡ is_usable y (set_mark y d k true) m j
         links e =
             let r = in_heap_lem y.count j i in
             elim (dec_le 2 prev) [
-              | yes l ↦ usable-fat-marked y (set_mark y d k true) (marked-fits k) m prev k j b (still e l) r.1
-              | no l ↦ usable-fat-other y (set_mark y d k true) (marked-fits k) m prev k j b r.1 (omega arith)
+              | yes l ↦ usable_fat_marked y (set_mark y d k true) (marked_fits k) m prev k j b (still e l) r.1
+              | no l ↦ usable_fat_other y (set_mark y d k true) (marked_fits k) m prev k j b r.1 (omega arith)
             ]
 
 -- and it is taken then
@@ -113,13 +113,13 @@ one_taken y d e prev k a z n l h b q = rw (q, now) (or-true (eqb k 0))
     w = record { laid = a; apart = z; long = n }
 
     marks : marked y (set_mark y d k true) k ≡ true
-    marks = mark-mark-same y d w k true (heap_in y.count k l h)
+    marks = mark_mark_same y d w k true (heap_in y.count k l h)
 
     now : marked y (take_single y d prev k) k ≡ true
     now =
         elim (ℕ_discrete prev 0) [
-          | yes e ↦ rw (one-first y d prev k e) marks
-          | no e ↦ rw (one_more y d prev k e) (mark-fat y (set_mark y d k true) (marked-fits y d w k) prev k k b ∙ marks)
+          | yes e ↦ rw (one_first y d prev k e) marks
+          | no e ↦ rw (one_more y d prev k e) (mark_fat y (set_mark y d k true) (marked_fits y d w k) prev k k b ∙ marks)
         ]
 
 -- ---- the clusters that are taken, from the front
@@ -133,13 +133,13 @@ module _ (y : Layout) (d m : List ℕ) (k end : ℕ) where
   unfolding taken_from keep
   taken_none n h = let q : end - k ≡ zero = omega arith in rw q (take-nil n)
 
-  taken-zero : taken_from y d m k end 0 ≡ []
+  taken_zero : taken_from y d m k end 0 ≡ []
   unfolding taken_from
-  taken-zero = refl
+  taken_zero = refl
 
-  taken-no : (n : ℕ) → k < end → is_usable y d m k ≡ false → taken_from y d m k end n ≡ taken_from y d m (k + 1) end n
+  taken_no : (n : ℕ) → k < end → is_usable y d m k ≡ false → taken_from y d m k end n ≡ taken_from y d m (k + 1) end n
   unfolding taken_from keep
-  taken-no n h e = let q : end - k ≡ suc (end - (k + 1)) = omega arith in rw (q, e, add-one k) refl
+  taken_no n h e = let q : end - k ≡ suc (end - (k + 1)) = omega arith in rw (q, e, add-one k) refl
 
   taken_yes : (n : ℕ) → k < end → 0 < n → is_usable y d m k ≡ true → taken_from y d m k end n ≡ k ∷ taken_from y d m (k + 1) end (n - 1)
   unfolding taken_from keep
@@ -173,21 +173,21 @@ module _ (y : Layout) (d m : List ℕ) (end k prev left : ℕ) where
   unfolding takes take_each last_or
   takes_nil e = let q : left - 0 ≡ left = omega arith in rw e (ap (λ (x : ℕ). still d prev x) q)
 
-  pub takes-end : end ≤ k → takes y d m end k prev left ≡ still d prev left
-  takes-end h = takes_nil (taken_none y d m k end left h)
+  pub takes_end : end ≤ k → takes y d m end k prev left ≡ still d prev left
+  takes_end h = takes_nil (taken_none y d m k end left h)
 
-  pub takes-done : left ≡ 0 → takes y d m end k prev left ≡ still d prev left
-  takes-done e = takes_nil (rw e (taken-zero y d m k end))
+  pub takes_done : left ≡ 0 → takes y d m end k prev left ≡ still d prev left
+  takes_done e = takes_nil (rw e (taken_zero y d m k end))
 
-  takes-no : k < end → is_usable y d m k ≡ false → takes y d m end k prev left ≡ takes y d m end (k + 1) prev left
+  takes_no : k < end → is_usable y d m k ≡ false → takes y d m end k prev left ≡ takes y d m end (k + 1) prev left
   unfolding takes
-  takes-no h e = rw (taken-no y d m k end left h e) refl
+  takes_no h e = rw (taken_no y d m k end left h e) refl
 
-  pub takes-yes : Laid y → Apart y → length d ≡ y.len → 2 ≤ k → k < end → end ≤ y.count + 2 → 0 < left → prev < y.count + 2
+  pub takes_yes : Laid y → Apart y → length d ≡ y.len → 2 ≤ k → k < end → end ≤ y.count + 2 → 0 < left → prev < y.count + 2
       → prev_taken y d prev ≡ true → is_usable y d m k ≡ true
       → takes y d m end k prev left ≡ takes y (take_single y d prev k) m end (k + 1) k (left - 1)
   unfolding takes take_each last_or
-  takes-yes a z n l h f p b t e =
+  takes_yes a z n l h f p b t e =
       rw (taken_yes y d m k end left h p e, same)
       (λ i. record { bytes = rest; taken = record { prev = last_or k ks; left = more i } })
     where
@@ -212,15 +212,15 @@ module _ (y : Layout) (d m : List ℕ) (end k prev left : ℕ) where
 pub takes_past : (y : Layout) (d m : List ℕ) (end k prev left next : ℕ) → k ≤ end → next ≡ fewest (is_usable y d m) (end - k) k
     → takes y d m end k prev left ≡ takes y d m end next prev left
 takes_past y d m end k prev left next h e =
-    let b = fewest-bounds (is_usable y d m) (end - k) k in
-    over (next - k) k (omega arith) (λ j a t. fewest-before (is_usable y d m) (end - k) k j a (omega arith))
+    let b = fewest_bounds (is_usable y d m) (end - k) k in
+    over (next - k) k (omega arith) (λ j a t. fewest_before (is_usable y d m) (end - k) k j a (omega arith))
     ∙ ap (λ (x : ℕ). takes y d m end x prev left) (omega arith)
   where
     over : (i k : ℕ) → k + i ≤ end → ((j : ℕ) → k ≤ j → j < k + i → is_usable y d m j ≡ false)
         → takes y d m end k prev left ≡ takes y d m end (k + i) prev left
     over zero k h f = ap (λ (x : ℕ). takes y d m end x prev left) (omega arith)
     over (suc i) k h f =
-        takes-no y d m end k prev left (omega arith) (f k (omega arith) (omega arith))
+        takes_no y d m end k prev left (omega arith) (f k (omega arith) (omega arith))
         ∙ over i (k + 1) (omega arith) (λ j a b. f j (omega arith) (omega arith)) ∙ ap (λ (x : ℕ). takes y d m end x prev left) (omega arith)
 
 pub byte_no : (k left : ℕ) → left < 8 → whole_byte k left ≡ false

@@ -11,7 +11,7 @@ use Rattle.primitives.specs.Splice.{splice}
 use Rattle.tables.specs.Lists.{Mem, here, there, every, last_or}
 use Rattle.tables.specs.Count.{count}
 use Rattle.tables.proofs.Cases.{not_so}
-use Rattle.tables.proofs.ListLaws.{mem_append, mem_left, mem_right, every-mem, mem-every}
+use Rattle.tables.proofs.ListLaws.{mem_append, mem_left, mem_right, every_mem, mem_every}
 use Rattle.tables.proofs.CountLaws.{count_cong}
 use Rattle.boot.specs.declared.layout.Layout.{Layout}
 use Rattle.boot.specs.Limits.{in_map}
@@ -21,23 +21,23 @@ use Rattle.metadata.specs.Fat.{fat_entry}
 use Rattle.metadata.specs.Marks.{marked}
 use Rattle.metadata.specs.Usable.{is_free, is_usable}
 use Rattle.metadata.specs.Cluster.{put_bytes}
-use Rattle.metadata.proofs.Frame.{Fits, fits_kept, length-bytes, fat-bytes, mark-bytes, small}
+use Rattle.metadata.proofs.Frame.{Fits, fits_kept, length_bytes, fat_bytes_lem, mark_bytes, small}
 use Rattle.metadata.proofs.View.{plain, plain_heap}
 use Rattle.metadata.proofs.Counting.{marked_count, usable_facts}
 use Rattle.stream.specs.declared.allocation.Allocation.{Allocation}
 use Rattle.stream.specs.Chain.{listed}
 use Rattle.stream.specs.Stream.{number_of, stream_of, clusters_of, clusters_in}
 use Rattle.stream.specs.Bytes.{cluster_bytes}
-use Rattle.stream.proofs.ChainLaws.{stream-listed}
-use Rattle.stream.proofs.StreamLaws.{Read, read-facts}
-use Rattle.stream.proofs.BytesSteps.{length-cluster}
-use Rattle.stream.proofs.BytesLaws.{cluster_cong, cluster_put, cluster-apart}
+use Rattle.stream.proofs.ChainLaws.{stream_listed}
+use Rattle.stream.proofs.StreamLaws.{Read, read_facts}
+use Rattle.stream.proofs.BytesSteps.{length_cluster}
+use Rattle.stream.proofs.BytesLaws.{cluster_cong, cluster_put, cluster_apart}
 use Rattle.stream.proofs.Distinct.{read_length, stream_frame}
 use Rattle.write_alloc.specs.declared.answer.Answer.{Answer}
 use Rattle.write_alloc.specs.Outcome.{Outcome}
 use Rattle.write_extend.specs.Extend.{extend_in}
 use Rattle.write_alloc.proofs.GrowLaws.{fresh_unmarked}
-use Rattle.write_extend.proofs.EnoughLaws.{Extended, extend-done, usable-grown}
+use Rattle.write_extend.proofs.EnoughLaws.{Extended, extend_done, usable_grown}
 use Rattle.write_dir.specs.declared.place.Added.{Added}
 use Rattle.write_dir.specs.Place.{GrownDirectory, grow_one, grow_by}
 use Rattle.write_dir.specs.Internal.{standing, added_of, Growable}
@@ -84,14 +84,14 @@ pub record Zeroed (y : Layout) (d m : List ℕ) (w : GrownDirectory) (old new : 
   pub hint_in : in_heap y.count w.hint ≡ true
 
 module _ (y : Layout) (d m : List ℕ) (w : GrownDirectory) (old new : List ℕ) (z : Zeroed y d m w old new) where
-  pub zeroed-clusters : clusters_in y w.volume w.directory ≡ old ++ new
+  pub zeroed_clusters : clusters_in y w.volume w.directory ≡ old ++ new
   unfolding clusters_in
-  zeroed-clusters = ap clusters_of z.reads
+  zeroed_clusters = ap clusters_of z.reads
 
-  pub zeroed-count : w.directory.count ≡ length old + length new
-  zeroed-count =
+  pub zeroed_count : w.directory.count ≡ length old + length new
+  zeroed_count =
       sym (read_length y.count (fat_entry y w.volume) (marked y w.volume) w.directory (old ++ new)
-      (read-facts y.count (fat_entry y w.volume) (marked y w.volume) w.directory (old ++ new) (unfold stream_of in z.reads)))
+      (read_facts y.count (fat_entry y w.volume) (marked y w.volume) w.directory (old ++ new) (unfold stream_of in z.reads)))
       ∙ length-append old new
 
 -- no cluster is added
@@ -124,7 +124,7 @@ module _ (y : Layout) (m : List ℕ) (w : GrownDirectory) (fits : Fits y w.volum
   o = extend_in y w.volume m w.directory 1 w.hint
 
   took : Extended y d m o ks 1
-  took = extend-done y d m fits w.directory ks e 1 w.hint hint_in h
+  took = extend_done y d m fits w.directory ks e 1 w.hint hint_in h
 
   abbrev d₁ : List ℕ
   d₁ = (extend_in y w.volume m w.directory 1 w.hint).volume
@@ -136,7 +136,7 @@ module _ (y : Layout) (m : List ℕ) (w : GrownDirectory) (fits : Fits y w.volum
   fits₁ = fits_kept y d d₁ took.grows.long fits
 
   read₁ : Read y.count (fat_entry y d₁) (marked y d₁) o.answer.allocation (ks ++ took.new)
-  read₁ = read-facts y.count (fat_entry y d₁) (marked y d₁) o.answer.allocation (ks ++ took.new) (unfold stream_of in took.grows.reads)
+  read₁ = read_facts y.count (fat_entry y d₁) (marked y d₁) o.answer.allocation (ks ++ took.new) (unfold stream_of in took.grows.reads)
 
   -- it is the last one of the directory
   new_is : took.new ≡ k ∷ []
@@ -148,20 +148,20 @@ module _ (y : Layout) (m : List ℕ) (w : GrownDirectory) (fits : Fits y w.volum
       let i : x ≡ k = sym (ap (λ (l : List ℕ). last_or 0 (ks ++ l)) q ∙ last_is 0 ks x) ∙ l in
       q ∙ ap (λ (z : ℕ). z ∷ []) i
 
-  in-new : Mem k took.new
-  in-new = subst (Mem k) (sym new_is) (here refl)
+  in_new : Mem k took.new
+  in_new = subst (Mem k) (sym new_is) (here refl)
 
-  pub added-heap : in_heap y.count (extend_in y w.volume m w.directory 1 w.hint).answer.allocation.last ≡ true
-  added-heap = every-mem (in_heap y.count) took.new took.grows.fresh.heap k in-new
+  pub added_heap : in_heap y.count (extend_in y w.volume m w.directory 1 w.hint).answer.allocation.last ≡ true
+  added_heap = every_mem (in_heap y.count) took.new took.grows.fresh.heap k in_new
 
   -- a usable cluster is no bitmap's
-  added-off : is_bitmap_cluster y k ≡ false
-  added-off =
+  added_off : is_bitmap_cluster y k ≡ false
+  added_off =
       not_so (is_bitmap_cluster y k)
-      (λ b. false≢true (sym (usable_facts y d m k (every-mem (is_usable y d m) took.new took.grows.fresh.usable k in-new)).1 ∙ mapped k b))
+      (λ b. false≢true (sym (usable_facts y d m k (every_mem (is_usable y d m) took.new took.grows.fresh.usable k in_new)).1 ∙ mapped k b))
 
-  added-plain : plain y k ≡ true
-  added-plain = unfold plain in (rw (added-heap, added-off) refl)
+  added_plain : plain y k ≡ true
+  added_plain = unfold plain in (rw (added_heap, added_off) refl)
 
   abbrev bs : List ℕ
   bs = replicate y.size 0
@@ -173,13 +173,13 @@ module _ (y : Layout) (m : List ℕ) (w : GrownDirectory) (fits : Fits y w.volum
   d₂ = put_bytes y d₁ k 0 bs
 
   fat₂ : (i : ℕ) → in_heap y.count i ≡ true → fat_entry y d₂ i ≡ fat_entry y d₁ i
-  fat₂ i g = fat-bytes y d₁ fits₁ k 0 bs i added-heap room (in_heap_lem y.count i g).1
+  fat₂ i g = fat_bytes_lem y d₁ fits₁ k 0 bs i added_heap room (in_heap_lem y.count i g).1
 
   mark₂ : (i : ℕ) → in_heap y.count i ≡ true → marked y d₂ i ≡ marked y d₁ i
-  mark₂ i g = mark-bytes y d₁ fits₁ k 0 bs i added-heap added-off room g
+  mark₂ i g = mark_bytes y d₁ fits₁ k 0 bs i added_heap added_off room g
 
   heap₁ : (i : ℕ) → Mem i (ks ++ took.new) → in_heap y.count i ≡ true
-  heap₁ i j = every-mem (in_heap y.count) (ks ++ took.new) read₁.heap i j
+  heap₁ i j = every_mem (in_heap y.count) (ks ++ took.new) read₁.heap i j
 
   reads₂ : stream_of y d₂ o.answer.allocation ≡ listed (ks ++ took.new)
   unfolding stream_of
@@ -191,7 +191,7 @@ module _ (y : Layout) (m : List ℕ) (w : GrownDirectory) (fits : Fits y w.volum
   usable₂ i g = unfold is_usable in (unfold is_free in (rw (fat₂ i g, mark₂ i g) refl))
 
   marks : every (marked y d) ks ≡ true
-  marks = (read-facts y.count (fat_entry y d) (marked y d) w.directory ks (unfold stream_of in e)).marks
+  marks = (read_facts y.count (fat_entry y d) (marked y d) w.directory ks (unfold stream_of in e)).marks
 
   count₂ : count (is_usable y d₂ m) 2 y.count ≡ count (is_usable y d₁ m) 2 y.count
   count₂ = count_cong (is_usable y d₁ m) (is_usable y d₂ m) 2 y.count (λ i l b. usable₂ i (heap_in y.count i l (omega arith)))
@@ -203,25 +203,25 @@ module _ (y : Layout) (m : List ℕ) (w : GrownDirectory) (fits : Fits y w.volum
   kept₁ : (i : ℕ) → plain y i ≡ true → cluster_bytes y d₁ i ≡ cluster_bytes y d i
   kept₁ i p = cluster_cong y d d₁ i took.grows.long (λ r b. took.grows.bytes_kept i r p b)
 
-  pub grow-one : Zeroed y w.volume m (grow_one y m w) ks ((extend_in y w.volume m w.directory 1 w.hint).answer.allocation.last ∷ [])
+  pub grow_one_lem : Zeroed y w.volume m (grow_one y m w) ks ((extend_in y w.volume m w.directory 1 w.hint).answer.allocation.last ∷ [])
   unfolding grow_one
-  grow-one =
+  grow_one_lem =
       let g = took.grows in
       subst (Zeroed y d m (standing d₂ o.answer.allocation o.answer.hint) ks) new_is
       (record {
-        long = length-bytes y d₁ fits₁ k 0 bs added-heap room ∙ g.long;
+        long = length_bytes y d₁ fits₁ k 0 bs added_heap room ∙ g.long;
         reads = reads₂;
-        plains = mem-every (plain y) took.new (λ i j. subst (λ (x : ℕ). plain y x ≡ true) (sym (only-new i j)) added-plain);
+        plains = mem_every (plain y) took.new (λ i j. subst (λ (x : ℕ). plain y x ≡ true) (sym (only-new i j)) added_plain);
         unmarked = fresh_unmarked y d m took.new g.fresh;
         marks_new = λ i j. mark₂ i (heap₁ i (mem_right ks j)) ∙ g.marks_new i j;
         marks_kept = λ i p off. mark₂ i p ∙ g.marks_kept i p off;
         fat_kept = λ i p u off. fat₂ i p ∙ g.fat_kept i p u off;
-        bytes_kept = λ i p off. cluster-apart y d₁ fits₁ k 0 bs i added-heap room (plain_heap y i p) (λ q. off (subst (λ (x : ℕ). Mem x took.new) (sym q) in-new))
+        bytes_kept = λ i p off. cluster_apart y d₁ fits₁ k 0 bs i added_heap room (plain_heap y i p) (λ q. off (subst (λ (x : ℕ). Mem x took.new) (sym q) in_new))
             ∙ kept₁ i p;
-        zeros = λ i j. ap (cluster_bytes y d₂) (only-new i j) ∙ cluster_put y d₁ fits₁ k 0 bs added-heap room
+        zeros = λ i j. ap (cluster_bytes y d₂) (only-new i j) ∙ cluster_put y d₁ fits₁ k 0 bs added_heap room
             ∙ splice_whole (cluster_bytes y d₁ k) bs
-            (length-replicate {A = ℕ} y.size 0 ∙ sym (length-cluster y d₁ fits₁.laid fits₁.long k added-heap));
-        usable = ap (λ (x : ℕ). x + length took.new) count₂ ∙ usable-grown y d m d₁ o.answer.allocation ks took.new marks g;
+            (length-replicate {A = ℕ} y.size 0 ∙ sym (length_cluster y d₁ fits₁.laid fits₁.long k added_heap));
+        usable = ap (λ (x : ℕ). x + length took.new) count₂ ∙ usable_grown y d m d₁ o.answer.allocation ks took.new marks g;
         counts = marked₂ ∙ g.counts;
         hint_in = took.hint;
       })
@@ -239,25 +239,25 @@ module _ (y : Layout) (d m : List ℕ) (w₁ w₂ : GrownDirectory) (old new₁ 
   off₁ : (k : ℕ) → Mem k new₂ → Mem k new₁ → ⊥
   off₁ k i j = false≢true (sym (b.unmarked k i) ∙ a.marks_new k j)
 
-  both-plain : (k : ℕ) → Mem k (new₁ ++ new₂) → plain y k ≡ true
-  both-plain k i = ⊎_elim (λ j. every-mem (plain y) new₁ a.plains k j) (λ j. every-mem (plain y) new₂ b.plains k j) (mem_append new₁ i)
+  both_plain : (k : ℕ) → Mem k (new₁ ++ new₂) → plain y k ≡ true
+  both_plain k i = ⊎_elim (λ j. every_mem (plain y) new₁ a.plains k j) (λ j. every_mem (plain y) new₂ b.plains k j) (mem_append new₁ i)
 
-  both-heap : (k : ℕ) → Mem k (new₁ ++ new₂) → in_heap y.count k ≡ true
-  both-heap k i = plain_heap y k (both-plain k i)
+  both_heap : (k : ℕ) → Mem k (new₁ ++ new₂) → in_heap y.count k ≡ true
+  both_heap k i = plain_heap y k (both_plain k i)
 
-  zeroed-then : Zeroed y d m w₂ old (new₁ ++ new₂)
-  zeroed-then = record {
+  zeroed_then : Zeroed y d m w₂ old (new₁ ++ new₂)
+  zeroed_then = record {
     long = b.long ∙ a.long;
     reads = b.reads ∙ ap listed (append_assoc old new₁ new₂);
-    plains = mem-every (plain y) (new₁ ++ new₂) both-plain;
+    plains = mem_every (plain y) (new₁ ++ new₂) both_plain;
     unmarked = λ k i. ⊎_elim (a.unmarked k)
-        (λ j. sym (a.marks_kept k (both-heap k i) (λ l. off₁ k j l)) ∙ b.unmarked k j) (mem_append new₁ i);
-    marks_new = λ k i. ⊎_elim (λ j. b.marks_kept k (both-heap k i) (λ l. off₁ k l j) ∙ a.marks_new k j) (b.marks_new k) (mem_append new₁ i);
+        (λ j. sym (a.marks_kept k (both_heap k i) (λ l. off₁ k j l)) ∙ b.unmarked k j) (mem_append new₁ i);
+    marks_new = λ k i. ⊎_elim (λ j. b.marks_kept k (both_heap k i) (λ l. off₁ k l j) ∙ a.marks_new k j) (b.marks_new k) (mem_append new₁ i);
     marks_kept = λ k h o. b.marks_kept k h (λ i. o (mem_right new₁ i)) ∙ a.marks_kept k h (λ i. o (mem_left new₂ i));
     fat_kept = λ k h u o. b.fat_kept k h (λ i. ⊎_elim u (λ j. o (mem_left new₂ j)) (mem_append old i)) (λ i. o (mem_right new₁ i))
         ∙ a.fat_kept k h u (λ i. o (mem_left new₂ i));
     bytes_kept = λ k p o. b.bytes_kept k p (λ i. o (mem_right new₁ i)) ∙ a.bytes_kept k p (λ i. o (mem_left new₂ i));
-    zeros = λ k i. ⊎_elim (λ j. b.bytes_kept k (both-plain k i) (λ l. off₁ k l j) ∙ a.zeros k j) (b.zeros k) (mem_append new₁ i);
+    zeros = λ k i. ⊎_elim (λ j. b.bytes_kept k (both_plain k i) (λ l. off₁ k l j) ∙ a.zeros k j) (b.zeros k) (mem_append new₁ i);
     usable = omega (arith, a.usable, b.usable, length-append new₁ new₂);
     counts = omega (arith, a.counts, b.counts, length-append new₁ new₂);
     hint_in = b.hint_in;
@@ -277,33 +277,33 @@ unfolding grow_by
 grow_many y m mapped zero w fits ks e i h = ([], refl, none_zeroed y m w ks e i)
 grow_many y m mapped (suc n) w fits ks e i h =
     let k = (extend_in y w.volume m w.directory 1 w.hint).answer.allocation.last in
-    let a = grow-one y m w fits mapped ks e i (omega arith) in
+    let a = grow_one_lem y m w fits mapped ks e i (omega arith) in
     let r = grow_many y m mapped n (grow_one y m w) (fits_kept y w.volume (grow_one y m w).volume a.long fits) (ks ++ k ∷ []) a.reads a.hint_in (omega (arith, a.usable)) in
-    (k ∷ r.0, ap suc r.1, zeroed-then y w.volume m (grow_one y m w) (grow_by y m n (grow_one y m w)) ks (k ∷ []) r.0 a r.2)
+    (k ∷ r.0, ap suc r.1, zeroed_then y w.volume m (grow_one y m w) (grow_by y m n (grow_one y m w)) ks (k ∷ []) r.0 a r.2)
 
 -- ---- turns of a loop that adds
 
 module _ (y : Layout) (d m : List ℕ) (a : Allocation) (n hint : ℕ) (g : Growable y d m a n hint) where
-  pub growable-one : 0 < n → Growable y d m a 1 hint
-  growable-one h = let b = g.enough in record { reads = g.reads; mapped = g.mapped; enough = omega arith; hint_in = g.hint_in }
+  pub growable_one : 0 < n → Growable y d m a 1 hint
+  growable_one h = let b = g.enough in record { reads = g.reads; mapped = g.mapped; enough = omega arith; hint_in = g.hint_in }
 
-  growable-listed : (ks : List ℕ) × (stream_of y d a ≡ listed ks)
+  growable_listed : (ks : List ℕ) × (stream_of y d a ≡ listed ks)
   unfolding stream_of
-  growable-listed = stream-listed y.count (fat_entry y d) (marked y d) a g.reads
+  growable_listed = stream_listed y.count (fat_entry y d) (marked y d) a g.reads
 
   module _ (fits : Fits y d) (h : 0 < n) where
     abbrev ks : List ℕ
-    ks = growable-listed.0
+    ks = growable_listed.0
 
     step : Zeroed y d m (grow_one y m (standing d a hint)) ks ((extend_in y d m a 1 hint).answer.allocation.last ∷ [])
-    step = let b = g.enough in grow-one y m (standing d a hint) fits g.mapped ks growable-listed.1 g.hint_in (omega arith)
+    step = let b = g.enough in grow_one_lem y m (standing d a hint) fits g.mapped ks growable_listed.1 g.hint_in (omega arith)
 
     pub last_heap : in_heap y.count (extend_in y d m a 1 hint).answer.allocation.last ≡ true
-    last_heap = let b = g.enough in added-heap y m (standing d a hint) fits g.mapped ks growable-listed.1 g.hint_in (omega arith)
+    last_heap = let b = g.enough in added_heap y m (standing d a hint) fits g.mapped ks growable_listed.1 g.hint_in (omega arith)
 
-    pub grow-turn : (r : Added) (d' : List ℕ) → r ≡ added_of (grow_one y m (standing d a hint)) → d' ≡ (grow_one y m (standing d a hint)).volume
+    pub grow_turn : (r : Added) (d' : List ℕ) → r ≡ added_of (grow_one y m (standing d a hint)) → d' ≡ (grow_one y m (standing d a hint)).volume
         → Growable y d' m r.allocation (n - 1) r.hint × (grow_by y m (n - 1) (standing d' r.allocation r.hint) ≡ grow_by y m n (standing d a hint))
-    grow-turn r d' p q =
+    grow_turn r d' p q =
         let s = step in
         let b = g.enough in
         let v : standing d' r.allocation r.hint ≡ grow_one y m (standing d a hint) =

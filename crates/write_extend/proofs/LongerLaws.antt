@@ -5,7 +5,7 @@ use native.Mathlib.Decide.{ℕ_discrete}
 use borrow.Author.Tests.{eqb-false}
 use Rattle.tables.specs.Lists.{Mem, every, last_or, consec}
 use Rattle.tables.specs.Count.{count}
-use Rattle.tables.proofs.ListLaws.{mem_append, every-mem, mem-every, consec_in, consec-append, last_in}
+use Rattle.tables.proofs.ListLaws.{mem_append, every_mem, mem_every, consec_in, consec-append, last_in}
 use Rattle.tables.proofs.CountLaws.{count_cong}
 use Rattle.boot.specs.declared.layout.Layout.{Layout}
 use Rattle.boot.specs.Layout.{in_heap}
@@ -15,15 +15,15 @@ use Rattle.metadata.specs.Fat.{END, fat_entry, set_fat}
 use Rattle.metadata.specs.Marks.{marked, mark_run}
 use Rattle.metadata.specs.Usable.{is_usable}
 use Rattle.metadata.specs.Cluster.{cluster_byte}
-use Rattle.metadata.proofs.Frame.{Fits, fits_kept, fat-fat-same, fat-fat-other, cluster-fat, small}
+use Rattle.metadata.proofs.Frame.{Fits, fits_kept, fat_fat_same, fat_fat_other, cluster_fat, small}
 use Rattle.metadata.proofs.View.{plain}
 use Rattle.metadata.proofs.Counting.{marked_count}
 use Rattle.stream.specs.declared.allocation.Allocation.{Allocation}
 use Rattle.stream.specs.Chain.{listed, read_chain}
 use Rattle.stream.specs.Stream.{number_of, read_stream, stream_of, clusters_of}
 use Rattle.stream.proofs.StreamLaws.{Read}
-use Rattle.stream.proofs.ListingLaws.{stream-read}
-use Rattle.stream.proofs.Distinct.{Chain, chain_links, chain-listed, chain-append, run-listed, record-listed, read_length, read-run, read-chain}
+use Rattle.stream.proofs.ListingLaws.{stream_read}
+use Rattle.stream.proofs.Distinct.{Chain, chain_links, chain_listed, chain-append, run_listed, record_listed, read_length, read-run, read-chain}
 use Rattle.search.specs.Search.{all_from}
 use Rattle.choice.specs.Choice.{chosen}
 use Rattle.write_alloc.specs.Take.{link_run, take_each}
@@ -33,18 +33,18 @@ use Rattle.write_alloc.specs.Allocate.{allocate_in}
 use Rattle.write_extend.specs.Extend.{more_cause, in_place, link_old, longer_run, longer_chain, longer, extend_in}
 use Rattle.write_extend.specs.Internal.{Allowed}
 use Rattle.write_alloc.proofs.Links.{last_append}
-use Rattle.search.proofs.Runs.{run-hit}
-use Rattle.choice.proofs.ChoiceLaws.{choose-after, chosen-run, length-chosen, few-count}
+use Rattle.search.proofs.Runs.{run_hit}
+use Rattle.choice.proofs.ChoiceLaws.{choose-after, chosen-run, length-chosen, few_count}
 use Rattle.search.proofs.Lowest.{Whole, all_whole}
-use Rattle.write_alloc.proofs.TakeLaws.{Before, Inside, fits-linkRun, run-link, run-link-other, run-link-byte}
+use Rattle.write_alloc.proofs.TakeLaws.{Before, Inside, fits_link_run, run-link, run-link_other, run-link_byte}
 use Rattle.write_alloc.proofs.AllocateLaws.{wrap_low}
-use Rattle.write_extend.proofs.ExtendLaws.{more-few, more-none, allowed_of, place-usable, place-facts, link-chain, link-run, LastOf, tail_of, old-kept, length-old, start-in, longer-in, longer-out, given-done, given_refused, extend-hint, extend-none, extend-new, extend-longer, extend-refused}
-use Rattle.write_alloc.proofs.GrowLaws.{Fresh, Grows, fresh-inside, fresh_unmarked, run-fresh, run-new, run-other, run-grown, sealed-long, sealed-mark, sealed-mark-other, sealed-fat, sealed-byte, sealed-count, sealed-end, sealed-links, sealed-first, chosen-fresh, allocate-kept}
+use Rattle.write_extend.proofs.ExtendLaws.{more_few, more_none, allowed_of, place_usable, place_facts, link-chain, link-run, LastOf, tail_of, old_kept, length-old, start_in, longer_in, longer_out, given-done, given_refused, extend_hint, extend_none, extend_new, extend_longer, extend_refused}
+use Rattle.write_alloc.proofs.GrowLaws.{Fresh, Grows, fresh_inside, fresh_unmarked, run_fresh, run-new, run_other, run_grown, sealed_long, sealed_mark, sealed_mark_other, sealed_fat, sealed_byte, sealed-count, sealed_end, sealed_links, sealed_first, chosen_fresh, allocate_kept}
 
 -- ---- lists
 
 every_append : (p : ℕ → Bool) (xs zs : List ℕ) → every p xs ≡ true → every p zs ≡ true → every p (xs ++ zs) ≡ true
-every_append p xs zs h i = mem-every p (xs ++ zs) (λ k m. ⊎_elim (λ q. every-mem p xs h k q) (λ q. every-mem p zs i k q) (mem_append xs m))
+every_append p xs zs h i = mem_every p (xs ++ zs) (λ k m. ⊎_elim (λ q. every_mem p xs h k q) (λ q. every_mem p zs i k q) (mem_append xs m))
 
 consec_head : (k n : ℕ) → 1 ≤ n → consec k n ≡ k ∷ consec (k + 1) (n - 1)
 unfolding consec
@@ -73,7 +73,7 @@ module _ (y : Layout) (d : List ℕ) (w : Fits y d) (a : Allocation) (some : 1 �
   old = clusters_of (stream_of y d a)
 
   read : Read y.count (fat_entry y d) (marked y d) a old
-  read = stream-read y d a reads
+  read = stream_read y d a reads
 
   tail : LastOf y d a
   tail = tail_of y d a reads some
@@ -83,25 +83,25 @@ module _ (y : Layout) (d : List ℕ) (w : Fits y d) (a : Allocation) (some : 1 �
 
   -- its clusters are not among those that may be taken
   pub old_apart : (m new : List ℕ) → Fresh y d m new → (k : ℕ) → Mem k old → Mem k new → ⊥
-  old_apart m new f k i j = false≢true (sym (fresh_unmarked y d m new f k j) ∙ every-mem (marked y d) old read.marks k i)
+  old_apart m new f k i j = false≢true (sym (fresh_unmarked y d m new f k j) ∙ every_mem (marked y d) old read.marks k i)
 
   last_apart : (m new : List ℕ) → Fresh y d m new → Mem a.last new → ⊥
   last_apart m new f j = false≢true (sym (fresh_unmarked y d m new f a.last j) ∙ tail.mark)
 
-  last-lt : a.last < y.count + 2
-  last-lt = (in_heap_lem y.count a.last tail.heap).1
+  last_lt : a.last < y.count + 2
+  last_lt = (in_heap_lem y.count a.last tail.heap).1
 
   -- ---- a run that stays one
 
-  pub longer-run-grown : (m : List ℕ) (n : ℕ) → a.no_fat_chain ≡ true → a.last + 1 + n ≤ y.count + 2
+  pub longer-run_grown : (m : List ℕ) (n : ℕ) → a.no_fat_chain ≡ true → a.last + 1 + n ≤ y.count + 2
       → Whole (is_usable y d m) (a.last + 1) n → Grows y d m (longer_run y d a n) old (consec (a.last + 1) n)
   unfolding longer_run stream_of
-  longer-run-grown m n t h u =
-      run-grown y d m w (a.last + 1) n low h u a' old
-      (run-listed y.count (fat_entry y d') (marked y d') a' refl (omega (arith, tail.run_end t))
+  longer-run_grown m n t h u =
+      run_grown y d m w (a.last + 1) n low h u a' old
+      (run_listed y.count (fat_entry y d') (marked y d') a' refl (omega (arith, tail.run_end t))
       (ap (every (in_heap y.count)) row ∙ every_append (in_heap y.count) old (consec (a.last + 1) n) read.heap fresh.heap)
-      (ap (every (marked y d')) row ∙ every_append (marked y d') old (consec (a.last + 1) n) marks-old
-      (mem-every (marked y d') (consec (a.last + 1) n) (run-new y d m w (a.last + 1) n low h u)))
+      (ap (every (marked y d')) row ∙ every_append (marked y d') old (consec (a.last + 1) n) marks_old
+      (mem_every (marked y d') (consec (a.last + 1) n) (run-new y d m w (a.last + 1) n low h u)))
       ∙ ap listed row)
     where
       d' : List ℕ
@@ -114,17 +114,17 @@ module _ (y : Layout) (d : List ℕ) (w : Fits y d) (a : Allocation) (some : 1 �
       low = omega (arith, (in_heap_lem y.count a.last tail.heap).0)
 
       fresh : Fresh y d m (consec (a.last + 1) n)
-      fresh = run-fresh y d m w (a.last + 1) n low h u
+      fresh = run_fresh y d m w (a.last + 1) n low h u
 
       row : consec a.first (a.count + n) ≡ old ++ consec (a.last + 1) n
       row =
           consec-append a.first a.count n
           ∙ ap₂ (λ (xs : List ℕ) (x : ℕ). xs ++ consec x n) (sym (read-run y.count (fat_entry y d) (marked y d) a old read t)) (tail.run_end t)
 
-      marks-old : every (marked y d') old ≡ true
-      marks-old = mem-every (marked y d') old
-          (λ k i. run-other y d m w (a.last + 1) n low h u k (every-mem (in_heap y.count) old read.heap k i) (old_apart m (consec (a.last + 1) n) fresh k i)
-          ∙ every-mem (marked y d) old read.marks k i)
+      marks_old : every (marked y d') old ≡ true
+      marks_old = mem_every (marked y d') old
+          (λ k i. run_other y d m w (a.last + 1) n low h u k (every_mem (in_heap y.count) old read.heap k i) (old_apart m (consec (a.last + 1) n) fresh k i)
+          ∙ every_mem (marked y d) old read.marks k i)
 
   -- ---- its clusters linked
 
@@ -134,61 +134,61 @@ module _ (y : Layout) (d : List ℕ) (w : Fits y d) (a : Allocation) (some : 1 �
   fits₀ : Fits y d₀
   fits₀ = fits_kept y d d₀ (length-old y [] d a w tail some) w
 
-  old-mark : (j : ℕ) → j < y.count + 2 → marked y d₀ j ≡ marked y d j
-  old-mark j b = (old-kept y [] d a w tail some j b).1
+  old_mark : (j : ℕ) → j < y.count + 2 → marked y d₀ j ≡ marked y d j
+  old_mark j b = (old_kept y [] d a w tail some j b).1
 
   old-count : marked_count y d₀ ≡ marked_count y d
   unfolding marked_count
-  old-count = count_cong (marked y d) (marked y d₀) 2 y.count (λ j l b. old-mark j (omega arith))
+  old-count = count_cong (marked y d) (marked y d₀) 2 y.count (λ j l b. old_mark j (omega arith))
 
   module _ (t : a.no_fat_chain ≡ true) where
     abbrev d₁ : List ℕ
     d₁ = link_run y d a.first (a.count - 1)
 
     fits₁ : Fits y d₁
-    fits₁ = fits-linkRun y d w a.first (a.count - 1)
+    fits₁ = fits_link_run y d w a.first (a.count - 1)
 
     row_is : old ≡ consec a.first a.count
     row_is = read-run y.count (fat_entry y d) (marked y d) a old read t
 
-    first-low : 2 ≤ a.first
-    first-low =
+    first_low : 2 ≤ a.first
+    first_low =
         (in_heap_lem y.count a.first
-        (every-mem (in_heap y.count) old read.heap a.first (subst (Mem a.first) (sym row_is) (consec_in a.first a.count a.first (omega arith) (omega arith))))).0
+        (every_mem (in_heap y.count) old read.heap a.first (subst (Mem a.first) (sym row_is) (consec_in a.first a.count a.first (omega arith) (omega arith))))).0
 
-    row-high : a.first + (a.count - 1) ≤ y.count + 2
-    row-high = omega (arith, tail.run_end t, last-lt)
+    row_high : a.first + (a.count - 1) ≤ y.count + 2
+    row_high = omega (arith, tail.run_end t, last_lt)
 
-    run-old-fat : (j : ℕ) → in_heap y.count j ≡ true → (Mem j old → ⊥) → fat_entry y (set_fat y d₁ a.last END) j ≡ fat_entry y d j
-    run-old-fat j h o =
+    run-old_fat : (j : ℕ) → in_heap y.count j ≡ true → (Mem j old → ⊥) → fat_entry y (set_fat y d₁ a.last END) j ≡ fat_entry y d j
+    run-old_fat j h o =
         let out : (a.first ≤ j) × (j < a.first + a.count) → ⊥ = λ r. o (subst (Mem j) (sym row_is) (consec_in a.first a.count j r.0 r.1)) in
-        fat-fat-other y d₁ fits₁ a.last END j last-lt (in_heap_lem y.count j h).1 (λ e. out (omega (arith, tail.run_end t), omega (arith, tail.run_end t)))
-        ∙ run-link-other y d w a.first (a.count - 1) first-low row-high j h (λ r. out (r.0, omega (arith, r.1)))
+        fat_fat_other y d₁ fits₁ a.last END j last_lt (in_heap_lem y.count j h).1 (λ e. out (omega (arith, tail.run_end t), omega (arith, tail.run_end t)))
+        ∙ run-link_other y d w a.first (a.count - 1) first_low row_high j h (λ r. out (r.0, omega (arith, r.1)))
 
-    run-old-byte : (k j : ℕ) → plain y k ≡ true → j < y.size → cluster_byte y (set_fat y d₁ a.last END) k j ≡ cluster_byte y d k j
-    run-old-byte k j h b =
-        cluster-fat y d₁ fits₁ a.last END k j last-lt ∙ run-link-byte y d w a.first (a.count - 1) first-low row-high k j h b
+    run-old_byte : (k j : ℕ) → plain y k ≡ true → j < y.size → cluster_byte y (set_fat y d₁ a.last END) k j ≡ cluster_byte y d k j
+    run-old_byte k j h b =
+        cluster_fat y d₁ fits₁ a.last END k j last_lt ∙ run-link_byte y d w a.first (a.count - 1) first_low row_high k j h b
 
-    run-old-links : (xs : List ℕ) (k j : ℕ) (zs : List ℕ) → consec a.first a.count ≡ xs ++ k ∷ j ∷ zs → fat_entry y (set_fat y d₁ a.last END) k ≡ j
-    run-old-links xs k j zs q =
+    run-old_links : (xs : List ℕ) (k j : ℕ) (zs : List ℕ) → consec a.first a.count ≡ xs ++ k ∷ j ∷ zs → fat_entry y (set_fat y d₁ a.last END) k ≡ j
+    run-old_links xs k j zs q =
         let r = consec_next a.first a.count xs k j zs q in
         let e = tail.run_end t in
-        fat-fat-other y d₁ fits₁ a.last END k last-lt (omega (arith, last-lt)) (omega arith)
-        ∙ run-link y d w a.first (a.count - 1) first-low row-high k r.0 (omega arith) ∙ sym r.2
+        fat_fat_other y d₁ fits₁ a.last END k last_lt (omega (arith, last_lt)) (omega arith)
+        ∙ run-link y d w a.first (a.count - 1) first_low row_high k r.0 (omega arith) ∙ sym r.2
 
-  old-byte : (k j : ℕ) → plain y k ≡ true → j < y.size → cluster_byte y d₀ k j ≡ cluster_byte y d k j
-  old-byte k j h b = by a.no_fat_chain refl
+  old_byte : (k j : ℕ) → plain y k ≡ true → j < y.size → cluster_byte y d₀ k j ≡ cluster_byte y d k j
+  old_byte k j h b = by a.no_fat_chain refl
     where
       by : (r : Bool) → a.no_fat_chain ≡ r → cluster_byte y d₀ k j ≡ cluster_byte y d k j
       by false t = ap (λ (e : List ℕ). cluster_byte y e k j) (link-chain y d a t)
-      by true t = ap (λ (e : List ℕ). cluster_byte y e k j) (link-run y d a t) ∙ run-old-byte t k j h b
+      by true t = ap (λ (e : List ℕ). cluster_byte y e k j) (link-run y d a t) ∙ run-old_byte t k j h b
 
-  old-fat : (j : ℕ) → in_heap y.count j ≡ true → (Mem j old → ⊥) → fat_entry y d₀ j ≡ fat_entry y d j
-  old-fat j h o = by a.no_fat_chain refl
+  old_fat : (j : ℕ) → in_heap y.count j ≡ true → (Mem j old → ⊥) → fat_entry y d₀ j ≡ fat_entry y d j
+  old_fat j h o = by a.no_fat_chain refl
     where
       by : (r : Bool) → a.no_fat_chain ≡ r → fat_entry y d₀ j ≡ fat_entry y d j
       by false t = ap (λ (e : List ℕ). fat_entry y e j) (link-chain y d a t)
-      by true t = ap (λ (e : List ℕ). fat_entry y e j) (link-run y d a t) ∙ run-old-fat t j h o
+      by true t = ap (λ (e : List ℕ). fat_entry y e j) (link-run y d a t) ∙ run-old_fat t j h o
 
   -- they are a chain then
   old-chain : (c : ℕ) (cs : List ℕ) → old ≡ c ∷ cs → read_chain y.count (fat_entry y d₀) a.first ≡ listed (c ∷ cs)
@@ -201,34 +201,34 @@ module _ (y : Layout) (d : List ℕ) (w : Fits y d) (a : Allocation) (some : 1 �
       by : (b : Bool) → a.no_fat_chain ≡ b → read_chain y.count (fat_entry y d₀) a.first ≡ listed (c ∷ cs)
       by false t =
           ap (λ (e : List ℕ). read_chain y.count (fat_entry y e) a.first) (link-chain y d a t)
-          ∙ chain-listed y.count (fat_entry y d) (small y d w) a.first c cs (read-chain y.count (fat_entry y d) (marked y d) a c cs r t)
+          ∙ chain_listed y.count (fat_entry y d) (small y d w) a.first c cs (read-chain y.count (fat_entry y d) (marked y d) a c cs r t)
       by true t =
           let f = fat_entry y (set_fat y (link_run y d a.first (a.count - 1)) a.last END) in
           let p : c ∷ cs ≡ consec a.first a.count = sym q ∙ row_is t in
           let z : c ≡ a.first = let g = p ∙ consec_head a.first a.count some in cc in
           let l : last_or c cs ≡ a.last = r.last nonzero c in
           ap (λ (e : List ℕ). read_chain y.count (fat_entry y e) a.first) (link-run y d a t)
-          ∙ chain-listed y.count f (small y d w) a.first c cs
+          ∙ chain_listed y.count f (small y d w) a.first c cs
           (subst (λ (x : ℕ). Chain y.count f x (c ∷ cs)) z
-          (chain_links y.count f c cs (λ xs k j zs e. run-old-links t xs k j zs (sym p ∙ e)) r.heap
-          (ap f l ∙ fat-fat-same y (link_run y d a.first (a.count - 1)) (fits₁ t) a.last END last-lt (omega arith))))
+          (chain_links y.count f c cs (λ xs k j zs e. run-old_links t xs k j zs (sym p ∙ e)) r.heap
+          (ap f l ∙ fat_fat_same y (link_run y d a.first (a.count - 1)) (fits₁ t) a.last END last_lt (omega arith))))
 
   -- ---- and others linked on
 
-  pub longer-chain-grown : (m new : List ℕ) → Fresh y d m new → 1 ≤ length new → Grows y d m (longer_chain y d a new) old new
+  pub longer-chain_grown : (m new : List ℕ) → Fresh y d m new → 1 ≤ length new → Grows y d m (longer_chain y d a new) old new
   unfolding longer_chain last_or
-  longer-chain-grown m [] f h = absurd (omega arith)
-  longer-chain-grown m (b ∷ bs) f h = record {
-    long = sealed-long y d₀ fits₀ a.last b bs before inside f.distinct ∙ length-old y [] d a w tail some;
+  longer-chain_grown m [] f h = absurd (omega arith)
+  longer-chain_grown m (b ∷ bs) f h = record {
+    long = sealed_long y d₀ fits₀ a.last b bs before inside f.distinct ∙ length-old y [] d a w tail some;
     reads = unfold stream_of in at old refl;
     fresh = f;
-    marks_new = sealed-mark y d₀ fits₀ a.last b bs before inside f.distinct;
+    marks_new = sealed_mark y d₀ fits₀ a.last b bs before inside f.distinct;
     marks_kept = kept;
-    fat_kept = λ k i o p. sealed-fat y d₀ fits₀ a.last b bs before inside f.distinct k i (λ e. o (subst (λ (x : ℕ). Mem x old) (sym e) last-old)) p ∙ old-fat k i o;
-    bytes_kept = λ k j p q. sealed-byte y d₀ fits₀ a.last b bs before inside f.distinct k j p q ∙ old-byte k j p q;
+    fat_kept = λ k i o p. sealed_fat y d₀ fits₀ a.last b bs before inside f.distinct k i (λ e. o (subst (λ (x : ℕ). Mem x old) (sym e) last_old)) p ∙ old_fat k i o;
+    bytes_kept = λ k j p q. sealed_byte y d₀ fits₀ a.last b bs before inside f.distinct k j p q ∙ old_byte k j p q;
     counts =
         sealed-count y d₀ fits₀ a.last b bs before inside f.distinct
-        (λ k i. old-mark k (in_heap_lem y.count k (inside k i)).1 ∙ fresh_unmarked y d m (b ∷ bs) f k i)
+        (λ k i. old_mark k (in_heap_lem y.count k (inside k i)).1 ∙ fresh_unmarked y d m (b ∷ bs) f k i)
         ∙ ap (λ (x : ℕ). x + length (b ∷ bs)) old-count;
   }
     where
@@ -236,7 +236,7 @@ module _ (y : Layout) (d : List ℕ) (w : Fits y d) (a : Allocation) (some : 1 �
       before _ = tail.heap
 
       inside : Inside y (b ∷ bs)
-      inside = fresh-inside y d m (b ∷ bs) f
+      inside = fresh_inside y d m (b ∷ bs) f
 
       d' : List ℕ
       d' = set_fat y (take_each y (link_old y d a) a.last (b ∷ bs)) (last_or b bs) END
@@ -245,38 +245,38 @@ module _ (y : Layout) (d : List ℕ) (w : Fits y d) (a : Allocation) (some : 1 �
       a' = record { first = a.first; last = last_or b bs; count = a.count + length (b ∷ bs); no_fat_chain = false }
 
       kept : (k : ℕ) → in_heap y.count k ≡ true → (Mem k (b ∷ bs) → ⊥) → marked y d' k ≡ marked y d k
-      kept k i o = sealed-mark-other y d₀ fits₀ a.last b bs before inside f.distinct k i o ∙ old-mark k (in_heap_lem y.count k i).1
+      kept k i o = sealed_mark_other y d₀ fits₀ a.last b bs before inside f.distinct k i o ∙ old_mark k (in_heap_lem y.count k i).1
 
-      in-old : (l : List ℕ) → ((z : ℕ) → last_or z l ≡ a.last) → 1 ≤ length l → Mem a.last l
-      in-old [] q n = absurd (omega arith)
-      in-old (c ∷ cs) q n = subst (λ (x : ℕ). Mem x (c ∷ cs)) (q c) (last_in c cs)
+      in_old : (l : List ℕ) → ((z : ℕ) → last_or z l ≡ a.last) → 1 ≤ length l → Mem a.last l
+      in_old [] q n = absurd (omega arith)
+      in_old (c ∷ cs) q n = subst (λ (x : ℕ). Mem x (c ∷ cs)) (q c) (last_in c cs)
 
       old-length : length old ≡ a.count
       old-length = read_length y.count (fat_entry y d) (marked y d) a old read
 
-      last-old : Mem a.last old
-      last-old = in-old old (read.last nonzero) (omega (arith, old-length))
+      last_old : Mem a.last old
+      last_old = in_old old (read.last nonzero) (omega (arith, old-length))
 
-      old-heap : (k : ℕ) → Mem k old → in_heap y.count k ≡ true
-      old-heap k i = every-mem (in_heap y.count) old read.heap k i
+      old_heap : (k : ℕ) → Mem k old → in_heap y.count k ≡ true
+      old_heap k i = every_mem (in_heap y.count) old read.heap k i
 
       at : (l : List ℕ) → old ≡ l → read_stream y.count (fat_entry y d') (marked y d') a' ≡ listed (l ++ b ∷ bs)
       at [] q = let z = ap length q in absurd (omega (arith, old-length))
       at (c ∷ cs) q =
-          record-listed y.count (fat_entry y d') (marked y d') a' c (cs ++ b ∷ bs) refl
+          record_listed y.count (fat_entry y d') (marked y d') a' c (cs ++ b ∷ bs) refl
           (chain-append y.count (small y d w) (fat_entry y d₀) (fat_entry y d') a.first c cs b bs (old-chain c cs q)
-          (λ j i n. sealed-fat y d₀ fits₀ a.last b bs before inside f.distinct j (old-heap j (subst (Mem j) (sym q) i)) (λ e. n (e ∙ sym last_is))
+          (λ j i n. sealed_fat y d₀ fits₀ a.last b bs before inside f.distinct j (old_heap j (subst (Mem j) (sym q) i)) (λ e. n (e ∙ sym last_is))
           (old_apart m (b ∷ bs) f j (subst (Mem j) (sym q) i)))
-          (ap (fat_entry y d') last_is ∙ sealed-first y d₀ fits₀ a.last b bs before inside f.distinct tail.heap (last_apart m (b ∷ bs) f))
-          (sealed-links y d₀ fits₀ a.last b bs before inside f.distinct) f.heap
-          (sealed-end y d₀ fits₀ a.last b bs before inside f.distinct))
+          (ap (fat_entry y d') last_is ∙ sealed_first y d₀ fits₀ a.last b bs before inside f.distinct tail.heap (last_apart m (b ∷ bs) f))
+          (sealed_links y d₀ fits₀ a.last b bs before inside f.distinct) f.heap
+          (sealed_end y d₀ fits₀ a.last b bs before inside f.distinct))
           (omega (arith, ap length q, old-length, length-append cs (b ∷ bs)))
           (last_append c cs (b ∷ bs))
           (every_append (marked y d') (c ∷ cs) (b ∷ bs)
-          (mem-every (marked y d') (c ∷ cs) (λ k i.
-          kept k (old-heap k (subst (Mem k) (sym q) i)) (old_apart m (b ∷ bs) f k (subst (Mem k) (sym q) i))
-          ∙ every-mem (marked y d) old read.marks k (subst (Mem k) (sym q) i)))
-          (mem-every (marked y d') (b ∷ bs) (sealed-mark y d₀ fits₀ a.last b bs before inside f.distinct)))
+          (mem_every (marked y d') (c ∷ cs) (λ k i.
+          kept k (old_heap k (subst (Mem k) (sym q) i)) (old_apart m (b ∷ bs) f k (subst (Mem k) (sym q) i))
+          ∙ every_mem (marked y d) old read.marks k (subst (Mem k) (sym q) i)))
+          (mem_every (marked y d') (b ∷ bs) (sealed_mark y d₀ fits₀ a.last b bs before inside f.distinct)))
         where
           last_is : last_or c cs ≡ a.last
           last_is = ap (last_or c) (sym q) ∙ read.last nonzero c
@@ -290,7 +290,7 @@ place_chosen y d m a n one low t h e =
     let u = is_usable y d m in
     ap (chosen u y.count n) (wrap_low y.count (a.last + 1) (omega arith))
     ∙ chosen-run u y.count n (a.last + 1) (omega arith) (a.last + 1)
-    (choose-after u y.count n (a.last + 1) (a.last + 1) (run-hit u (y.count + 2) n (a.last + 1) h e))
+    (choose-after u y.count n (a.last + 1) (a.last + 1) (run_hit u (y.count + 2) n (a.last + 1) h e))
 
 pub place_run : (y : Layout) (d m : List ℕ) (a : Allocation) (n : ℕ) → in_place y d m a n ≡ true → a.no_fat_chain ≡ true
 unfolding in_place
@@ -298,17 +298,17 @@ place_run y d m a n e = and_left a.no_fat_chain (leb (a.last + 1 + n) (y.count +
 
 module _ (y : Layout) (d m : List ℕ) (w : Fits y d) (a : Allocation) (n : ℕ) (some : 1 ≤ a.count) (one : 1 ≤ n) (ok : Allowed y d m a n) where
   start_heap : in_heap y.count (wrap y.count (a.last + 1)) ≡ true
-  start_heap = start-in y d m a n w.laid w.apart w.long some one ok
+  start_heap = start_in y d m a n w.laid w.apart w.long some one ok
 
   pub length_more : length (chosen (is_usable y d m) y.count n (wrap y.count (a.last + 1))) ≡ n
   length_more =
       let s = in_heap_lem y.count (wrap y.count (a.last + 1)) start_heap in
       length-chosen (is_usable y d m) y.count n (wrap y.count (a.last + 1)) s.0 (omega arith)
-      (λ q. let h = few-count (is_usable y d m) y.count n (wrap y.count (a.last + 1)) q in let e = ok.enough in omega arith)
+      (λ q. let h = few_count (is_usable y d m) y.count n (wrap y.count (a.last + 1)) q in let e = ok.enough in omega arith)
 
   -- n more clusters are those of the choice from last + 1 on
-  pub longer-grown : Grows y d m (longer y d m a n) (clusters_of (stream_of y d a)) (chosen (is_usable y d m) y.count n (wrap y.count (a.last + 1)))
-  longer-grown = by (in_place y d m a n) refl
+  pub longer_grown : Grows y d m (longer y d m a n) (clusters_of (stream_of y d a)) (chosen (is_usable y d m) y.count n (wrap y.count (a.last + 1)))
+  longer_grown = by (in_place y d m a n) refl
     where
       new : List ℕ
       new = chosen (is_usable y d m) y.count n (wrap y.count (a.last + 1))
@@ -316,22 +316,22 @@ module _ (y : Layout) (d m : List ℕ) (w : Fits y d) (a : Allocation) (n : ℕ)
       by : (b : Bool) → in_place y d m a n ≡ b → Grows y d m (longer y d m a n) (clusters_of (stream_of y d a)) new
       by true e =
           let t = place_run y d m a n e in
-          let h = place-facts y d m a n w.laid w.apart w.long some one ok e in
-          let u = sym (place-usable y d m a n t h) ∙ e in
+          let h = place_facts y d m a n w.laid w.apart w.long some one ok e in
+          let u = sym (place_usable y d m a n t h) ∙ e in
           let l = in_heap_lem y.count a.last (tail_of y d a ok.reads some).heap in
-          subst (λ (o : Outcome). Grows y d m o (clusters_of (stream_of y d a)) new) (sym (longer-in y d m a n e))
+          subst (λ (o : Outcome). Grows y d m o (clusters_of (stream_of y d a)) new) (sym (longer_in y d m a n e))
           (subst (λ (ks : List ℕ). Grows y d m (longer_run y d a n) (clusters_of (stream_of y d a)) ks) (sym (place_chosen y d m a n one (omega arith) t h u))
-          (longer-run-grown y d w a some ok.reads m n t h (all_whole (is_usable y d m) (a.last + 1) n u)))
+          (longer-run_grown y d w a some ok.reads m n t h (all_whole (is_usable y d m) (a.last + 1) n u)))
       by false e =
-          subst (λ (o : Outcome). Grows y d m o (clusters_of (stream_of y d a)) new) (sym (longer-out y d m a n e))
-          (longer-chain-grown y d w a some ok.reads m new (chosen-fresh y d m w n (wrap y.count (a.last + 1)) start_heap) (omega (arith, length_more)))
+          subst (λ (o : Outcome). Grows y d m o (clusters_of (stream_of y d a)) new) (sym (longer_out y d m a n e))
+          (longer-chain_grown y d w a some ok.reads m new (chosen_fresh y d m w n (wrap y.count (a.last + 1)) start_heap) (omega (arith, length_more)))
 
-  pub longer-number : (longer y d m a n).answer.number ≡ 0
-  longer-number = by (in_place y d m a n) refl
+  pub longer_number : (longer y d m a n).answer.number ≡ 0
+  longer_number = by (in_place y d m a n) refl
     where
       by : (b : Bool) → in_place y d m a n ≡ b → (longer y d m a n).answer.number ≡ 0
-      by true e = ap (λ (o : Outcome). o.answer.number) (longer-in y d m a n e) ∙ (unfold longer_run in refl)
-      by false e = ap (λ (o : Outcome). o.answer.number) (longer-out y d m a n e) ∙ (unfold longer_chain in refl)
+      by true e = ap (λ (o : Outcome). o.answer.number) (longer_in y d m a n e) ∙ (unfold longer_run in refl)
+      by false e = ap (λ (o : Outcome). o.answer.number) (longer_out y d m a n e) ∙ (unfold longer_chain in refl)
 
 module _ (y : Layout) (d m : List ℕ) (w : Fits y d) (a : Allocation) (n hint : ℕ) where
   -- a record that has clusters: nothing refuses, n are chosen, and they are taken after its own
@@ -344,41 +344,41 @@ module _ (y : Layout) (d m : List ℕ) (w : Fits y d) (a : Allocation) (n hint :
   number : (o : Outcome) → extend_in y d m a n hint ≡ o → (extend_in y d m a n hint).answer.number ≡ o.answer.number
   number o q = ap (λ (o : Outcome). o.answer.number) q
 
-  pub extend-grown : 1 ≤ a.count → 1 ≤ n → (extend_in y d m a n hint).answer.number ≡ 0 → Extended
-  extend-grown some one e = by (in_heap y.count hint) refl (eqb (more_cause y d m a n) 0) refl
+  pub extend_grown : 1 ≤ a.count → 1 ≤ n → (extend_in y d m a n hint).answer.number ≡ 0 → Extended
+  extend_grown some one e = by (in_heap y.count hint) refl (eqb (more_cause y d m a n) 0) refl
     where
       by : (b : Bool) → in_heap y.count hint ≡ b → (c : Bool) → eqb (more_cause y d m a n) 0 ≡ c → Extended
       by false p c q =
-          let z : ◌≡◌ {A = ℕ} 2 0 = sym (number (unchanged 2 a hint d) (extend-hint y d m a n hint p)) ∙ e in absurd (omega arith)
+          let z : ◌≡◌ {A = ℕ} 2 0 = sym (number (unchanged 2 a hint d) (extend_hint y d m a n hint p)) ∙ e in absurd (omega arith)
       by true p false q =
           let x = eqb-false (more_cause y d m a n) 0 q in
-          absurd (x (sym (number (unchanged (more_cause y d m a n) a hint d) (extend-refused y d m a n hint (more_cause y d m a n) p (λ t. omega arith) (λ t. omega arith) refl x)) ∙ e))
+          absurd (x (sym (number (unchanged (more_cause y d m a n) a hint d) (extend_refused y d m a n hint (more_cause y d m a n) p (λ t. omega arith) (λ t. omega arith) refl x)) ∙ e))
       by true p true q =
           let x = eqb-true (more_cause y d m a n) 0 q in
           let ok = allowed_of y d m a n x in (
             ok,
             length_more y d m w a n some one ok,
             subst (λ (o : Outcome). Grows y d m o (clusters_of (stream_of y d a)) (chosen (is_usable y d m) y.count n (wrap y.count (a.last + 1))))
-                (sym (extend-longer y d m a n hint p (λ t. omega arith) (λ t. omega arith) x)) (longer-grown y d m w a n some one ok),
+                (sym (extend_longer y d m a n hint p (λ t. omega arith) (λ t. omega arith) x)) (longer_grown y d m w a n some one ok),
           )
 
   -- an empty record: what allocate does, without near
-  pub extend-empty : a.count ≡ 0 → 1 ≤ n → (extend_in y d m a n hint).answer.number ≡ 0 → extend_in y d m a n hint ≡ allocate_in y d m n false 0 hint
-  extend-empty z one e = by (in_heap y.count hint) refl (ℕ_discrete (allocate_in y d m n false 0 hint).answer.number 0)
+  pub extend_empty : a.count ≡ 0 → 1 ≤ n → (extend_in y d m a n hint).answer.number ≡ 0 → extend_in y d m a n hint ≡ allocate_in y d m n false 0 hint
+  extend_empty z one e = by (in_heap y.count hint) refl (ℕ_discrete (allocate_in y d m n false 0 hint).answer.number 0)
     where
       by : (b : Bool) → in_heap y.count hint ≡ b → Dec ((allocate_in y d m n false 0 hint).answer.number ≡ 0)
           → extend_in y d m a n hint ≡ allocate_in y d m n false 0 hint
       by false p c =
-          let z : ◌≡◌ {A = ℕ} 2 0 = sym (number (unchanged 2 a hint d) (extend-hint y d m a n hint p)) ∙ e in absurd (omega arith)
-      by true p (yes c) = extend-new y d m a n hint p (λ t. omega arith) z ∙ given-done a (allocate_in y d m n false 0 hint) c
+          let z : ◌≡◌ {A = ℕ} 2 0 = sym (number (unchanged 2 a hint d) (extend_hint y d m a n hint p)) ∙ e in absurd (omega arith)
+      by true p (yes c) = extend_new y d m a n hint p (λ t. omega arith) z ∙ given-done a (allocate_in y d m n false 0 hint) c
       by true p (no c) =
           let o = allocate_in y d m n false 0 hint in
-          absurd (c (sym (number (unchanged o.answer.number a o.answer.hint o.volume) (extend-new y d m a n hint p (λ t. omega arith) z ∙ given_refused a o c)) ∙ e))
+          absurd (c (sym (number (unchanged o.answer.number a o.answer.hint o.volume) (extend_new y d m a n hint p (λ t. omega arith) z ∙ given_refused a o c)) ∙ e))
 
   -- refused, or with nothing to take, it leaves the volume and answers with the record as given
-  pub extend-kept : (((extend_in y d m a n hint).answer.number ≡ 0) × (1 ≤ n) → ⊥)
+  pub extend_kept : (((extend_in y d m a n hint).answer.number ≡ 0) × (1 ≤ n) → ⊥)
       → extend_in y d m a n hint ≡ unchanged (extend_in y d m a n hint).answer.number a hint d
-  extend-kept out = by (in_heap y.count hint) refl (ℕ_discrete n 0) (ℕ_discrete a.count 0)
+  extend_kept out = by (in_heap y.count hint) refl (ℕ_discrete n 0) (ℕ_discrete a.count 0)
     where
       again : (x : ℕ) → extend_in y d m a n hint ≡ unchanged x a hint d → extend_in y d m a n hint ≡ unchanged (extend_in y d m a n hint).answer.number a hint d
       again x q = q ∙ ap (λ (z : ℕ). unchanged z a hint d) (sym (number (unchanged x a hint d) q))
@@ -387,38 +387,38 @@ module _ (y : Layout) (d m : List ℕ) (w : Fits y d) (a : Allocation) (n hint :
           → extend_in y d m a n hint ≡ unchanged (extend_in y d m a n hint).answer.number a hint d
       new p z c (yes e) =
           let o = allocate_in y d m n false 0 hint in
-          absurd (out (number o (extend-new y d m a n hint p z c ∙ given-done a o e) ∙ e, omega arith))
+          absurd (out (number o (extend_new y d m a n hint p z c ∙ given-done a o e) ∙ e, omega arith))
       new p z c (no e) =
           let o = allocate_in y d m n false 0 hint in
-          let k = allocate-kept y d m w n false 0 hint (λ r. e r.0) in
+          let k = allocate_kept y d m w n false 0 hint (λ r. e r.0) in
           again o.answer.number
-          (extend-new y d m a n hint p z c ∙ given_refused a o e ∙ ap (λ (x : Outcome). unchanged o.answer.number a x.answer.hint x.volume) k)
+          (extend_new y d m a n hint p z c ∙ given_refused a o e ∙ ap (λ (x : Outcome). unchanged o.answer.number a x.answer.hint x.volume) k)
 
       by : (b : Bool) → in_heap y.count hint ≡ b → Dec (n ≡ 0) → Dec (a.count ≡ 0)
           → extend_in y d m a n hint ≡ unchanged (extend_in y d m a n hint).answer.number a hint d
-      by false p z c = again 2 (extend-hint y d m a n hint p)
-      by true p (yes z) c = again 0 (extend-none y d m a n hint p z)
+      by false p z c = again 2 (extend_hint y d m a n hint p)
+      by true p (yes z) c = again 0 (extend_none y d m a n hint p z)
       by true p (no z) (yes c) = new p z c (ℕ_discrete (allocate_in y d m n false 0 hint).answer.number 0)
       by true p (no z) (no c) =
           elim (ℕ_discrete (more_cause y d m a n) 0) [
             | yes q ↦ absurd (out (
-              number (longer y d m a n) (extend-longer y d m a n hint p z c q)
-                  ∙ longer-number y d m w a n (omega arith) (omega arith) (allowed_of y d m a n q),
+              number (longer y d m a n) (extend_longer y d m a n hint p z c q)
+                  ∙ longer_number y d m w a n (omega arith) (omega arith) (allowed_of y d m a n q),
               omega arith,
             ))
-            | no q ↦ again (more_cause y d m a n) (extend-refused y d m a n hint (more_cause y d m a n) p z c refl q)
+            | no q ↦ again (more_cause y d m a n) (extend_refused y d m a n hint (more_cause y d m a n) p z c refl q)
           ]
 
   -- where the hint is in the heap, the record reads and C is not passed, the one cause is that fewer are usable than wanted
   module _ (some : 1 ≤ a.count) (one : 1 ≤ n) (hint_in : in_heap y.count hint ≡ true) (reads : number_of (stream_of y d a) ≡ 0)
       (room : a.count + n ≤ y.count) where
-    pub extend-few : count (is_usable y d m) 2 y.count < n → extend_in y d m a n hint ≡ unchanged 7 a hint d
-    extend-few h =
-        extend-refused y d m a n hint 7 hint_in (λ t. omega arith) (λ t. omega arith)
-        (sym (more-few y d m a n (number_of (stream_of y d a)) room refl reads h)) (λ t. omega arith)
+    pub extend_few : count (is_usable y d m) 2 y.count < n → extend_in y d m a n hint ≡ unchanged 7 a hint d
+    extend_few h =
+        extend_refused y d m a n hint 7 hint_in (λ t. omega arith) (λ t. omega arith)
+        (sym (more_few y d m a n (number_of (stream_of y d a)) room refl reads h)) (λ t. omega arith)
 
-    pub extend-enough : n ≤ count (is_usable y d m) 2 y.count → (extend_in y d m a n hint).answer.number ≡ 0
-    extend-enough h =
-        let c = more-none y d m a n (number_of (stream_of y d a)) room refl reads h in
-        number (longer y d m a n) (extend-longer y d m a n hint hint_in (λ t. omega arith) (λ t. omega arith) c)
-        ∙ longer-number y d m w a n some one (record { room = room; reads = reads; enough = h })
+    pub extend_enough : n ≤ count (is_usable y d m) 2 y.count → (extend_in y d m a n hint).answer.number ≡ 0
+    extend_enough h =
+        let c = more_none y d m a n (number_of (stream_of y d a)) room refl reads h in
+        number (longer y d m a n) (extend_longer y d m a n hint hint_in (λ t. omega arith) (λ t. omega arith) c)
+        ∙ longer_number y d m w a n some one (record { room = room; reads = reads; enough = h })

@@ -15,11 +15,11 @@ use Rattle.stream.specs.declared.allocation.Allocation.{Allocation}
 use Rattle.stream.specs.Stream.{stream_of, clusters_of, clusters_in}
 use Rattle.entry_set.specs.declared.stamp.Stamp.{Stamp}
 use Rattle.entry_set.specs.Fields.{valid_length, data_length, clusters_for}
-use Rattle.write_shrink.proofs.KeepLaws.{shrink-on}
+use Rattle.write_shrink.proofs.KeepLaws.{shrink_on}
 use Rattle.file.specs.Outcome.{Outcome, carried}
 use Rattle.directory.specs.Open.{file_record}
 use Rattle.file.specs.Refresh.{stored, missing, refreshed_only}
-use Rattle.file.proofs.KeepLaws.{DirectoryOwn, StreamOwn, own-start, stored_on, refreshed-on, longer-on, data-on, own_after}
+use Rattle.file.proofs.KeepLaws.{DirectoryOwn, StreamOwn, own_start, stored_on, refreshed_on, longer_on, data_on, own_after}
 use Rattle.write_length.specs.SetLength.{shorter, longer_file, resized}
 
 -- the clusters of the stream once its set is stored
@@ -37,11 +37,11 @@ unfolding resized shorter longer_file carried
 resized_on y P K s d m a r i x f len t hint h enough =
     cond_case To (ltb len (data_length x)) (shorter y d m a i x len t hint)
     (cond (eqb len (data_length x)) (refreshed_only y d a i x t hint) (longer_file y d m a i x len t hint))
-    (λ _. shrink-on y P K s d m _ (stored_on y P K s d m a r d (own-start y P K s d m a r) i x _ _ len t) b (stored-after y P d m a r b f i x _ _ len t) (clusters_for y.size len) hint)
+    (λ _. shrink_on y P K s d m _ (stored_on y P K s d m a r d (own_start y P K s d m a r) i x _ _ len t) b (stored-after y P d m a r b f i x _ _ len t) (clusters_for y.size len) hint)
     (λ _. cond_case To (eqb len (data_length x)) (refreshed_only y d a i x t hint) (longer_file y d m a i x len t hint)
-    (λ _. refreshed-on y P K s d m a r i x t hint)
+    (λ _. refreshed_on y P K s d m a r i x t hint)
     (λ _. stored_on y P K s d m a r _
-    (data-on y P K s d m a r b f (missing y b len) hint h enough _ (longer-on y P K s d m a r b f (missing y b len) hint h enough) (valid_length x) _) i x _ _ _ t))
+    (data_on y P K s d m a r b f (missing y b len) hint h enough _ (longer_on y P K s d m a r b f (missing y b len) hint h enough) (valid_length x) _) i x _ _ _ t))
   where
     b : Allocation
     b = file_record y d x

@@ -21,11 +21,11 @@ use Rattle.write_shrink.specs.Shrink.{shrink_in}
 use Rattle.directory.specs.Directory.{root_record}
 use Rattle.stream.specs.Stream.{number_of, stream_of, clusters_in}
 use Rattle.stream.specs.Internal.{along}
-use Rattle.stream.proofs.ListingLaws.{along-heap}
-use Rattle.stream.proofs.BytesSteps.{every-before}
+use Rattle.stream.proofs.ListingLaws.{along_heap}
+use Rattle.stream.proofs.BytesSteps.{every_before}
 use Rattle.stream.proofs.BytesLaws.{take_short}
-use Rattle.write_shrink.proofs.Cutting.{cutVolume, shrink-cut}
-use Rattle.directory.proofs.DirectoryLaws.{clusters-length}
+use Rattle.write_shrink.proofs.Cutting.{cut_volume, shrink_cut}
+use Rattle.directory.proofs.DirectoryLaws.{clusters_length}
 use Rattle.file.specs.Outcome.{refuse, carried}
 use Rattle.directory.specs.Open.{file_record, set_in}
 use Rattle.directory.specs.declared.spot.Spot.{Spot}
@@ -34,13 +34,13 @@ use Rattle.directory.specs.Internal.{spot_clusters}
 use Rattle.directory.proofs.SpotLaws.{spot_store}
 use Rattle.file.specs.Refresh.{entries_of, open_cause}
 use Rattle.file.specs.Internal.{Opens}
-use Rattle.file.proofs.OpenLaws.{open-stands, opens-none, same_reads, same-system, shown_as, carried-shown}
+use Rattle.file.proofs.OpenLaws.{open_stands, opens_none, same_reads, same_system, shown_as, carried-shown}
 use Rattle.write_remove.specs.Remove.{unlinked, remove_in, remove}
 
 module _ (y : Layout) (d m : List ℕ) (a : Allocation) (slot hint : ℕ) where
-  pub remove-refused : (n : ℕ) → n ≡ open_cause y d m a slot hint → (n ≡ 0 → ⊥) → remove_in y d m a slot hint ≡ refuse n hint d
+  pub remove_refused : (n : ℕ) → n ≡ open_cause y d m a slot hint → (n ≡ 0 → ⊥) → remove_in y d m a slot hint ≡ refuse n hint d
   unfolding remove_in
-  remove-refused n e z = rw (← e, ne_eqb n 0 z) refl
+  remove_refused n e z = rw (← e, ne_eqb n 0 z) refl
 
   module _ (none : open_cause y d m a slot hint ≡ 0) where
     -- the volume that it leaves
@@ -64,10 +64,10 @@ module _ (y : Layout) (d m : List ℕ) (a : Allocation) (slot : ℕ) (s : List �
   abbrev bs : List ℕ
   bs = take (32 * entries_of s) (cleared s (entries_of s))
 
-  pub unlinked-spot : e ≡ store_at y d (clusters_in y d a) (32 * slot) (take (32 * entries_of s) (cleared s (entries_of s)))
-  unlinked-spot =
-      let h = open-stands y d m a slot s f hint o in
-      let c = clusters-length y d a h.reads in
+  pub unlinked_spot : e ≡ store_at y d (clusters_in y d a) (32 * slot) (take (32 * entries_of s) (cleared s (entries_of s)))
+  unlinked_spot =
+      let h = open_stands y d m a slot s f hint o in
+      let c = clusters_length y d a h.reads in
       let k : length bs ≤ 32 * entries_of s = take_short (32 * entries_of s) (cleared s (entries_of s)) in
       r ∙ ap (λ (x : Spot). store_at y d (spot_clusters x) x.at bs) o.spot
       ∙ spot_store y d a slot o.laid d bs (omega (arith, h.few)) (omega (arith, h.room, ap (λ (x : ℕ). x * y.size) c))
@@ -77,23 +77,23 @@ module _ (y : Layout) (d m : List ℕ) (a : Allocation) (slot : ℕ) (s : List �
 
   -- its stream still reads, from the same clusters
   pub unlinked-reads : number_of (stream_of y e f.stream) ≡ 0
-  unlinked-reads = same_reads y d m a slot s f hint o (32 * slot) bs e unlinked-spot
+  unlinked-reads = same_reads y d m a slot s f hint o (32 * slot) bs e unlinked_spot
 
-  pub unlinked-heap : (keep : ℕ) → keep ≤ f.stream.count
+  pub unlinked_heap : (keep : ℕ) → keep ≤ f.stream.count
       → every (in_heap y.count) (along (fat_entry y e) f.stream.no_fat_chain f.stream.first keep) ≡ true
-  unlinked-heap keep h = every-before (fat_entry y e) b.no_fat_chain (in_heap y.count) keep b.first b.count h (along-heap y e b unlinked-reads)
+  unlinked_heap keep h = every_before (fat_entry y e) b.no_fat_chain (in_heap y.count) keep b.first b.count h (along_heap y e b unlinked-reads)
 
   -- the volume after that and the cut
-  pub unlinked-cut : (e' : List ℕ) → e' ≡ cutVolume y e f.stream 0
+  pub unlinked-cut : (e' : List ℕ) → e' ≡ cut_volume y e f.stream 0
       → (record { number = 0; slot = 0; hint = hint } ≡ (remove_in y d m a slot hint).answer) × (e' ≡ (remove_in y d m a slot hint).volume)
   unlinked-cut e' q =
-      remove-done y d m a slot hint (opens-none y d m a slot s f hint o) s f.stream e e' o.set (o.stream ∙ ap (file_record y d) o.set) (unfold unlinked in unlinked-spot)
-      (q ∙ sym (shrink-cut y e m f.stream 0 hint o.hint_in (λ z. absurd (omega arith)) unlinked-reads (same-system y d m a slot s f hint o (32 * slot) bs e unlinked-spot 0)))
+      remove-done y d m a slot hint (opens_none y d m a slot s f hint o) s f.stream e e' o.set (o.stream ∙ ap (file_record y d) o.set) (unfold unlinked in unlinked_spot)
+      (q ∙ sym (shrink_cut y e m f.stream 0 hint o.hint_in (λ z. absurd (omega arith)) unlinked-reads (same_system y d m a slot s f hint o (32 * slot) bs e unlinked_spot 0)))
 
 module _ (g : Geometry) (d m : List ℕ) (slot hint : ℕ) where
-  pub remove-is : (y : Layout) → Admits g d m y → remove g d m slot hint ≡ remove_in y d m (root_record y d (root_cluster g)) slot hint
+  pub remove_is : (y : Layout) → Admits g d m y → remove g d m slot hint ≡ remove_in y d m (root_record y d (root_cluster g)) slot hint
   unfolding remove
-  remove-is y w = rw (w.cause, w.is) refl
+  remove_is y w = rw (w.cause, w.is) refl
 
   pub remove-not-admitted : (k : ℕ) → k ≡ admit_cause g d m → (k ≡ 0 → ⊥) → remove g d m slot hint ≡ refuse k hint d
   unfolding remove

@@ -1,4 +1,4 @@
-use Rattle.read_file.proofs.ReadBackLaws.{read-inside}
+use Rattle.read_file.proofs.ReadBackLaws.{read_inside}
 use borrow.Author.Rules.{rules}
 use Rattle.exfat.proofs.exfat_read.Statement.{statement}
 use Rattle.exfat.proofs.exfat_read.Tie as tie
@@ -13,7 +13,7 @@ put-part-requires : tie.Need-put-part-requires
 put-part-requires c κs = search rules
 
 returns : tie.Need-returns
-returns c = (cc, read-inside _ _ _ _ _ _)
+returns c = (cc, read_inside _ _ _ _ _ _)
 
 pub exfat-read-spec : {M : Type 1} → statement M
 exfat-read-spec =

@@ -1,6 +1,6 @@
 use native.Mathlib.Omega.{arith}
 use Rattle.boot.specs.Layout.{layout_of}
-use Rattle.boot.proofs.Places.{first-low}
+use Rattle.boot.proofs.Places.{first_low}
 use borrow.Author.Rules.{rules}
 use Rattle.boot.proofs.layout.layout_of.Statement.{statement}
 use Rattle.boot.proofs.layout.layout_of.Tie as tie
@@ -23,7 +23,7 @@ bitmap-first-requires c κs = search rules
 cluster-start-requires : tie.Need-cluster-start-requires
 cluster-start-requires c κs =
     let p = c.before.before.before.before.before.before.requires in
-    (p.shape, rw c.bitmap-first.ensures (first-low _ _ p _ (omega arith)))
+    (p.shape, rw c.bitmap-first.ensures (first_low _ _ p _ (omega arith)))
 
 cluster-start-requires-2 : tie.Need-cluster-start-requires-2
 cluster-start-requires-2 c κs = search rules
@@ -34,7 +34,7 @@ bitmap-first-requires-2 c κs = search rules
 cluster-start-requires-3 : tie.Need-cluster-start-requires-3
 cluster-start-requires-3 c κs =
     let p = c.before.before.before.before.before.before.before.before.before.requires in
-    (p.shape, rw c.bitmap-first2.ensures (first-low _ _ p _ (omega arith)))
+    (p.shape, rw c.bitmap-first2.ensures (first_low _ _ p _ (omega arith)))
 
 bitmap-first-requires-3 : tie.Need-bitmap-first-requires-3
 bitmap-first-requires-3 c κs = search rules

@@ -1,5 +1,5 @@
 use mathlib.Core.Path.{sym}
-use Rattle.choice.proofs.ChoiceLaws.{choose-after, choose-lowest, choose-few, choose-scattered}
+use Rattle.choice.proofs.ChoiceLaws.{choose-after, choose_lowest, choose_few, choose_scattered}
 use borrow.Author.Rules.{rules}
 use borrow.Author.Tests.{leb-true, leb-false}
 use Rattle.choice.proofs.choice.choose_clusters.Statement.{statement}
@@ -29,7 +29,7 @@ enum-known-lowest : tie.Need-enum-known-lowest
 enum-known-lowest c = search rules
 
 returns-2 : tie.Need-returns-2
-returns-2 c = sym (choose-lowest _ _ _ _ _ (cc) (cc))
+returns-2 c = sym (choose_lowest _ _ _ _ _ (cc) (cc))
 
 enum-told-2 : tie.Need-enum-told-2
 enum-told-2 c = search rules
@@ -38,10 +38,10 @@ counts-to-requires : tie.Need-counts-to-requires
 counts-to-requires c κs = search rules
 
 returns-3 : tie.Need-returns-3
-returns-3 c = sym (choose-scattered _ _ _ _ (cc) (cc) (leb-true _ _ (cc)))
+returns-3 c = sym (choose_scattered _ _ _ _ (cc) (cc) (leb-true _ _ (cc)))
 
 returns-4 : tie.Need-returns-4
-returns-4 c = sym (choose-few _ _ _ _ (cc) (cc) (leb-false _ _ (cc)))
+returns-4 c = sym (choose_few _ _ _ _ (cc) (cc) (leb-false _ _ (cc)))
 
 pub choose-clusters-spec : {M : Type 1} → statement M
 choose-clusters-spec =

@@ -7,7 +7,7 @@ use borrow.Author.Tests.{le-leb, lt-leb}
 use Rattle.tables.specs.Count.{count}
 use Rattle.tables.proofs.CountLaws.{count_none, count_yes, count-beyond}
 use Rattle.search.specs.Search.{fewest}
-use Rattle.search.proofs.Lowest.{fewest-bounds, fewest-before, fewest-at}
+use Rattle.search.proofs.Lowest.{fewest_bounds, fewest_before, fewest_at}
 use Rattle.metadata.specs.Usable.{is_usable}
 use Rattle.choice.proofs.ChoiceLaws.{enough_left}
 use Rattle.choice.proofs.choice.counts_to.Statement.{statement}
@@ -17,14 +17,14 @@ use Rattle.choice.proofs.choice.counts_to.Tie as tie
 module _ (u : ℕ → Bool) (k end next : ℕ) (h : k ≤ end) (e : next ≡ fewest u (end - k) k) where
   to-next : count u k (end - k) ≡ count u next (end - next)
   to-next =
-      let b = fewest-bounds u (end - k) k in
-      count-beyond u k next end (omega arith) (omega arith) (λ j s t. fewest-before u (end - k) k j s (omega arith))
+      let b = fewest_bounds u (end - k) k in
+      count-beyond u k next end (omega arith) (omega arith) (λ j s t. fewest_before u (end - k) k j s (omega arith))
 
   next-none : next ≡ end → count u k (end - k) ≡ 0
   next-none q = to-next ∙ count_none u next (end - next) (omega arith)
 
   next_one : next < end → count u k (end - k) ≡ 1 + count u (next + 1) (end - (next + 1))
-  next_one l = to-next ∙ count_yes u next end l (ap u e ∙ fewest-at u (end - k) k (omega arith))
+  next_one l = to-next ∙ count_yes u next end l (ap u e ∙ fewest_at u (end - k) k (omega arith))
 
 abbrev invariant-loop : tie.invariant-loop
 invariant-loop vol map y n end k₀ left₀ k left = (2 ≤ k) × ((k ≤ end) × ((left ≤ n) × (n - left + count (is_usable y vol map) k (end - k) ≡ count (is_usable y vol map) 2 y.count)))

@@ -1,6 +1,6 @@
 use mathlib.Core.Path.{sym}
 use native.Mathlib.Omega.{arith}
-use Rattle.choice.proofs.FirstLaws.{first-after, first-before}
+use Rattle.choice.proofs.FirstLaws.{first_after, first_before}
 use borrow.Author.Rules.{rules}
 use Rattle.choice.proofs.choice.first_usable.Statement.{statement}
 use Rattle.choice.proofs.choice.first_usable.Tie as tie
@@ -15,7 +15,7 @@ next-usable-requires : tie.Need-next-usable-requires
 next-usable-requires c κs = search rules
 
 returns : tie.Need-returns
-returns c = sym (first-after _ _ _ (omega arith) (omega arith) _ c.before.next-usable.ensures.0 (omega arith))
+returns c = sym (first_after _ _ _ (omega arith) (omega arith) _ c.before.next-usable.ensures.0 (omega arith))
 
 sub-next-usable-2 : tie.Need-overflow-sub-next-usable-2
 sub-next-usable-2 c = search rules
@@ -26,7 +26,7 @@ next-usable-requires-2 c κs = search rules
 returns-2 : tie.Need-returns-2
 returns-2 c =
     let p = c.before.before.before.before.before.before.requires in
-    sym (first-before _ _ _ (omega arith) (omega arith) _ _ c.before.before.next-usable.ensures.0 (omega arith) c.next-usable2.ensures.0 p.1.1.1.1.1)
+    sym (first_before _ _ _ (omega arith) (omega arith) _ _ c.before.before.next-usable.ensures.0 (omega arith) c.next-usable2.ensures.0 p.1.1.1.1.1)
 
 pub first-usable-spec : {M : Type 1} → statement M
 first-usable-spec =

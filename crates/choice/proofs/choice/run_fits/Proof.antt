@@ -1,7 +1,7 @@
 use mathlib.Core.Path.{sym, ◌∙◌}
 use native.Mathlib.Omega.{arith}
 use Rattle.boot.proofs.Apart.{in_heap_lem}
-use Rattle.choice.proofs.ChoiceLaws.{fits-outside, fits-past, fits_in}
+use Rattle.choice.proofs.ChoiceLaws.{fits_outside, fits_past, fits_in}
 use borrow.Author.Rules.{rules}
 use Rattle.choice.proofs.choice.run_fits.Statement.{statement}
 use Rattle.choice.proofs.choice.run_fits.Tie as tie
@@ -40,10 +40,10 @@ returns-2 : tie.Need-returns-2
 returns-2 c =
     let a = c.before.before.before.before.before.before.args in
     let i = in_heap_lem a.y.count a.near (cc) in
-    sym (fits-past _ _ _ _ (cc) (omega arith))
+    sym (fits_past _ _ _ _ (cc) (omega arith))
 
 returns-3 : tie.Need-returns-3
-returns-3 c = sym (fits-outside _ _ _ _ (cc))
+returns-3 c = sym (fits_outside _ _ _ _ (cc))
 
 pub run-fits-spec : {M : Type 1} → statement M
 run-fits-spec =

@@ -8,16 +8,16 @@ use borrow.Author.Tests.{not-false}
 use Rattle.boot.specs.declared.layout.Layout.{Layout}
 use Rattle.metadata.specs.Marks.{marked}
 use Rattle.metadata.specs.Usable.{is_usable}
-use Rattle.metadata.proofs.Stores.{free-marked, usable-not-free}
-use Rattle.metadata.proofs.UnmarkedLaws.{before-unusable}
+use Rattle.metadata.proofs.Stores.{free_marked, usable-not_free}
+use Rattle.metadata.proofs.UnmarkedLaws.{before_unusable}
 use Rattle.search.specs.Search.{run_from}
-use Rattle.search.proofs.Runs.{run_none, window-hit, window-skip, window-beyond}
+use Rattle.search.proofs.Runs.{run_none, window_hit, window_skip, window_beyond}
 use Rattle.choice.proofs.choice.scan.Statement.{statement}
 use Rattle.choice.proofs.choice.scan.Tie as tie
 
 -- a marked cluster is not usable
 weaker : (y : Layout) (d m : List ℕ) (k : ℕ) → not (marked y d k) ≡ false → is_usable y d m k ≡ false
-weaker y d m k e = usable-not-free y d m k (free-marked y d m k (not-false (marked y d k) e))
+weaker y d m k e = usable-not_free y d m k (free_marked y d m k (not-false (marked y d k) e))
 
 abbrev invariant-loop : tie.invariant-loop
 invariant-loop vol map y start end n base₀ base = (2 ≤ base) × ((base ≤ end) × (run_from (is_usable y vol map) end n base ≡ run_from (is_usable y vol map) end n start))
@@ -42,7 +42,7 @@ returns c =
     let a = c.before.before.before.before.before.before.before.before.args in
     let l = c.before.before.before.before.before.loop in
     let t = c.before.window-tail in
-    sym (window-hit (is_usable a.y a.vol.now a.map.now) a.end a.n l.base t.result t.ensures.0 (omega arith) (omega arith)) ∙ l.invariant.1.1
+    sym (window_hit (is_usable a.y a.vol.now a.map.now) a.end a.n l.base t.result t.ensures.0 (omega arith) (omega arith)) ∙ l.invariant.1.1
 
 loop-less : tie.Need-loop-smaller invariant-loop decreases-loop
 loop-less c = search rules
@@ -52,7 +52,7 @@ loop-again c =
     let a = c.before.before.before.before.before.before.before.before.args in
     let l = c.before.before.before.before.before.loop in
     let t = c.before.window-tail in
-    (omega arith, (omega arith, window-skip (is_usable a.y a.vol.now a.map.now) (is_usable a.y a.vol.now a.map.now) (λ k e. e) a.end a.n l.base t.result t.ensures.0 (λ z. omega arith) ∙ l.invariant.1.1))
+    (omega arith, (omega arith, window_skip (is_usable a.y a.vol.now a.map.now) (is_usable a.y a.vol.now a.map.now) (λ k e. e) a.end a.n l.base t.result t.ensures.0 (λ z. omega arith) ∙ l.invariant.1.1))
 
 add-if3 : tie.Need-overflow-add-if3 invariant-loop decreases-loop
 add-if3 c = search rules
@@ -74,8 +74,8 @@ loop-again-2 c =
       omega arith,
       (
         omega arith,
-        window-beyond (is_usable a.y a.vol.now a.map.now) (λ k. not (marked a.y a.vol.now k)) (weaker a.y a.vol.now a.map.now) a.end a.n l.base t.result t.ensures.0 (λ z. omega arith) c.first-unmarked.result (omega arith) (omega arith)
-            (λ j i b. before-unusable a.y a.vol.now a.map.now t.result (a.end - t.result) j i (omega arith))
+        window_beyond (is_usable a.y a.vol.now a.map.now) (λ k. not (marked a.y a.vol.now k)) (weaker a.y a.vol.now a.map.now) a.end a.n l.base t.result t.ensures.0 (λ z. omega arith) c.first-unmarked.result (omega arith) (omega arith)
+            (λ j i b. before_unusable a.y a.vol.now a.map.now t.result (a.end - t.result) j i (omega arith))
             ∙ l.invariant.1.1,
       ),
     )
@@ -88,7 +88,7 @@ loop-again-3 c =
     let a = c.before.before.before.before.before.before.before.args in
     let l = c.before.before.before.before.loop in
     let t = c.before.before.unmarked-tail in
-    (omega arith, (omega arith, window-skip (is_usable a.y a.vol.now a.map.now) (λ k. not (marked a.y a.vol.now k)) (weaker a.y a.vol.now a.map.now) a.end a.n l.base t.result t.ensures.0 (λ z. omega arith) ∙ l.invariant.1.1))
+    (omega arith, (omega arith, window_skip (is_usable a.y a.vol.now a.map.now) (λ k. not (marked a.y a.vol.now k)) (weaker a.y a.vol.now a.map.now) a.end a.n l.base t.result t.ensures.0 (λ z. omega arith) ∙ l.invariant.1.1))
 
 returns-2 : tie.Need-returns-2 invariant-loop decreases-loop
 returns-2 c = sym (run_none _ _ _ _ (omega arith)) ∙ c.before.loop.invariant.1.1

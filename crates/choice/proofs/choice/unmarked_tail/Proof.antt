@@ -7,9 +7,9 @@ use borrow.Author.Rules.{rules}
 use Rattle.boot.specs.declared.layout.Layout.{Layout}
 use Rattle.metadata.specs.Marks.{marked}
 use Rattle.metadata.specs.Internal.{byte_unmarked}
-use Rattle.metadata.proofs.WindowLaws.{byte-each}
+use Rattle.metadata.proofs.WindowLaws.{byte_each}
 use Rattle.search.specs.Internal.{past_failing}
-use Rattle.search.proofs.Runs.{tail_none, tail-whole, tail-pass, tail-fail, tail-over}
+use Rattle.search.proofs.Runs.{tail_none, tail_whole, tail_pass, tail_fail, tail_over}
 use Rattle.choice.proofs.choice.unmarked_tail.Statement.{statement}
 use Rattle.choice.proofs.choice.unmarked_tail.Tie as tie
 
@@ -17,14 +17,14 @@ use Rattle.choice.proofs.choice.unmarked_tail.Tie as tie
 over : (y : Layout) (d : List ℕ) (low j k : ℕ) → 2 ≤ low → low ≤ j → j ≤ k → k ≤ j + 8 → byte_unmarked y d (k - 1) ≡ true
     → past_failing (λ i. not (marked y d i)) low (j - low) ≡ past_failing (λ i. not (marked y d i)) low (k - low)
 over y d low j k g h t r e =
-    tail-over (λ i. not (marked y d i)) low j k h t (λ i a b. ap not (byte-each y d (k - 1) e i (omega arith) (omega arith) (omega arith)))
+    tail_over (λ i. not (marked y d i)) low j k h t (λ i a b. ap not (byte_each y d (k - 1) e i (omega arith) (omega arith) (omega arith)))
 
 pass : (y : Layout) (d : List ℕ) (low k : ℕ) → low < k → marked y d (k - 1) ≡ false
     → past_failing (λ i. not (marked y d i)) low (k - 1 - low) ≡ past_failing (λ i. not (marked y d i)) low (k - low)
-pass y d low k h e = tail-pass (λ i. not (marked y d i)) low k h (ap not e)
+pass y d low k h e = tail_pass (λ i. not (marked y d i)) low k h (ap not e)
 
 fail : (y : Layout) (d : List ℕ) (low k : ℕ) → low < k → marked y d (k - 1) ≡ true → past_failing (λ i. not (marked y d i)) low (k - low) ≡ k
-fail y d low k h e = tail-fail (λ i. not (marked y d i)) low k h (ap not e)
+fail y d low k h e = tail_fail (λ i. not (marked y d i)) low k h (ap not e)
 
 abbrev invariant-loop : tie.invariant-loop
 invariant-loop vol y low n k₀ k = (low ≤ k) × ((k ≤ low + n) × (past_failing (λ i. not (marked y vol i)) low (k - low) ≡ past_failing (λ i. not (marked y vol i)) low n))
@@ -36,7 +36,7 @@ add-k : tie.Need-overflow-add-k invariant-loop decreases-loop
 add-k c = search rules
 
 loop-holds : tie.Need-loop-init invariant-loop decreases-loop
-loop-holds c = (omega arith, (omega arith, tail-whole _ _ _ _ (omega arith)))
+loop-holds c = (omega arith, (omega arith, tail_whole _ _ _ _ (omega arith)))
 
 sub-last : tie.Need-overflow-sub-last invariant-loop decreases-loop
 sub-last c = search rules

@@ -1,7 +1,7 @@
 use mathlib.Core.Path.{◌∙◌}
 use native.Mathlib.Omega.{arith}
 use Rattle.boot.proofs.Apart.{in_heap_lem}
-use Rattle.directory.proofs.DirectoryLaws.{root-out, root-not, root-nine, root-done}
+use Rattle.directory.proofs.DirectoryLaws.{root_out, root-not, root_nine, root-done}
 use borrow.Author.Rules.{rules}
 use Rattle.directory.proofs.directory.root_dir.Statement.{statement}
 use Rattle.directory.proofs.directory.root_dir.Tie as tie
@@ -37,13 +37,13 @@ no-directory-requires-2 c κs = search rules
 returns-3 : tie.Need-returns-3
 returns-3 c =
     let w = c.before.before.before.before.fat-chain in
-    (cc) ∙ root-nine _ _ _ _ _ w.ensures (cc) _ c.before.before.before.walk-cause.ensures (omega arith) (cc)
+    (cc) ∙ root_nine _ _ _ _ _ w.ensures (cc) _ c.before.before.before.walk-cause.ensures (omega arith) (cc)
 
 no-directory-requires-3 : tie.Need-no-directory-requires-3
 no-directory-requires-3 c κs = search rules
 
 returns-4 : tie.Need-returns-4
-returns-4 c = (cc) ∙ root-out _ _ _ (cc)
+returns-4 c = (cc) ∙ root_out _ _ _ (cc)
 
 pub root-dir-spec : {M : Type 1} → statement M
 root-dir-spec =

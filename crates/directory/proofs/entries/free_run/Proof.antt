@@ -12,9 +12,9 @@ use Rattle.search.specs.Search.{all_from}
 use Rattle.stream.specs.Bytes.{bytes_in}
 use Rattle.directory.specs.Entries.{entry_count, in_use}
 use Rattle.directory.specs.Internal.{entry_at}
-use Rattle.directory.proofs.CursorLaws.{entry_first, length-entries, entries-is}
-use Rattle.directory.proofs.RoomLaws.{Passed, window-in, window-rest, window-whole, window-passed, room-here, room-past}
-use Rattle.directory.proofs.WindowLaws.{slot-in, slot-passed}
+use Rattle.directory.proofs.CursorLaws.{entry_first, length-entries, entries_is}
+use Rattle.directory.proofs.RoomLaws.{Passed, window_in, window_rest, window_whole, window_passed, room_here, room_past}
+use Rattle.directory.proofs.WindowLaws.{slot_in, slot_passed}
 use Rattle.directory.proofs.entries.free_run.Statement.{statement}
 use Rattle.directory.proofs.entries.free_run.Tie as tie
 
@@ -52,7 +52,7 @@ sub-if1 c =
     let l = c.before.before.before.loop in
     let m = c.before.before.before.before.entry-count in
     let g = c.before.pass-used in
-    let i = slot-in a.y a.vol.now w a.dir r l.base (omega (arith, m.ensures.0)) l.e l.invariant.1.0 a.need g.result.slot p.1.1.1.1.0 g.ensures.0 in
+    let i = slot_in a.y a.vol.now w a.dir r l.base (omega (arith, m.ensures.0)) l.e l.invariant.1.0 a.need g.result.slot p.1.1.1.1.0 g.ensures.0 in
     omega (arith, m.ensures.0)
 
 loop-less : tie.Need-loop-smaller invariant-loop decreases-loop
@@ -64,7 +64,7 @@ loop-less c =
     let l = c.before.before.before.before.before.loop in
     let m = c.before.before.before.before.before.before.entry-count in
     let g = c.before.before.before.pass-used in
-    let i = slot-in a.y a.vol.now w a.dir r l.base (omega (arith, m.ensures.0)) l.e l.invariant.1.0 a.need g.result.slot p.1.1.1.1.0 g.ensures.0 in
+    let i = slot_in a.y a.vol.now w a.dir r l.base (omega (arith, m.ensures.0)) l.e l.invariant.1.0 a.need g.result.slot p.1.1.1.1.0 g.ensures.0 in
     omega (arith, m.ensures.0)
 
 loop-again : tie.Need-loop-preserved invariant-loop decreases-loop
@@ -76,8 +76,8 @@ loop-again c =
     let l = c.before.before.before.before.before.loop in
     let m = c.before.before.before.before.before.before.entry-count in
     let g = c.before.before.before.pass-used in
-    let i = slot-in a.y a.vol.now w a.dir r l.base (omega (arith, m.ensures.0)) l.e l.invariant.1.0 a.need g.result.slot p.1.1.1.1.0 g.ensures.0 in
-    (omega (arith, m.ensures.0), (g.ensures.1, slot-passed a.y a.vol.now w a.dir r l.base (omega (arith, m.ensures.0)) l.e l.invariant.1.0 a.need g.result.slot p.1.1.1.1.0 g.ensures.0 l.invariant.1.1))
+    let i = slot_in a.y a.vol.now w a.dir r l.base (omega (arith, m.ensures.0)) l.e l.invariant.1.0 a.need g.result.slot p.1.1.1.1.0 g.ensures.0 in
+    (omega (arith, m.ensures.0), (g.ensures.1, slot_passed a.y a.vol.now w a.dir r l.base (omega (arith, m.ensures.0)) l.e l.invariant.1.0 a.need g.result.slot p.1.1.1.1.0 g.ensures.0 l.invariant.1.1))
 
 past-used-requires : tie.Need-past-used-requires invariant-loop decreases-loop
 past-used-requires c κs =
@@ -88,7 +88,7 @@ past-used-requires c κs =
     let l = c.before.before.before.before.loop in
     let m = c.before.before.before.before.before.entry-count in
     let g = c.before.before.pass-used in
-    let i = slot-in a.y a.vol.now w a.dir r l.base (omega (arith, m.ensures.0)) l.e l.invariant.1.0 a.need g.result.slot p.1.1.1.1.0 g.ensures.0 in
+    let i = slot_in a.y a.vol.now w a.dir r l.base (omega (arith, m.ensures.0)) l.e l.invariant.1.0 a.need g.result.slot p.1.1.1.1.0 g.ensures.0 in
     (p.0, (p.1.0, (p.1.1.0, (r, (g.ensures.1, (p.1.1.1.1.0, (p.1.1.1.1.1, omega (arith, m.ensures.0))))))))
 
 returns : tie.Need-returns invariant-loop decreases-loop
@@ -101,10 +101,10 @@ returns c =
     let m = c.before.before.before.before.before.before.before.before.before.entry-count in
     let g = c.before.before.before.before.before.before.pass-used in
     let t = c.before.before.before.past-used in
-    let i = slot-in a.y a.vol.now w a.dir r l.base (omega (arith, m.ensures.0)) l.e l.invariant.1.0 a.need g.result.slot p.1.1.1.1.0 g.ensures.0 in
-    let n : length (bytes_in a.y a.vol.now a.dir) ≡ 32 * entry_count (bytes_in a.y a.vol.now a.dir) = omega (arith, length-entries a.y a.vol.now w a.dir r, entries-is a.y a.vol.now w a.dir r) in
-    room-here a.y.size (a.y.size / 32) p.0.whole (omega (arith, p.0.size_low)) (bytes_in a.y a.vol.now a.dir) a.need n g.result.slot i.1 (slot-passed a.y a.vol.now w a.dir r l.base (omega (arith, m.ensures.0)) l.e l.invariant.1.0 a.need g.result.slot p.1.1.1.1.0 g.ensures.0 l.invariant.1.1) (omega (arith, m.ensures.0))
-    (window-whole (bytes_in a.y a.vol.now a.dir) g.result.slot a.need t.result.slot t.ensures.0 (omega arith))
+    let i = slot_in a.y a.vol.now w a.dir r l.base (omega (arith, m.ensures.0)) l.e l.invariant.1.0 a.need g.result.slot p.1.1.1.1.0 g.ensures.0 in
+    let n : length (bytes_in a.y a.vol.now a.dir) ≡ 32 * entry_count (bytes_in a.y a.vol.now a.dir) = omega (arith, length-entries a.y a.vol.now w a.dir r, entries_is a.y a.vol.now w a.dir r) in
+    room_here a.y.size (a.y.size / 32) p.0.whole (omega (arith, p.0.size_low)) (bytes_in a.y a.vol.now a.dir) a.need n g.result.slot i.1 (slot_passed a.y a.vol.now w a.dir r l.base (omega (arith, m.ensures.0)) l.e l.invariant.1.0 a.need g.result.slot p.1.1.1.1.0 g.ensures.0 l.invariant.1.1) (omega (arith, m.ensures.0))
+    (window_whole (bytes_in a.y a.vol.now a.dir) g.result.slot a.need t.result.slot t.ensures.0 (omega arith))
 
 loop-less-2 : tie.Need-loop-smaller-2 invariant-loop decreases-loop
 loop-less-2 c =
@@ -116,8 +116,8 @@ loop-less-2 c =
     let m = c.before.before.before.before.before.before.before.before.before.before.entry-count in
     let g = c.before.before.before.before.before.before.before.pass-used in
     let t = c.before.before.before.before.past-used in
-    let i = slot-in a.y a.vol.now w a.dir r l.base (omega (arith, m.ensures.0)) l.e l.invariant.1.0 a.need g.result.slot p.1.1.1.1.0 g.ensures.0 in
-    let j = window-in (bytes_in a.y a.vol.now a.dir) g.result.slot a.need t.result.slot t.ensures.0 in
+    let i = slot_in a.y a.vol.now w a.dir r l.base (omega (arith, m.ensures.0)) l.e l.invariant.1.0 a.need g.result.slot p.1.1.1.1.0 g.ensures.0 in
+    let j = window_in (bytes_in a.y a.vol.now a.dir) g.result.slot a.need t.result.slot t.ensures.0 in
     omega (arith, m.ensures.0)
 
 loop-again-2 : tie.Need-loop-preserved-2 invariant-loop decreases-loop
@@ -130,9 +130,9 @@ loop-again-2 c =
     let m = c.before.before.before.before.before.before.before.before.before.before.entry-count in
     let g = c.before.before.before.before.before.before.before.pass-used in
     let t = c.before.before.before.before.past-used in
-    let i = slot-in a.y a.vol.now w a.dir r l.base (omega (arith, m.ensures.0)) l.e l.invariant.1.0 a.need g.result.slot p.1.1.1.1.0 g.ensures.0 in
-    let j = window-in (bytes_in a.y a.vol.now a.dir) g.result.slot a.need t.result.slot t.ensures.0 in
-    (omega (arith, m.ensures.0), (t.ensures.1, window-passed (bytes_in a.y a.vol.now a.dir) g.result.slot a.need t.result.slot t.ensures.0 a.need (omega arith) (slot-passed a.y a.vol.now w a.dir r l.base (omega (arith, m.ensures.0)) l.e l.invariant.1.0 a.need g.result.slot p.1.1.1.1.0 g.ensures.0 l.invariant.1.1)))
+    let i = slot_in a.y a.vol.now w a.dir r l.base (omega (arith, m.ensures.0)) l.e l.invariant.1.0 a.need g.result.slot p.1.1.1.1.0 g.ensures.0 in
+    let j = window_in (bytes_in a.y a.vol.now a.dir) g.result.slot a.need t.result.slot t.ensures.0 in
+    (omega (arith, m.ensures.0), (t.ensures.1, window_passed (bytes_in a.y a.vol.now a.dir) g.result.slot a.need t.result.slot t.ensures.0 a.need (omega arith) (slot_passed a.y a.vol.now w a.dir r l.base (omega (arith, m.ensures.0)) l.e l.invariant.1.0 a.need g.result.slot p.1.1.1.1.0 g.ensures.0 l.invariant.1.1)))
 
 sub-last-used : tie.Need-overflow-sub-last-used invariant-loop decreases-loop
 sub-last-used c = search rules
@@ -152,7 +152,7 @@ add-missing c =
     let l = c.before.before.before.loop in
     let t = c.before.last-used in
     let m = c.before.before.before.before.entry-count in
-    let i = window-in (bytes_in a.y a.vol.now a.dir) l.base (m.result - l.base) t.result.slot t.ensures.0 in
+    let i = window_in (bytes_in a.y a.vol.now a.dir) l.base (m.result - l.base) t.result.slot t.ensures.0 in
     omega arith
 
 sub-missing : tie.Need-overflow-sub-missing invariant-loop decreases-loop
@@ -164,7 +164,7 @@ sub-missing c =
     let l = c.before.before.before.loop in
     let t = c.before.last-used in
     let m = c.before.before.before.before.entry-count in
-    let i = window-in (bytes_in a.y a.vol.now a.dir) l.base (m.result - l.base) t.result.slot t.ensures.0 in
+    let i = window_in (bytes_in a.y a.vol.now a.dir) l.base (m.result - l.base) t.result.slot t.ensures.0 in
     omega arith
 
 cast-missing : tie.Need-overflow-cast-missing invariant-loop decreases-loop
@@ -191,7 +191,7 @@ cast-t15 c =
     let l = c.before.before.before.before.before.loop in
     let t = c.before.before.before.last-used in
     let m = c.before.before.before.before.before.before.entry-count in
-    let i = window-in (bytes_in a.y a.vol.now a.dir) l.base (m.result - l.base) t.result.slot t.ensures.0 in
+    let i = window_in (bytes_in a.y a.vol.now a.dir) l.base (m.result - l.base) t.result.slot t.ensures.0 in
     let q = div-le_self (32 * (t.result.slot + a.need - m.result) + (a.y.size - 1)) a.y.size in
     let z = p.0.size-high in
     omega arith
@@ -206,13 +206,13 @@ returns-2 c =
     let l = c.before.before.before.before.before.loop in
     let t = c.before.before.before.last-used in
     let m = c.before.before.before.before.before.before.entry-count in
-    let i = window-in (bytes_in a.y a.vol.now a.dir) l.base (m.result - l.base) t.result.slot t.ensures.0 in
+    let i = window_in (bytes_in a.y a.vol.now a.dir) l.base (m.result - l.base) t.result.slot t.ensures.0 in
     let z : l.base + (m.result - l.base) ≡ entry_count (bytes_in a.y a.vol.now a.dir) = omega (arith, m.ensures.0) in
-    let n : length (bytes_in a.y a.vol.now a.dir) ≡ 32 * entry_count (bytes_in a.y a.vol.now a.dir) = omega (arith, length-entries a.y a.vol.now w a.dir r, entries-is a.y a.vol.now w a.dir r) in
+    let n : length (bytes_in a.y a.vol.now a.dir) ≡ 32 * entry_count (bytes_in a.y a.vol.now a.dir) = omega (arith, length-entries a.y a.vol.now w a.dir r, entries_is a.y a.vol.now w a.dir r) in
     ap (λ (x : ℕ). record { slot = t.result.slot; clusters = clusters_for a.y.size (32 * (t.result.slot + a.need - x)) }) m.ensures.0
-    ∙ room-past a.y.size (a.y.size / 32) p.0.whole (omega (arith, p.0.size_low)) (bytes_in a.y a.vol.now a.dir) a.need n t.result.slot (omega arith)
-    (window-passed (bytes_in a.y a.vol.now a.dir) l.base (m.result - l.base) t.result.slot t.ensures.0 a.need (omega arith) l.invariant.1.1)
-    (ap (λ (k : ℕ). all_from (λ i. not (in_use (bytes_in a.y a.vol.now a.dir) i)) t.result.slot (k - t.result.slot)) (sym z) ∙ window-rest (bytes_in a.y a.vol.now a.dir) l.base (m.result - l.base) t.result.slot t.ensures.0)
+    ∙ room_past a.y.size (a.y.size / 32) p.0.whole (omega (arith, p.0.size_low)) (bytes_in a.y a.vol.now a.dir) a.need n t.result.slot (omega arith)
+    (window_passed (bytes_in a.y a.vol.now a.dir) l.base (m.result - l.base) t.result.slot t.ensures.0 a.need (omega arith) l.invariant.1.1)
+    (ap (λ (k : ℕ). all_from (λ i. not (in_use (bytes_in a.y a.vol.now a.dir) i)) t.result.slot (k - t.result.slot)) (sym z) ∙ window_rest (bytes_in a.y a.vol.now a.dir) l.base (m.result - l.base) t.result.slot t.ensures.0)
 
 pub free-run-spec : {M : Type 1} → statement M
 free-run-spec =

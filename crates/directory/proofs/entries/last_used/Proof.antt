@@ -10,8 +10,8 @@ use Rattle.search.proofs.Runs.{tail_none}
 use Rattle.stream.specs.Bytes.{bytes_in}
 use Rattle.directory.specs.Entries.{in_use}
 use Rattle.directory.specs.Internal.{entry_at}
-use Rattle.directory.proofs.CursorLaws.{entry_next, cursor-in, cursor-use, entries-small, entries-is}
-use Rattle.directory.proofs.RoomLaws.{tail-used, tail-free}
+use Rattle.directory.proofs.CursorLaws.{entry_next, cursor_in, cursor_use, entries_small, entries_is}
+use Rattle.directory.proofs.RoomLaws.{tail_used, tail_free}
 use Rattle.directory.proofs.entries.last_used.Statement.{statement}
 use Rattle.directory.proofs.entries.last_used.Tie as tie
 
@@ -32,7 +32,7 @@ advance-requires c κs =
     let a = c.before.before.before.args in
     let w : Fits a.y a.vol.now = record { laid = p.0; apart = p.1.1.0; long = p.1.0 } in
     let l = c.before.loop in
-    (p.0, (p.1.0, (cursor-in a.y a.vol.now w a.dir p.1.1.1.0 l.k (omega arith) l.at l.invariant.1.1.0).1))
+    (p.0, (p.1.0, (cursor_in a.y a.vol.now w a.dir p.1.1.1.0 l.k (omega arith) l.at l.invariant.1.1.0).1))
 
 in-use-requires : tie.Need-in-use-requires invariant-loop decreases-loop
 in-use-requires c κs =
@@ -40,7 +40,7 @@ in-use-requires c κs =
     let a = c.before.before.before.before.args in
     let w : Fits a.y a.vol.now = record { laid = p.0; apart = p.1.1.0; long = p.1.0 } in
     let l = c.before.before.loop in
-    (p.0, (p.1.0, cursor-in a.y a.vol.now w a.dir p.1.1.1.0 l.k (omega arith) l.at l.invariant.1.1.0))
+    (p.0, (p.1.0, cursor_in a.y a.vol.now w a.dir p.1.1.1.0 l.k (omega arith) l.at l.invariant.1.1.0))
 
 add-slot : tie.Need-overflow-add-slot invariant-loop decreases-loop
 add-slot c =
@@ -48,7 +48,7 @@ add-slot c =
     let a = c.before.before.before.before.before.before.args in
     let w : Fits a.y a.vol.now = record { laid = p.0; apart = p.1.1.0; long = p.1.0 } in
     let l = c.before.before.before.before.loop in
-    omega (arith, entries-small a.y a.vol.now w a.dir p.1.1.1.0, entries-is a.y a.vol.now w a.dir p.1.1.1.0, l.invariant.1.0)
+    omega (arith, entries_small a.y a.vol.now w a.dir p.1.1.1.0, entries_is a.y a.vol.now w a.dir p.1.1.1.0, l.invariant.1.0)
 
 add-k : tie.Need-overflow-add-k invariant-loop decreases-loop
 add-k c =
@@ -56,7 +56,7 @@ add-k c =
     let a = c.before.before.before.before.before.before.args in
     let w : Fits a.y a.vol.now = record { laid = p.0; apart = p.1.1.0; long = p.1.0 } in
     let l = c.before.before.before.before.loop in
-    omega (arith, entries-small a.y a.vol.now w a.dir p.1.1.1.0, entries-is a.y a.vol.now w a.dir p.1.1.1.0, l.invariant.1.0)
+    omega (arith, entries_small a.y a.vol.now w a.dir p.1.1.1.0, entries_is a.y a.vol.now w a.dir p.1.1.1.0, l.invariant.1.0)
 
 sub-left : tie.Need-overflow-sub-left invariant-loop decreases-loop
 sub-left c = search rules
@@ -70,9 +70,9 @@ loop-again c =
     let a = c.before.before.before.before.before.before.args in
     let w : Fits a.y a.vol.now = record { laid = p.0; apart = p.1.1.0; long = p.1.0 } in
     let l = c.before.before.before.before.loop in
-    let u : in_use (bytes_in a.y a.vol.now a.dir) l.k ≡ true = sym (cursor-use a.y a.vol.now w a.dir p.1.1.1.0 l.k (omega arith) l.at l.invariant.1.1.0) ∙ (cc) in
+    let u : in_use (bytes_in a.y a.vol.now a.dir) l.k ≡ true = sym (cursor_use a.y a.vol.now w a.dir p.1.1.1.0 l.k (omega arith) l.at l.invariant.1.1.0) ∙ (cc) in
     let n : c.before.before.advance.result ≡ entry_at a.y (fat_entry a.y a.vol.now) a.dir.no_fat_chain a.dir.first (l.k + 1) = (cc) ∙ entry_next _ _ _ _ l.k in
-    (omega arith, (omega arith, (n, (sym (tail-used _ a.base l.k (omega arith) u), n))))
+    (omega arith, (omega arith, (n, (sym (tail_used _ a.base l.k (omega arith) u), n))))
 
 add-k-2 : tie.Need-overflow-add-k-2 invariant-loop decreases-loop
 add-k-2 c =
@@ -80,7 +80,7 @@ add-k-2 c =
     let a = c.before.before.before.before.before.before.args in
     let w : Fits a.y a.vol.now = record { laid = p.0; apart = p.1.1.0; long = p.1.0 } in
     let l = c.before.before.before.before.loop in
-    omega (arith, entries-small a.y a.vol.now w a.dir p.1.1.1.0, entries-is a.y a.vol.now w a.dir p.1.1.1.0, l.invariant.1.0)
+    omega (arith, entries_small a.y a.vol.now w a.dir p.1.1.1.0, entries_is a.y a.vol.now w a.dir p.1.1.1.0, l.invariant.1.0)
 
 sub-left-2 : tie.Need-overflow-sub-left-2 invariant-loop decreases-loop
 sub-left-2 c = search rules
@@ -94,9 +94,9 @@ loop-again-2 c =
     let a = c.before.before.before.before.before.before.args in
     let w : Fits a.y a.vol.now = record { laid = p.0; apart = p.1.1.0; long = p.1.0 } in
     let l = c.before.before.before.before.loop in
-    let u : in_use (bytes_in a.y a.vol.now a.dir) l.k ≡ false = sym (cursor-use a.y a.vol.now w a.dir p.1.1.1.0 l.k (omega arith) l.at l.invariant.1.1.0) ∙ (cc) in
+    let u : in_use (bytes_in a.y a.vol.now a.dir) l.k ≡ false = sym (cursor_use a.y a.vol.now w a.dir p.1.1.1.0 l.k (omega arith) l.at l.invariant.1.1.0) ∙ (cc) in
     let n : c.before.before.advance.result ≡ entry_at a.y (fat_entry a.y a.vol.now) a.dir.no_fat_chain a.dir.first (l.k + 1) = (cc) ∙ entry_next _ _ _ _ l.k in
-    (omega arith, (omega arith, (n, (l.invariant.1.1.1.0 ∙ sym (tail-free _ a.base l.k (omega arith) u), l.invariant.1.1.1.1))))
+    (omega arith, (omega arith, (n, (l.invariant.1.1.1.0 ∙ sym (tail_free _ a.base l.k (omega arith) u), l.invariant.1.1.1.1))))
 
 returns : tie.Need-returns invariant-loop decreases-loop
 returns c =

@@ -4,7 +4,7 @@ use Prim.Native.Nat.{◌+◌, ◌-◌, ◌*◌, ◌/◌, ◌≤◌}
 use native.Mathlib.Omega.{arith}
 use borrow.Author.Rules.{rules}
 use Rattle.directory.specs.Entries.{before_end}
-use Rattle.directory.proofs.EndLaws.{before-none, byte_next, byte-not, byte_last}
+use Rattle.directory.proofs.EndLaws.{before_none, byte_next, byte_not, byte_last}
 use Rattle.directory.proofs.entries.none_ends.Statement.{statement}
 use Rattle.directory.proofs.entries.none_ends.Tie as tie
 
@@ -18,7 +18,7 @@ mul-end : tie.Need-overflow-mul-end invariant-loop decreases-loop
 mul-end c = search rules
 
 loop-holds : tie.Need-loop-init invariant-loop decreases-loop
-loop-holds c = (omega arith, (omega arith, before-none _))
+loop-holds c = (omega arith, (omega arith, before_none _))
 
 add-loop : tie.Need-overflow-add-loop invariant-loop decreases-loop
 add-loop c = search rules
@@ -27,7 +27,7 @@ shared-slice-read-if1 : tie.Need-shared-slice-read-if1 invariant-loop decreases-
 shared-slice-read-if1 c = search rules
 
 returns : tie.Need-returns invariant-loop decreases-loop
-returns c = sym (byte-not _ c.before.before.before.loop.at _ (omega arith) (omega arith) (omega arith))
+returns c = sym (byte_not _ c.before.before.before.loop.at _ (omega arith) (omega arith) (omega arith))
 
 add-if2 : tie.Need-overflow-add-if2 invariant-loop decreases-loop
 add-if2 c = search rules
@@ -36,7 +36,7 @@ shared-slice-read-if2 : tie.Need-shared-slice-read-if2 invariant-loop decreases-
 shared-slice-read-if2 c = search rules
 
 returns-2 : tie.Need-returns-2 invariant-loop decreases-loop
-returns-2 c = sym (byte-not _ (c.before.before.before.before.before.loop.at + 32) _ (omega arith) (omega arith) (omega arith))
+returns-2 c = sym (byte_not _ (c.before.before.before.before.before.loop.at + 32) _ (omega arith) (omega arith) (omega arith))
 
 add_at : tie.Need-overflow-add-at invariant-loop decreases-loop
 add_at c = search rules

@@ -5,7 +5,7 @@ use native.Mathlib.Omega.{arith}
 use borrow.Author.Rules.{rules}
 use Rattle.metadata.proofs.Frame.{Fits}
 use Rattle.boot.proofs.Apart.{in_heap_lem}
-use Rattle.directory.proofs.CursorLaws.{Counted, counted_start, counted_next, counted-heap, counted-end, cursor-in}
+use Rattle.directory.proofs.CursorLaws.{Counted, counted_start, counted_next, counted_heap, counted_end, cursor_in}
 
 abbrev invariant-loop : tie.invariant-loop
 invariant-loop vol y dir k m per cluster₀ more₀ cluster more = Counted y vol dir (k + m) cluster more
@@ -23,7 +23,7 @@ cast-more c =
     let p = c.before.before.before.requires in
     let a = c.before.before.before.args in
     let w : Fits a.y a.vol.now = record { laid = p.0; apart = p.1.1.0; long = p.1.0 } in
-    let h = cursor-in a.y a.vol.now w a.dir p.1.1.1.0 a.k (omega arith) a.e p.1.1.1.1.0 in
+    let h = cursor_in a.y a.vol.now w a.dir p.1.1.1.0 a.k (omega arith) a.e p.1.1.1.1.0 in
     let z = p.0.size-high in
     omega arith
 
@@ -32,7 +32,7 @@ add-more c =
     let p = c.before.before.before.requires in
     let a = c.before.before.before.args in
     let w : Fits a.y a.vol.now = record { laid = p.0; apart = p.1.1.0; long = p.1.0 } in
-    let h = cursor-in a.y a.vol.now w a.dir p.1.1.1.0 a.k (omega arith) a.e p.1.1.1.1.0 in
+    let h = cursor_in a.y a.vol.now w a.dir p.1.1.1.0 a.k (omega arith) a.e p.1.1.1.1.0 in
     let z = p.0.size-high in
     omega arith
 
@@ -49,7 +49,7 @@ next-cluster-requires c κs =
     let a = c.before.before.before.before.before.args in
     let w : Fits a.y a.vol.now = record { laid = p.0; apart = p.1.1.0; long = p.1.0 } in
     let l = c.before.loop in
-    let h = in_heap_lem _ _ (counted-heap a.y a.vol.now w a.dir p.1.1.1.0 (a.k + a.m) l.cluster l.more l.invariant p.1.1.1.1.1.1) in
+    let h = in_heap_lem _ _ (counted_heap a.y a.vol.now w a.dir p.1.1.1.0 (a.k + a.m) l.cluster l.more l.invariant p.1.1.1.1.1.1) in
     (p.0, (p.1.0, h.1))
 
 loop-less : tie.Need-loop-smaller invariant-loop decreases-loop
@@ -80,7 +80,7 @@ returns c =
     let a = c.before.before.before.before.before.args in
     let w : Fits a.y a.vol.now = record { laid = p.0; apart = p.1.1.0; long = p.1.0 } in
     let l = c.before.loop in
-    counted-end a.y a.vol.now w a.dir p.1.1.1.0 (a.k + a.m) l.cluster l.more l.invariant (omega arith)
+    counted_end a.y a.vol.now w a.dir p.1.1.1.0 (a.k + a.m) l.cluster l.more l.invariant (omega arith)
 
 pub skip-spec : {M : Type 1} → statement M
 skip-spec =

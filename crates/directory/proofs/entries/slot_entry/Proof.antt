@@ -3,8 +3,8 @@ use native.Mathlib.Omega.{arith}
 use borrow.Author.Rules.{rules}
 use Rattle.metadata.proofs.Frame.{Fits}
 use Rattle.boot.proofs.Apart.{in_heap_lem}
-use Rattle.directory.proofs.CursorLaws.{Counted, counted-first, counted_next, counted-heap, counted-place}
-use Rattle.directory.proofs.EndLaws.{Ahead, ahead-first, ahead-end, ahead-next, ahead-not, slot-ends, slot-stands}
+use Rattle.directory.proofs.CursorLaws.{Counted, counted_first, counted_next, counted_heap, counted_place}
+use Rattle.directory.proofs.EndLaws.{Ahead, ahead_first, ahead_end, ahead_next, ahead_not, slot_ends, slot_stands}
 use Rattle.directory.proofs.entries.slot_entry.Statement.{statement}
 use Rattle.directory.proofs.entries.slot_entry.Tie as tie
 
@@ -22,7 +22,7 @@ loop-holds c =
     let p = c.before.before.requires in
     let a = c.before.before.args in
     let w : Fits a.y a.vol.now = record { laid = p.0; apart = p.1.1.0; long = p.1.0 } in
-    (ahead-first a.y a.vol.now w a.dir a.slot p.1.1.1.0 (omega arith), counted-first a.y a.vol.now w a.dir p.1.1.1.0 a.slot)
+    (ahead_first a.y a.vol.now w a.dir a.slot p.1.1.1.0 (omega arith), counted_first a.y a.vol.now w a.dir p.1.1.1.0 a.slot)
 
 none-ends-in-requires : tie.Need-none-ends-in-requires invariant-loop decreases-loop
 none-ends-in-requires c κs =
@@ -30,7 +30,7 @@ none-ends-in-requires c κs =
     let a = c.before.before.before.before.args in
     let w : Fits a.y a.vol.now = record { laid = p.0; apart = p.1.1.0; long = p.1.0 } in
     let l = c.before.loop in
-    let h = in_heap_lem _ _ (counted-heap a.y a.vol.now w a.dir p.1.1.1.0 a.slot l.k l.left l.invariant.1 p.1.1.1.1) in
+    let h = in_heap_lem _ _ (counted_heap a.y a.vol.now w a.dir p.1.1.1.0 a.slot l.k l.left l.invariant.1 p.1.1.1.1) in
     (p.0, (p.1.0, (h.0, (h.1, omega (arith, p.0.whole)))))
 
 next-cluster-requires : tie.Need-next-cluster-requires invariant-loop decreases-loop
@@ -39,7 +39,7 @@ next-cluster-requires c κs =
     let a = c.before.before.before.before.before.before.args in
     let w : Fits a.y a.vol.now = record { laid = p.0; apart = p.1.1.0; long = p.1.0 } in
     let l = c.before.before.before.loop in
-    let h = in_heap_lem _ _ (counted-heap a.y a.vol.now w a.dir p.1.1.1.0 a.slot l.k l.left l.invariant.1 p.1.1.1.1) in
+    let h = in_heap_lem _ _ (counted_heap a.y a.vol.now w a.dir p.1.1.1.0 a.slot l.k l.left l.invariant.1 p.1.1.1.1) in
     (p.0, (p.1.0, h.1))
 
 loop-less : tie.Need-loop-smaller invariant-loop decreases-loop
@@ -53,7 +53,7 @@ loop-again c =
     let a = c.before.before.before.before.before.before.before.args in
     let w : Fits a.y a.vol.now = record { laid = p.0; apart = p.1.1.0; long = p.1.0 } in
     let l = c.before.before.before.before.loop in
-    (ahead-next a.y a.vol.now w a.dir a.slot l.k l.left l.invariant.0 (omega (arith, p.0.size_low)) (omega arith) _ c.next-cluster.ensures (cc), rw c.next-cluster.ensures (counted_next a.y a.vol.now w a.dir p.1.1.1.0 a.slot l.k l.left l.invariant.1 (omega arith)))
+    (ahead_next a.y a.vol.now w a.dir a.slot l.k l.left l.invariant.0 (omega (arith, p.0.size_low)) (omega arith) _ c.next-cluster.ensures (cc), rw c.next-cluster.ensures (counted_next a.y a.vol.now w a.dir p.1.1.1.0 a.slot l.k l.left l.invariant.1 (omega arith)))
 
 returns : tie.Need-returns invariant-loop decreases-loop
 returns c =
@@ -61,7 +61,7 @@ returns c =
     let a = c.before.before.before.before.before.before.args in
     let w : Fits a.y a.vol.now = record { laid = p.0; apart = p.1.1.0; long = p.1.0 } in
     let l = c.before.before.before.loop in
-    slot-ends _ _ _ _ (ahead-not a.y a.vol.now w a.dir a.slot l.k l.left l.invariant.0 (omega (arith, p.0.size_low)) (omega arith) (cc))
+    slot_ends _ _ _ _ (ahead_not a.y a.vol.now w a.dir a.slot l.k l.left l.invariant.0 (omega (arith, p.0.size_low)) (omega arith) (cc))
 
 none-ends-in-requires-2 : tie.Need-none-ends-in-requires-2 invariant-loop decreases-loop
 none-ends-in-requires-2 c κs =
@@ -69,7 +69,7 @@ none-ends-in-requires-2 c κs =
     let a = c.before.before.before.before.args in
     let w : Fits a.y a.vol.now = record { laid = p.0; apart = p.1.1.0; long = p.1.0 } in
     let l = c.before.loop in
-    let h = in_heap_lem _ _ (counted-heap a.y a.vol.now w a.dir p.1.1.1.0 a.slot l.k l.left l.invariant.1 p.1.1.1.1) in
+    let h = in_heap_lem _ _ (counted_heap a.y a.vol.now w a.dir p.1.1.1.0 a.slot l.k l.left l.invariant.1 p.1.1.1.1) in
     (p.0, (p.1.0, (h.0, (h.1, omega (arith, p.0.whole)))))
 
 cast-t12 : tie.Need-overflow-cast-t12 invariant-loop decreases-loop
@@ -84,8 +84,8 @@ returns-2 c =
     let a = c.before.before.before.before.before.before.args in
     let w : Fits a.y a.vol.now = record { laid = p.0; apart = p.1.1.0; long = p.1.0 } in
     let l = c.before.before.before.loop in
-    let h = ahead-end a.y a.vol.now w a.dir a.slot l.k l.left l.invariant.0 (omega arith) in
-    counted-place a.y a.vol.now w a.dir p.1.1.1.0 a.slot l.k l.left l.invariant.1 (omega arith) ∙ slot-stands a.y a.vol.now a.dir a.slot (sym h ∙ (cc))
+    let h = ahead_end a.y a.vol.now w a.dir a.slot l.k l.left l.invariant.0 (omega arith) in
+    counted_place a.y a.vol.now w a.dir p.1.1.1.0 a.slot l.k l.left l.invariant.1 (omega arith) ∙ slot_stands a.y a.vol.now a.dir a.slot (sym h ∙ (cc))
 
 returns-3 : tie.Need-returns-3 invariant-loop decreases-loop
 returns-3 c =
@@ -93,8 +93,8 @@ returns-3 c =
     let a = c.before.before.before.before.before.before.args in
     let w : Fits a.y a.vol.now = record { laid = p.0; apart = p.1.1.0; long = p.1.0 } in
     let l = c.before.before.before.loop in
-    let h = ahead-end a.y a.vol.now w a.dir a.slot l.k l.left l.invariant.0 (omega arith) in
-    slot-ends a.y a.vol.now a.dir a.slot (sym h ∙ (cc))
+    let h = ahead_end a.y a.vol.now w a.dir a.slot l.k l.left l.invariant.0 (omega arith) in
+    slot_ends a.y a.vol.now a.dir a.slot (sym h ∙ (cc))
 
 pub slot-entry-spec : {M : Type 1} → statement M
 slot-entry-spec =

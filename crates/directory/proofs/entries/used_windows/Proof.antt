@@ -4,7 +4,7 @@ use mathlib.Core.Path.{◌≡◌, refl, sym, ◌∙◌}
 use native.Mathlib.Omega.{arith}
 use borrow.Author.Rules.{rules}
 use Rattle.directory.specs.Entries.{in_use}
-use Rattle.directory.proofs.WindowLaws.{Passing, passing-first, passing-next, passing-stop, passing-end, used_byte}
+use Rattle.directory.proofs.WindowLaws.{Passing, passing_first, passing_next, passing_stop, passing_end, used_byte}
 use Rattle.directory.proofs.entries.used_windows.Statement.{statement}
 use Rattle.directory.proofs.entries.used_windows.Tie as tie
 
@@ -29,7 +29,7 @@ mul_at c = search rules
 loop-holds : tie.Need-loop-init invariant-loop decreases-loop
 loop-holds c =
     let a = c.before.args in
-    (omega arith, (omega arith, passing-first a.part.now a.n a.first (32 * a.first) refl))
+    (omega arith, (omega arith, passing_first a.part.now a.n a.first (32 * a.first) refl))
 
 add-loop : tie.Need-overflow-add-loop invariant-loop decreases-loop
 add-loop c = search rules
@@ -57,7 +57,7 @@ loop-again c =
     let a = c.before.before.before.before.before.before.args in
     let l = c.before.before.before.before.loop in
     let u : in_use a.part.now (l.at / 32 + (a.n - 1)) ≡ true = sym (used_byte a.part.now a.n l.at l.invariant.0) ∙ (cc) in
-    (omega arith, (omega arith, passing-next a.part.now a.n a.first (l.at / 32) l.invariant.1.1 (omega arith) u _ (omega arith)))
+    (omega arith, (omega arith, passing_next a.part.now a.n a.first (l.at / 32) l.invariant.1.1 (omega arith) u _ (omega arith)))
 
 cast-result : tie.Need-overflow-cast-result invariant-loop decreases-loop
 cast-result c = search rules
@@ -67,7 +67,7 @@ returns c =
     let a = c.before.before.before.before.before.before.args in
     let l = c.before.before.before.before.loop in
     let u : in_use a.part.now (l.at / 32 + (a.n - 1)) ≡ false = sym (used_byte a.part.now a.n l.at l.invariant.0) ∙ (cc) in
-    passing-stop a.part.now a.n a.first (l.at / 32) l.invariant.1.1 u
+    passing_stop a.part.now a.n a.first (l.at / 32) l.invariant.1.1 u
 
 cast-result-2 : tie.Need-overflow-cast-result-2 invariant-loop decreases-loop
 cast-result-2 c = search rules
@@ -76,7 +76,7 @@ returns-2 : tie.Need-returns-2 invariant-loop decreases-loop
 returns-2 c =
     let a = c.before.before.before.args in
     let l = c.before.loop in
-    passing-end a.part.now a.n a.first (l.at / 32) l.invariant.1.1 (omega arith)
+    passing_end a.part.now a.n a.first (l.at / 32) l.invariant.1.1 (omega arith)
 
 pub used-windows-spec : {M : Type 1} → statement M
 used-windows-spec =

@@ -4,9 +4,9 @@ use Prim.Native.Nat.{◌<◌}
 use Rattle.metadata.proofs.Frame.{Fits}
 use Rattle.stream.specs.Bytes.{bytes_in}
 use Rattle.directory.specs.Entries.{entry_count}
-use Rattle.directory.proofs.CursorLaws.{dir-heap, slot-bytes}
-use Rattle.directory.proofs.SpotLaws.{slot-inside}
-use Rattle.directory.proofs.OpenLaws.{entries-low, slot-known, copy_is}
+use Rattle.directory.proofs.CursorLaws.{dir_heap, slot_bytes}
+use Rattle.directory.proofs.SpotLaws.{slot_inside}
+use Rattle.directory.proofs.OpenLaws.{entries_low, slot_known, copy_is}
 use borrow.Author.Rules.{rules}
 use Rattle.directory.proofs.open_file.copy_set.Statement.{statement}
 use Rattle.directory.proofs.open_file.copy_set.Tie as tie
@@ -22,7 +22,7 @@ cast-t11 c =
     let p = c.before.before.requires in
     let a = c.before.before.args in
     let w : Fits a.y a.vol.now = record { laid = p.0; apart = p.1.1.0; long = p.1.0 } in
-    let s = slot-inside a.y a.vol.now a.dir a.slot p.0 p.1.1.1.0 (omega (arith, slot-bytes a.y a.vol.now w a.dir p.1.1.1.0 a.slot a.n p.1.1.1.1.1.1.1.0, p.1.1.1.1.1.0, entries-low (bytes_in a.y a.vol.now a.dir) a.slot)) in
+    let s = slot_inside a.y a.vol.now a.dir a.slot p.0 p.1.1.1.0 (omega (arith, slot_bytes a.y a.vol.now w a.dir p.1.1.1.0 a.slot a.n p.1.1.1.1.1.1.1.0, p.1.1.1.1.1.0, entries_low (bytes_in a.y a.vol.now a.dir) a.slot)) in
     search rules
 
 mul-read : tie.Need-overflow-mul-read
@@ -33,8 +33,8 @@ read-requires c κs =
     let p = c.before.before.before.requires in
     let a = c.before.before.before.args in
     let w : Fits a.y a.vol.now = record { laid = p.0; apart = p.1.1.0; long = p.1.0 } in
-    let h : a.slot < entry_count (bytes_in a.y a.vol.now a.dir) = (omega (arith, p.1.1.1.1.1.1.1.0, p.1.1.1.1.1.0, entries-low (bytes_in a.y a.vol.now a.dir) a.slot)) in
-    (p.0, (p.1.0, (dir-heap a.y a.vol.now w a.dir p.1.1.1.0, (slot-bytes a.y a.vol.now w a.dir p.1.1.1.0 a.slot a.n p.1.1.1.1.1.1.1.0, (omega arith, slot-known a.y a.vol.now w a.dir p.1.1.1.0 a.slot h a.e p.1.1.1.1.0)))))
+    let h : a.slot < entry_count (bytes_in a.y a.vol.now a.dir) = (omega (arith, p.1.1.1.1.1.1.1.0, p.1.1.1.1.1.0, entries_low (bytes_in a.y a.vol.now a.dir) a.slot)) in
+    (p.0, (p.1.0, (dir_heap a.y a.vol.now w a.dir p.1.1.1.0, (slot_bytes a.y a.vol.now w a.dir p.1.1.1.0 a.slot a.n p.1.1.1.1.1.1.1.0, (omega arith, slot_known a.y a.vol.now w a.dir p.1.1.1.0 a.slot h a.e p.1.1.1.1.0)))))
 
 returns : tie.Need-returns
 returns c =

@@ -3,7 +3,7 @@ use native.Mathlib.Omega.{arith}
 use Rattle.metadata.proofs.Frame.{Fits}
 use Rattle.stream.specs.Bytes.{bytes_in}
 use Rattle.directory.specs.Internal.{whole_set}
-use Rattle.directory.proofs.OpenLaws.{whole-some, read_none, read_some, file-none}
+use Rattle.directory.proofs.OpenLaws.{whole_some, read_none, read_some, file-none}
 use borrow.Author.Rules.{rules}
 use Rattle.directory.proofs.open_file.open_at.Statement.{statement}
 use Rattle.directory.proofs.open_file.open_at.Tie as tie
@@ -32,7 +32,7 @@ copy-set-requires c κs =
     let a = c.before.before.before.before.before.args in
     let w : Fits a.y a.vol.now = record { laid = p.0; apart = p.1.1.1.0; long = p.1.0 } in
     let r = c.before.before.entries-here in
-    let s = whole-some (bytes_in a.y a.vol.now a.dir) a.slot (λ z. omega arith) in
+    let s = whole_some (bytes_in a.y a.vol.now a.dir) a.slot (λ z. omega arith) in
     (p.0, (p.1.0, (p.1.1.1.0, (p.1.1.1.1.0, (p.1.1.1.1.1.1.0, (r.ensures ∙ s.1.1.1, (omega (arith, r.ensures, s.1.1.1, s.1.0), (omega (arith, r.ensures, s.1.1.1, s.1.1.0), p.1.1.1.1.1.1.1.1.1.1))))))))
 
 open-copied-requires : tie.Need-open-copied-requires

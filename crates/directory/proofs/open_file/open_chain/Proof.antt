@@ -1,7 +1,7 @@
 use mathlib.Core.Path.{◌∙◌}
 use native.Mathlib.Omega.{arith}
 use Rattle.boot.proofs.Apart.{in_heap_lem}
-use Rattle.directory.proofs.OpenLaws.{chain-not, chain-nine, chain-done}
+use Rattle.directory.proofs.OpenLaws.{chain-not, chain_nine, chain-done}
 use borrow.Author.Rules.{rules}
 use Rattle.directory.proofs.open_file.open_chain.Statement.{statement}
 use Rattle.directory.proofs.open_file.open_chain.Tie as tie
@@ -37,7 +37,7 @@ returns-3 : tie.Need-returns-3
 returns-3 c =
     let p = c.before.before.before.before.before.before.before.requires.1.1.1 in
     let w = c.before.before.before.before.fat-chain in
-    c.not-opened2.ensures ∙ chain-nine _ _ _ _ _ _ w.result w.ensures p.0 p.1 _ c.before.before.before.walk-cause.ensures (omega arith) (cc)
+    c.not-opened2.ensures ∙ chain_nine _ _ _ _ _ _ w.result w.ensures p.0 p.1 _ c.before.before.before.walk-cause.ensures (omega arith) (cc)
 
 pub open-chain-spec : {M : Type 1} → statement M
 open-chain-spec =

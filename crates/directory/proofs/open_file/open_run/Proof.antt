@@ -5,8 +5,8 @@ use native.Mathlib.Omega.{arith}
 use Rattle.metadata.specs.Fat.{fat_entry}
 use Rattle.stream.specs.declared.allocation.Allocation.{Allocation}
 use Rattle.stream.proofs.BytesSteps.{reach_run}
-use Rattle.stream.proofs.ListingLaws.{along-heap}
-use Rattle.directory.proofs.OpenLaws.{stream-not, stream-system, stream-done}
+use Rattle.stream.proofs.ListingLaws.{along_heap}
+use Rattle.directory.proofs.OpenLaws.{stream_not, stream_system, stream_done}
 use borrow.Author.Rules.{rules}
 use Rattle.directory.proofs.open_file.open_run.Statement.{statement}
 use Rattle.directory.proofs.open_file.open_run.Tie as tie
@@ -27,14 +27,14 @@ returns : tie.Need-returns
 returns c =
     let a = c.before.before.before.before.before.args in
     let s = c.before.before.stream-cause in
-    c.not_opened.ensures ∙ stream-not a.y a.vol.now a.map.now (record { first = a.first; last = a.first + a.n - 1; count = a.n; no_fat_chain = true }) a.goal s.result s.ensures (λ z. omega arith)
+    c.not_opened.ensures ∙ stream_not a.y a.vol.now a.map.now (record { first = a.first; last = a.first + a.n - 1; count = a.n; no_fat_chain = true }) a.goal s.result s.ensures (λ z. omega arith)
 
 system-cause-requires : tie.Need-system-cause-requires
 system-cause-requires c κs =
     let a = c.before.before.before.before.args in
     let p = c.before.before.before.before.requires in
     let s = c.before.stream-cause in
-    (p.0, (p.1.0, (p.1.1.0, (along-heap a.y a.vol.now (record { first = a.first; last = a.first + a.n - 1; count = a.n; no_fat_chain = true }) (sym s.ensures ∙ (omega arith)), omega arith))))
+    (p.0, (p.1.0, (p.1.1.0, (along_heap a.y a.vol.now (record { first = a.first; last = a.first + a.n - 1; count = a.n; no_fat_chain = true }) (sym s.ensures ∙ (omega arith)), omega arith))))
 
 not-opened-requires-2 : tie.Need-not-opened-requires-2
 not-opened-requires-2 c κs = search rules
@@ -44,7 +44,7 @@ returns-2 c =
     let a = c.before.before.before.before.before.before.before.args in
     let s = c.before.before.before.before.stream-cause in
     let t = c.before.before.system-cause in
-    c.not-opened2.ensures ∙ stream-system a.y a.vol.now a.map.now (record { first = a.first; last = a.first + a.n - 1; count = a.n; no_fat_chain = true }) a.goal (sym s.ensures ∙ (omega arith)) t.result t.ensures (λ z. omega arith)
+    c.not-opened2.ensures ∙ stream_system a.y a.vol.now a.map.now (record { first = a.first; last = a.first + a.n - 1; count = a.n; no_fat_chain = true }) a.goal (sym s.ensures ∙ (omega arith)) t.result t.ensures (λ z. omega arith)
 
 add-t11-2 : tie.Need-overflow-add-t11-2
 add-t11-2 c = search rules
@@ -55,7 +55,7 @@ returns-3 c =
     let s = c.before.before.before.stream-cause in
     let t = c.before.system-cause in
     let b : Allocation = record { first = a.first; last = a.first + a.n - 1; count = a.n; no_fat_chain = true } in
-    stream-done a.y a.vol.now a.map.now b a.goal (sym s.ensures ∙ (omega arith)) t.result t.ensures (omega arith) _ (sym (reach_run (fat_entry a.y a.vol.now) true a.first a.goal refl))
+    stream_done a.y a.vol.now a.map.now b a.goal (sym s.ensures ∙ (omega arith)) t.result t.ensures (omega arith) _ (sym (reach_run (fat_entry a.y a.vol.now) true a.first a.goal refl))
 
 pub open-run-spec : {M : Type 1} → statement M
 open-run-spec =

@@ -3,7 +3,7 @@ use mathlib.Core.Logic.{⊎_elim}
 use Prim.Native.Nat.{min}
 use native.Mathlib.Omega.{arith}
 use Rattle.entry_set.specs.Fields.{valid_length}
-use Rattle.directory.proofs.StartLaws.{start-here, start-last}
+use Rattle.directory.proofs.StartLaws.{start_here, start_last}
 use borrow.Author.Rules.{rules}
 use Rattle.directory.proofs.open_file.start_steps.Statement.{statement}
 use Rattle.directory.proofs.open_file.start_steps.Tie as tie
@@ -23,7 +23,7 @@ returns c =
     let v = c.before.before.before.valid-length.ensures in
     let j = c.before.before.if1 in
     let e : j.at ≡ min (valid_length a.set.now) a.offset = ⊎_elim (λ w. omega (arith, v, w)) (λ w. omega (arith, v, w)) j.branch in
-    start-here a.y.size (valid_length a.set.now) a.offset a.n j.at e (omega arith)
+    start_here a.y.size (valid_length a.set.now) a.offset a.n j.at e (omega arith)
 
 sub-result : tie.Need-overflow-sub-result
 sub-result c = search rules
@@ -34,7 +34,7 @@ returns-2 c =
     let v = c.before.before.before.valid-length.ensures in
     let j = c.before.before.if1 in
     let e : j.at ≡ min (valid_length a.set.now) a.offset = ⊎_elim (λ w. omega (arith, v, w)) (λ w. omega (arith, v, w)) j.branch in
-    start-last a.y.size (valid_length a.set.now) a.offset a.n j.at e (omega arith)
+    start_last a.y.size (valid_length a.set.now) a.offset a.n j.at e (omega arith)
 
 pub start-steps-spec : {M : Type 1} → statement M
 start-steps-spec =

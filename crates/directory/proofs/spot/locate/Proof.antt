@@ -1,6 +1,6 @@
 use mathlib.Core.Path.{ap}
 use Prim.Native.Nat.{ℕ, ◌*◌, ◌%◌}
-use Rattle.directory.proofs.SpotLaws.{slot-inside}
+use Rattle.directory.proofs.SpotLaws.{slot_inside}
 use borrow.Author.Rules.{rules}
 use Rattle.directory.proofs.spot.locate.Statement.{statement}
 use Rattle.directory.proofs.spot.locate.Tie as tie
@@ -15,14 +15,14 @@ cast-seek : tie.Need-overflow-cast-seek
 cast-seek c =
     let p = c.before.before.requires in
     let a = c.before.before.args in
-    let s = slot-inside a.y a.vol.now a.dir a.slot p.0 p.1.1.0 p.1.1.1 in
+    let s = slot_inside a.y a.vol.now a.dir a.slot p.0 p.1.1.0 p.1.1.1 in
     search rules
 
 seek-requires : tie.Need-seek-requires
 seek-requires c κs =
     let p = c.before.before.requires in
     let a = c.before.before.args in
-    let s = slot-inside a.y a.vol.now a.dir a.slot p.0 p.1.1.0 p.1.1.1 in
+    let s = slot_inside a.y a.vol.now a.dir a.slot p.0 p.1.1.0 p.1.1.1 in
     (p.0, (p.1.0, s.before))
 
 rem-t8 : tie.Need-nonzero-rem-t8
@@ -32,7 +32,7 @@ spot-from-requires : tie.Need-spot-from-requires
 spot-from-requires c κs =
     let p = c.before.before.before.before.requires in
     let a = c.before.before.before.before.args in
-    let s = slot-inside a.y a.vol.now a.dir a.slot p.0 p.1.1.0 p.1.1.1 in
+    let s = slot_inside a.y a.vol.now a.dir a.slot p.0 p.1.1.0 p.1.1.1 in
     (p.0, (p.1.0, (p.1.1.0, (p.1.1.1, ap (λ (x : ℕ). record { cluster = x; at = 32 * a.slot % a.y.size }) c.before.seek.ensures))))
 
 returns : tie.Need-returns

@@ -1,7 +1,7 @@
 use mathlib.Core.Path.{sym, ◌∙◌}
 use native.Mathlib.Omega.{arith}
 use Rattle.entry_set.specs.Fields.{entry_type}
-use Rattle.entry_set.proofs.SoundLaws.{head_rest, not-head}
+use Rattle.entry_set.proofs.SoundLaws.{head_rest, not_head}
 use borrow.Author.Rules.{rules}
 use Rattle.entry_set.proofs.entry.head_ok.Statement.{statement}
 use Rattle.entry_set.proofs.entry.head_ok.Tie as tie
@@ -17,13 +17,13 @@ element-copy-out-if1 c = search rules
 
 returns : tie.Need-returns
 unfolding entry_type
-returns c = sym (not-head _ (λ h. c.if1.true h.file))
+returns c = sym (not_head _ (λ h. c.if1.true h.file))
 
 returns-2 : tie.Need-returns-2
-returns-2 c = sym (not-head _ (λ h. omega arith))
+returns-2 c = sym (not_head _ (λ h. omega arith))
 
 returns-3 : tie.Need-returns-3
-returns-3 c = sym (not-head _ (λ h. omega arith))
+returns-3 c = sym (not_head _ (λ h. omega arith))
 
 name-entries-requires : tie.Need-name-entries-requires
 name-entries-requires c κs = search rules
@@ -32,7 +32,7 @@ add-if4 : tie.Need-overflow-add-if4
 add-if4 c = search rules
 
 returns-4 : tie.Need-returns-4
-returns-4 c = sym (not-head _ (λ h. c.if4.true (cc)))
+returns-4 c = sym (not_head _ (λ h. c.if4.true (cc)))
 
 returns-5 : tie.Need-returns-5
 unfolding entry_type

@@ -1,6 +1,6 @@
 use mathlib.Core.Path.{sym, ◌∙◌}
 use native.Mathlib.Omega.{arith}
-use Rattle.entry_set.proofs.SoundLaws.{lengths-over, lengths-empty, lengths_some}
+use Rattle.entry_set.proofs.SoundLaws.{lengths_over, lengths_empty, lengths_some}
 use borrow.Author.Rules.{rules}
 use Rattle.entry_set.proofs.entry.lengths_ok.Statement.{statement}
 use Rattle.entry_set.proofs.entry.lengths_ok.Tie as tie
@@ -12,7 +12,7 @@ valid-length-requires : tie.Need-valid-length-requires
 valid-length-requires c κs = search rules
 
 returns : tie.Need-returns
-returns c = sym (lengths-over _ _ _ (omega arith))
+returns c = sym (lengths_over _ _ _ (omega arith))
 
 first-cluster-requires : tie.Need-first-cluster-requires
 first-cluster-requires c κs = search rules
@@ -24,7 +24,7 @@ empty-ok-requires : tie.Need-empty-ok-requires
 empty-ok-requires c κs = search rules
 
 returns-2 : tie.Need-returns-2
-returns-2 c = (cc) ∙ sym (lengths-empty _ _ _ (omega arith) (omega arith))
+returns-2 c = (cc) ∙ sym (lengths_empty _ _ _ (omega arith) (omega arith))
 
 first-cluster-requires-2 : tie.Need-first-cluster-requires-2
 first-cluster-requires-2 c κs = search rules

@@ -4,7 +4,7 @@ use native.Mathlib.Omega.{arith}
 use borrow.Author.Rules.{rules}
 use borrow.Author.Count.{below_none, below_more}
 use Rattle.entry_set.specs.Fields.{entry_type}
-use Rattle.entry_set.proofs.SoundLaws.{NameEntry, of-names, not-names}
+use Rattle.entry_set.proofs.SoundLaws.{NameEntry, of_names, not_names}
 use Rattle.entry_set.proofs.entry.names_ok.Statement.{statement}
 use Rattle.entry_set.proofs.entry.names_ok.Tie as tie
 
@@ -28,7 +28,7 @@ element-copy-out-if1 c = search rules
 
 returns : tie.Need-returns invariant-loop decreases-loop
 unfolding entry_type
-returns c = sym (not-names _ _ c.before.before.before.loop.i (omega arith) (λ h. c.if1.true h.name))
+returns c = sym (not_names _ _ c.before.before.before.loop.i (omega arith) (λ h. c.if1.true h.name))
 
 add-if2 : tie.Need-overflow-add-if2 invariant-loop decreases-loop
 add-if2 c = search rules
@@ -44,7 +44,7 @@ element-copy-out-if2 c = search rules
 
 returns-2 : tie.Need-returns-2 invariant-loop decreases-loop
 unfolding entry_type
-returns-2 c = sym (not-names _ _ c.before.before.before.before.before.loop.i (omega arith) (λ h. c.if2.true h.flags))
+returns-2 c = sym (not_names _ _ c.before.before.before.before.before.loop.i (omega arith) (λ h. c.if2.true h.flags))
 
 add-i : tie.Need-overflow-add-i invariant-loop decreases-loop
 add-i c = search rules
@@ -57,7 +57,7 @@ unfolding entry_type
 loop-again c = (omega arith, below_more _ _ c.before.before.before.before.before.loop.invariant.1 (record { name = c.before.before.if1.false; flags = c.if2.false }))
 
 returns-3 : tie.Need-returns-3 invariant-loop decreases-loop
-returns-3 c = sym (of-names _ _ (λ i h. c.before.loop.invariant.1 i (omega arith)))
+returns-3 c = sym (of_names _ _ (λ i h. c.before.loop.invariant.1 i (omega arith)))
 
 pub names-ok-spec : {M : Type 1} → statement M
 names-ok-spec =

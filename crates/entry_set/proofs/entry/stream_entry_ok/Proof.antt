@@ -1,7 +1,7 @@
 use mathlib.Core.Path.{sym, ◌∙◌}
 use native.Mathlib.Omega.{arith}
 use Rattle.entry_set.specs.Fields.{entry_type}
-use Rattle.entry_set.proofs.SoundLaws.{stream_rest, not-stream}
+use Rattle.entry_set.proofs.SoundLaws.{stream_rest, not_stream}
 use borrow.Author.Rules.{rules}
 use Rattle.entry_set.proofs.entry.stream_entry_ok.Statement.{statement}
 use Rattle.entry_set.proofs.entry.stream_entry_ok.Tie as tie
@@ -22,14 +22,14 @@ array-checksum-requires : tie.Need-array-checksum-requires
 array-checksum-requires c κs = search rules
 
 returns : tie.Need-returns
-returns c = sym (not-stream _ (λ h. c.if1.true (cc)))
+returns c = sym (not_stream _ (λ h. c.if1.true (cc)))
 
 element-copy-out-if2 : tie.Need-element-copy-out-if2
 element-copy-out-if2 c = search rules
 
 returns-2 : tie.Need-returns-2
 unfolding entry_type
-returns-2 c = sym (not-stream _ (λ h. c.if2.true h.stream))
+returns-2 c = sym (not_stream _ (λ h. c.if2.true h.stream))
 
 allocation-possible-requires : tie.Need-allocation-possible-requires
 allocation-possible-requires c κs = search rules

@@ -6,7 +6,7 @@ use borrow.Author.Tests.{not-true, not-false}
 use lib.ListN.{length, drop}
 use Rattle.tables.specs.Lists.{every}
 use Rattle.entry_set.specs.Name.{unit_ok}
-use Rattle.entry_set.proofs.NameLaws.{every-stop, every-step, every-end}
+use Rattle.entry_set.proofs.NameLaws.{every_stop, every-step, every_end}
 use Rattle.entry_set.proofs.name.units_ok.Statement.{statement}
 use Rattle.entry_set.proofs.name.units_ok.Tie as tie
 
@@ -29,7 +29,7 @@ unit-ok-requires : tie.Need-unit-ok-requires invariant-loop decreases-loop
 unit-ok-requires c κs = search rules
 
 returns : tie.Need-returns invariant-loop decreases-loop
-returns c = sym (c.before.before.before.before.loop.invariant.1 ∙ every-stop unit_ok c.before.before.before.before.before.before.args.name.now c.before.before.before.before.loop.i (omega arith) (sym c.before.unit_ok.ensures ∙ not-true _ c.if1.true))
+returns c = sym (c.before.before.before.before.loop.invariant.1 ∙ every_stop unit_ok c.before.before.before.before.before.before.args.name.now c.before.before.before.before.loop.i (omega arith) (sym c.before.unit_ok.ensures ∙ not-true _ c.if1.true))
 
 add-i : tie.Need-overflow-add-i invariant-loop decreases-loop
 add-i c = search rules
@@ -41,7 +41,7 @@ loop-again : tie.Need-loop-preserved invariant-loop decreases-loop
 loop-again c = (omega arith, c.before.before.before.before.loop.invariant.1 ∙ every-step unit_ok c.before.before.before.before.before.before.args.name.now c.before.before.before.before.loop.i (omega arith) (sym c.before.unit_ok.ensures ∙ not-false _ c.if1.false))
 
 returns-2 : tie.Need-returns-2 invariant-loop decreases-loop
-returns-2 c = sym (c.before.loop.invariant.1 ∙ every-end unit_ok c.before.before.before.args.name.now c.before.loop.i (omega arith))
+returns-2 c = sym (c.before.loop.invariant.1 ∙ every_end unit_ok c.before.before.before.args.name.now c.before.loop.i (omega arith))
 
 pub units-ok-spec : {M : Type 1} → statement M
 units-ok-spec =

@@ -1,5 +1,5 @@
 use Rattle.std.proofs.Common.{sym, arith, rules, leb-false, leb-true}
-use Rattle.file.proofs.RefreshLaws.{length-met, length_kept}
+use Rattle.file.proofs.RefreshLaws.{length_met, length_kept}
 use Rattle.file.proofs.refresh.length_cause.Statement.{statement}
 use Rattle.file.proofs.refresh.length_cause.Tie as tie
 
@@ -25,7 +25,7 @@ returns-2 : tie.Need-returns-2
 returns-2 c = sym (length_kept _ _ _ _ _ (leb-true _ _ (cc)))
 
 returns-3 : tie.Need-returns-3
-returns-3 c = sym (length-met _ _ _ _ _ (leb-false _ _ (cc)))
+returns-3 c = sym (length_met _ _ _ _ _ (leb-false _ _ (cc)))
 
 pub length-cause-spec : {M : Type 1} → statement M
 length-cause-spec =

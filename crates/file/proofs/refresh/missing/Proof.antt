@@ -1,5 +1,5 @@
 use Rattle.std.proofs.Common.{sym, ◌∙◌, arith, rules}
-use Rattle.file.proofs.RefreshLaws.{missing-is, missing-none}
+use Rattle.file.proofs.RefreshLaws.{missing_is, missing-none}
 use Rattle.file.proofs.refresh.missing.Statement.{statement}
 use Rattle.file.proofs.refresh.missing.Tie as tie
 
@@ -18,11 +18,11 @@ sub-result c = search rules
 cast-result : tie.Need-overflow-cast-result
 cast-result c =
     let a = c.before.before.before.args in
-    let e = missing-is a.y a.b a.len in
+    let e = missing_is a.y a.b a.len in
     omega arith
 
 returns-2 : tie.Need-returns-2
-returns-2 c = (omega arith) ∙ sym (missing-is _ _ _)
+returns-2 c = (omega arith) ∙ sym (missing_is _ _ _)
 
 pub missing-spec : {M : Type 1} → statement M
 missing-spec =

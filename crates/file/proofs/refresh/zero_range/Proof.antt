@@ -1,9 +1,9 @@
 use Rattle.std.proofs.Common.{◌≡◌, ℕ, ◌+◌, ◌-◌, ◌/◌, replicate, sym, ap, ◌∙◌, arith, rules}
 use Rattle.stream.specs.Bytes.{store_at}
 use Rattle.stream.specs.Internal.{place_at}
-use Rattle.stream.proofs.ListingLaws.{along-heap}
-use Rattle.directory.proofs.DirectoryLaws.{clusters-along}
-use Rattle.file.proofs.RefreshLaws.{zeros_none, zeroed-some, zeroed-none}
+use Rattle.stream.proofs.ListingLaws.{along_heap}
+use Rattle.directory.proofs.DirectoryLaws.{clusters_along}
+use Rattle.file.proofs.RefreshLaws.{zeros_none, zeroed_some, zeroed_none}
 use Rattle.file.proofs.refresh.zero_range.Statement.{statement}
 use Rattle.file.proofs.refresh.zero_range.Tie as tie
 
@@ -13,7 +13,7 @@ sub-fill c = search rules
 fill-requires : tie.Need-fill-requires
 fill-requires c κs =
     let p = c.before.before.before.requires in
-    (p.0, (p.1.0, (along-heap _ _ _ p.1.1.1.0, (omega arith, (p.1.1.0, (p.1.1.1.1.1, omega arith))))))
+    (p.0, (p.1.0, (along_heap _ _ _ p.1.1.1.0, (omega arith, (p.1.1.0, (p.1.1.1.1.1, omega arith))))))
 
 same_length : tie.Need-same-length
 same_length c = search rules
@@ -24,14 +24,14 @@ returns c =
     let p = c.before.before.before.before.before.before.requires in
     let e = c.before.before.fill.ensures in
     let n : a.from + (a.to - a.from) - 1 ≡ a.to - 1 = omega arith in (
-      e.0 ∙ ap (λ l. store_at a.y a.vol.now l a.from (replicate (a.to - a.from) 0)) (sym (clusters-along a.y a.vol.now a.b p.1.1.1.0)),
-      e.1 ∙ ap (λ (x : ℕ). place_at a.y a.vol.now a.b (x / a.y.size)) n ∙ sym (zeroed-some _ _ _ _ _ _ (omega arith)),
+      e.0 ∙ ap (λ l. store_at a.y a.vol.now l a.from (replicate (a.to - a.from) 0)) (sym (clusters_along a.y a.vol.now a.b p.1.1.1.0)),
+      e.1 ∙ ap (λ (x : ℕ). place_at a.y a.vol.now a.b (x / a.y.size)) n ∙ sym (zeroed_some _ _ _ _ _ _ (omega arith)),
     )
 
 returns-2 : tie.Need-returns-2
 returns-2 c =
     let a = c.before.before.args in
-    (sym (zeros_none _ _ _ _ (a.to - a.from) (omega arith)), sym (zeroed-none _ _ _ _ _ _ (omega arith)))
+    (sym (zeros_none _ _ _ _ (a.to - a.from) (omega arith)), sym (zeroed_none _ _ _ _ _ _ (omega arith)))
 
 pub zero-range-spec : {M : Type 1} → statement M
 zero-range-spec = tie.close (tie.spec sub-fill fill-requires same_length returns returns-2)

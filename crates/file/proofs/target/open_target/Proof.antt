@@ -3,8 +3,8 @@ use Rattle.stream.specs.declared.allocation.Allocation.{Allocation}
 use Rattle.stream.specs.Bytes.{bytes_in}
 use Rattle.directory.specs.Directory.{root_record}
 use Rattle.directory.specs.Internal.{open_file, set_read}
-use Rattle.directory.proofs.DirectoryLaws.{root-number, root-record, root_reads}
-use Rattle.file.proofs.OpenLaws.{target-hint, target-directory, target-file}
+use Rattle.directory.proofs.DirectoryLaws.{root_number, root_record_lem, root_reads}
+use Rattle.file.proofs.OpenLaws.{target_hint, target_directory, target-file}
 use Rattle.file.proofs.target.open_target.Statement.{statement}
 use Rattle.file.proofs.target.open_target.Tie as tie
 
@@ -22,7 +22,7 @@ returns c =
     let a = c.before.before.before.before.before.before.before.before.args in
     let p = c.before.before.before.before.before.before.before.before.requires in
     let r = c.before.before.before.root_dir in
-    let t = target-directory a.y a.vol.now a.map.now (root_record a.y a.vol.now a.root) a.slot a.offset a.hint (cc) r.result.number (root-number a.y a.vol.now a.root r.result r.ensures) (λ z. omega arith) in
+    let t = target_directory a.y a.vol.now a.map.now (root_record a.y a.vol.now a.root) a.slot a.offset a.hint (cc) r.result.number (root_number a.y a.vol.now a.root r.result r.ensures) (λ z. omega arith) in
     (c.no-file.ensures ∙ t.0, p.1.1.1.1 ∙ t.1)
 
 open-file-requires : tie.Need-open-file-requires
@@ -39,8 +39,8 @@ returns-2 c =
     let p = c.before.before.before.before.before.before.before.before.before.before.requires in
     let r = c.before.before.before.before.before.root_dir in
     let z : r.result.number ≡ 0 = omega arith in
-    let x = root-record a.y a.vol.now a.root r.result r.ensures z in
-    let t = target-file a.y a.vol.now a.map.now (root_record a.y a.vol.now a.root) a.slot a.offset a.hint (cc) (sym (root-number a.y a.vol.now a.root r.result r.ensures) ∙ z) in
+    let x = root_record_lem a.y a.vol.now a.root r.result r.ensures z in
+    let t = target-file a.y a.vol.now a.map.now (root_record a.y a.vol.now a.root) a.slot a.offset a.hint (cc) (sym (root_number a.y a.vol.now a.root r.result r.ensures) ∙ z) in
     (c.open-file.ensures.0 ∙ ap (λ (u : Allocation). open_file a.y a.vol.now a.map.now u a.slot a.offset) x ∙ t.0, c.open-file.ensures.1 ∙ ap (λ (u : Allocation). set_read (bytes_in a.y a.vol.now u) a.slot) x ∙ t.1)
 
 no-file-requires-2 : tie.Need-no-file-requires-2
@@ -50,7 +50,7 @@ returns-3 : tie.Need-returns-3
 returns-3 c =
     let a = c.before.before.before.before.before.args in
     let p = c.before.before.before.before.before.requires in
-    let t = target-hint a.y a.vol.now a.map.now (root_record a.y a.vol.now a.root) a.slot a.offset a.hint (cc) in
+    let t = target_hint a.y a.vol.now a.map.now (root_record a.y a.vol.now a.root) a.slot a.offset a.hint (cc) in
     (c.no-file2.ensures ∙ t.0, p.1.1.1.1 ∙ t.1)
 
 pub open-target-spec : {M : Type 1} → statement M

@@ -3,7 +3,7 @@ use mathlib.Core.Path.{◌∙◌}
 use native.Mathlib.Omega.{arith}
 use lib.ListN.{take, drop}
 use Rattle.primitives.proofs.CountLaws.{count_le}
-use Rattle.metadata.proofs.Stores.{count-part}
+use Rattle.metadata.proofs.Stores.{count_part}
 use borrow.Author.Rules.{rules}
 use Rattle.metadata.proofs.bitmap.allocated_count.Statement.{statement}
 use Rattle.metadata.proofs.bitmap.allocated_count.Tie as tie
@@ -33,7 +33,7 @@ returns : tie.Need-returns
 returns c =
     let a = c.before.before.before.before.args in
     let n = a.y.bitmap + (a.y.count + 7) / 8 - a.y.bitmap in (
-      c.bitmap-count.ensures ∙ count-part a.y a.vol.now n (omega arith),
+      c.bitmap-count.ensures ∙ count_part a.y a.vol.now n (omega arith),
       omega (arith, c.bitmap-count.ensures, count_le (take n (drop a.y.bitmap a.vol.now)) a.y.count),
     )
 

@@ -1,6 +1,6 @@
 use Prim.Native.Nat.{◌+◌, ◌-◌, ◌/◌}
 use native.Mathlib.Omega.{arith}
-use Rattle.metadata.proofs.UnmarkedLaws.{unmarked-part}
+use Rattle.metadata.proofs.UnmarkedLaws.{unmarked_part}
 use borrow.Author.Rules.{rules}
 use Rattle.metadata.proofs.bitmap.first_unmarked.Statement.{statement}
 use Rattle.metadata.proofs.bitmap.first_unmarked.Tie as tie
@@ -36,7 +36,7 @@ returns : tie.Need-returns
 returns c =
     let a = c.before.before.before.before.args in
     let m = a.y.bitmap + (a.y.count + 7) / 8 - a.y.bitmap in
-    let e = unmarked-part a.y a.vol.now m a.k a.n _ (omega arith) (omega arith) c.first_bit.ensures.0 in
+    let e = unmarked_part a.y a.vol.now m a.k a.n _ (omega arith) (omega arith) c.first_bit.ensures.0 in
     (e, (omega arith, omega arith))
 
 pub first-unmarked-spec : {M : Type 1} → statement M

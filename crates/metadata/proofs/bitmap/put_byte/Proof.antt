@@ -1,7 +1,7 @@
 use native.Mathlib.Omega.{arith}
 use mathlib.Core.Path.{sym, ◌∙◌}
 use lib.ListN.{length-set}
-use Rattle.metadata.proofs.Stores.{byte-two, byte_one}
+use Rattle.metadata.proofs.Stores.{byte_two, byte_one}
 use borrow.Author.Rules.{rules}
 use Rattle.metadata.proofs.bitmap.put_byte.Statement.{statement}
 use Rattle.metadata.proofs.bitmap.put_byte.Tie as tie
@@ -22,7 +22,7 @@ same_length : tie.Need-same-length
 same_length c = search rules
 
 returns : tie.Need-returns
-returns c = (cc) ∙ sym (byte-two _ _ _ _ (cc))
+returns c = (cc) ∙ sym (byte_two _ _ _ _ (cc))
 
 same-length-2 : tie.Need-same-length-2
 same-length-2 c = search rules

@@ -1,5 +1,5 @@
 use mathlib.Core.Path.{sym, ◌∙◌}
-use Rattle.metadata.proofs.Stores.{fat-two, fat-one}
+use Rattle.metadata.proofs.Stores.{fat_two, fat_one}
 use borrow.Author.Rules.{rules}
 use Rattle.metadata.proofs.fat.set_fat.Statement.{statement}
 use Rattle.metadata.proofs.fat.set_fat.Tie as tie
@@ -26,13 +26,13 @@ same_length : tie.Need-same-length
 same_length c = search rules
 
 returns : tie.Need-returns
-returns c = (cc) ∙ sym (fat-two _ _ _ _ (cc))
+returns c = (cc) ∙ sym (fat_two _ _ _ _ (cc))
 
 same-length-2 : tie.Need-same-length-2
 same-length-2 c = search rules
 
 returns-2 : tie.Need-returns-2
-returns-2 c = (cc) ∙ sym (fat-one _ _ _ _ (cc))
+returns-2 c = (cc) ∙ sym (fat_one _ _ _ _ (cc))
 
 pub set-fat-spec : {M : Type 1} → statement M
 set-fat-spec =

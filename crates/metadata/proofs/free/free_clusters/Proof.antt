@@ -1,7 +1,7 @@
 use mathlib.Core.Path.{sym, ◌∙◌}
 use native.Mathlib.Omega.{arith}
-use Rattle.boot.proofs.Admission.{admit-number, admission}
-use Rattle.metadata.proofs.Stores.{free_is, free_not-admitted}
+use Rattle.boot.proofs.Admission.{admit_number, admission}
+use Rattle.metadata.proofs.Stores.{free_is, free_not_admitted}
 use borrow.Author.Rules.{rules}
 use Rattle.metadata.proofs.free.free_clusters.Statement.{statement}
 use Rattle.metadata.proofs.free.free_clusters.Tie as tie
@@ -10,7 +10,7 @@ admit-requires : tie.Need-admit-requires
 admit-requires c κs = search rules
 
 returns : tie.Need-returns
-returns c = sym (free_not-admitted _ _ _ _ (admit-number _ _ _ _ c.before.before.admit.ensures) (λ z. omega arith))
+returns c = sym (free_not_admitted _ _ _ _ (admit_number _ _ _ _ c.before.before.admit.ensures) (λ z. omega arith))
 
 free-count-requires : tie.Need-free-count-requires
 free-count-requires c κs =

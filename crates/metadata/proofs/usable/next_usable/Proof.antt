@@ -5,11 +5,11 @@ use mathlib.Core.List.{List}
 use native.Mathlib.Decide.{dec_lt, ℕ_discrete}
 use native.Mathlib.Omega.{arith}
 use borrow.Author.Rules.{rules}
-use Rattle.search.proofs.Lowest.{fewest-is}
+use Rattle.search.proofs.Lowest.{fewest_is}
 use Rattle.boot.specs.declared.layout.Layout.{Layout}
 use Rattle.metadata.specs.Internal.{first_unmarked}
 use Rattle.metadata.specs.Usable.{is_usable}
-use Rattle.metadata.proofs.UnmarkedLaws.{before-unusable}
+use Rattle.metadata.proofs.UnmarkedLaws.{before_unusable}
 use Rattle.metadata.proofs.usable.next_usable.Statement.{statement}
 use Rattle.metadata.proofs.usable.next_usable.Tie as tie
 
@@ -21,7 +21,7 @@ none-on : (y : Layout) (d m : List ℕ) (k at n next : ℕ) → NoneTo y d m k a
 none-on y d m k at n next f e j a b =
     elim (dec_lt j at) [
       | yes h ↦ f j a h
-      | no h ↦ before-unusable y d m at n j (omega arith) (omega arith)
+      | no h ↦ before_unusable y d m at n j (omega arith) (omega arith)
     ]
 
 none_more : (y : Layout) (d m : List ℕ) (k at : ℕ) → NoneTo y d m k at → is_usable y d m at ≡ false → NoneTo y d m k (at + 1)
@@ -53,7 +53,7 @@ returns : tie.Need-returns invariant-loop decreases-loop
 returns c =
     let l = c.before.before.before.loop in
     let f = none-on _ _ _ _ l.at _ _ l.invariant.1.1 c.before.first-unmarked.ensures.0 in
-    (sym (fewest-is _ _ _ _ (omega arith) (omega arith) (λ h. absurd (omega arith)) (λ j a b. f j a (omega arith))), (omega arith, omega arith))
+    (sym (fewest_is _ _ _ _ (omega arith) (omega arith) (λ h. absurd (omega arith)) (λ j a b. f j a (omega arith))), (omega arith, omega arith))
 
 usable-requires : tie.Need-usable-requires invariant-loop decreases-loop
 usable-requires c κs = search rules
@@ -62,7 +62,7 @@ returns-2 : tie.Need-returns-2 invariant-loop decreases-loop
 returns-2 c =
     let l = c.before.before.before.before.before.loop in
     let f = none-on _ _ _ _ l.at _ _ l.invariant.1.1 c.before.before.before.first-unmarked.ensures.0 in
-    (sym (fewest-is _ _ _ _ (omega arith) (omega arith) (λ h. cc) f), (omega arith, omega arith))
+    (sym (fewest_is _ _ _ _ (omega arith) (omega arith) (λ h. cc) f), (omega arith, omega arith))
 
 add_at : tie.Need-overflow-add-at invariant-loop decreases-loop
 add_at c = search rules
@@ -79,7 +79,7 @@ loop-again c =
 returns-3 : tie.Need-returns-3 invariant-loop decreases-loop
 returns-3 c =
     let l = c.before.loop in
-    (sym (fewest-is _ _ _ _ (omega arith) (omega arith) (λ h. absurd (omega arith)) (λ j a b. l.invariant.1.1 j a (omega arith))), (omega arith, omega arith))
+    (sym (fewest_is _ _ _ _ (omega arith) (omega arith) (λ h. absurd (omega arith)) (λ j a b. l.invariant.1.1 j a (omega arith))), (omega arith, omega arith))
 
 pub next-usable-spec : {M : Type 1} → statement M
 next-usable-spec =

@@ -1,6 +1,6 @@
 use mathlib.Core.Path.{sym, ◌∙◌}
 use native.Mathlib.Omega.{arith}
-use Rattle.metadata.proofs.WindowLaws.{map-all, refused-bad, refused-system, refused_none}
+use Rattle.metadata.proofs.WindowLaws.{map-all, refused_bad, refused_system, refused_none}
 use borrow.Author.Rules.{rules}
 use Rattle.metadata.proofs.usable.none_refused.Statement.{statement}
 use Rattle.metadata.proofs.usable.none_refused.Tie as tie
@@ -18,7 +18,7 @@ enum_told : tie.Need-enum-told
 enum_told c = search rules
 
 returns : tie.Need-returns
-returns c = sym (refused-bad _ _ _ _ _ _ (sym c.before.before.bad-in.ensures ∙ c.enum_told.given.1))
+returns c = sym (refused_bad _ _ _ _ _ _ (sym c.before.before.bad-in.ensures ∙ c.enum_told.given.1))
 
 enum-told-2 : tie.Need-enum-told-2
 enum-told-2 c = search rules
@@ -27,7 +27,7 @@ returns-2 : tie.Need-returns-2
 returns-2 c = sym (refused_none _ _ _ _ _ (sym (map-all _ _ _ (omega arith)) ∙ (cc)) (cc))
 
 returns-3 : tie.Need-returns-3
-returns-3 c = sym (refused-system _ _ _ _ _ (sym (map-all _ _ _ (omega arith)) ∙ (cc)))
+returns-3 c = sym (refused_system _ _ _ _ _ (sym (map-all _ _ _ (omega arith)) ∙ (cc)))
 
 pub none-refused-spec : {M : Type 1} → statement M
 none-refused-spec =

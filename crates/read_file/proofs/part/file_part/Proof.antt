@@ -2,7 +2,7 @@ use mathlib.Core.Path.{◌∙◌}
 use Prim.Native.Nat.{◌<◌}
 use native.Mathlib.Omega.{arith}
 use Rattle.entry_set.specs.Fields.{valid_length}
-use Rattle.read_file.proofs.PartSteps.{valid-room, length_high, file-stored, file-zeros, file-past}
+use Rattle.read_file.proofs.PartSteps.{valid_room, length_high, file-stored, file_zeros, file_past}
 use borrow.Author.Rules.{rules}
 use Rattle.read_file.proofs.part.file_part.Statement.{statement}
 use Rattle.read_file.proofs.part.file_part.Tie as tie
@@ -19,7 +19,7 @@ stored-part-requires c κs =
     let a = c.before.before.before.before.args in
     let v = c.before.before.valid-length.ensures in
     let h : a.offset < valid_length a.set.now = omega (arith, v) in
-    (p.laid, (p.long, (p.reads, (omega arith, (omega (arith, v, valid-room a.y a.vol.now a.set.now a.b a.k a.offset p), p.seen h)))))
+    (p.laid, (p.long, (p.reads, (omega arith, (omega (arith, v, valid_room a.y a.vol.now a.set.now a.b a.k a.offset p), p.seen h)))))
 
 returns : tie.Need-returns
 returns c =
@@ -42,7 +42,7 @@ returns-2 c =
     let a = c.before.before.before.before.before.before.args in
     let v = c.before.before.before.before.valid-length.ensures in
     let e = c.before.before.before.data-length.ensures in
-    (cc) ∙ file-zeros a.y a.vol.now a.set.now a.b a.k a.offset p a.zeros (omega (arith, v)) (omega (arith, e))
+    (cc) ∙ file_zeros a.y a.vol.now a.set.now a.b a.k a.offset p a.zeros (omega (arith, v)) (omega (arith, e))
 
 no-part-requires : tie.Need-no-part-requires
 no-part-requires c κs = search rules
@@ -53,7 +53,7 @@ returns-3 c =
     let a = c.before.before.before.before.before.before.args in
     let v = c.before.before.before.before.valid-length.ensures in
     let e = c.before.before.before.data-length.ensures in
-    (cc) ∙ file-past a.y a.vol.now a.set.now a.b a.k a.offset p a.zeros (omega (arith, v)) (omega (arith, e))
+    (cc) ∙ file_past a.y a.vol.now a.set.now a.b a.k a.offset p a.zeros (omega (arith, v)) (omega (arith, e))
 
 pub file-part-spec : {M : Type 1} → statement M
 file-part-spec =

@@ -3,7 +3,7 @@ use Prim.Native.Nat.{ℕ, ◌+◌, ◌-◌, ◌*◌, ◌/◌, ◌≤◌}
 use native.Mathlib.Nat.{mul-le-mul_right}
 use native.Mathlib.Omega.{arith}
 use borrow.Author.Rules.{rules}
-use Rattle.read_file.proofs.PartSteps.{place-low, reach-sub, reach-some, reach-count, reach-heap, first-in, piece-some, piece-short, piece_inside, part-is}
+use Rattle.read_file.proofs.PartSteps.{place_low, reach_sub, reach_some, reach_count, reach_heap, first_in, piece_some, piece_short, piece_inside, part_is}
 use borrow.Author.Rules.{rules}
 use Rattle.read_file.proofs.part.stored_part.Statement.{statement}
 use Rattle.read_file.proofs.part.stored_part.Tie as tie
@@ -21,7 +21,7 @@ add-n : tie.Need-overflow-add-n
 add-n c =
     let p = c.before.before.before.requires in
     let a = c.before.before.before.args in
-    omega (arith, reach-count a.y a.vol.now p.0 a.a p.1.1.0 a.valid a.offset p.1.1.1.0 p.1.1.1.1.0)
+    omega (arith, reach_count a.y a.vol.now p.0 a.a p.1.1.0 a.valid a.offset p.1.1.1.0 p.1.1.1.1.0)
 
 div-n-2 : tie.Need-nonzero-div-n-2
 div-n-2 c = search rules
@@ -30,19 +30,19 @@ sub-n-2 : tie.Need-overflow-sub-n-2
 sub-n-2 c =
     let p = c.before.before.before.before.requires in
     let a = c.before.before.before.before.args in
-    reach-sub a.y a.vol.now p.0 a.a p.1.1.0 a.valid a.offset p.1.1.1.0 p.1.1.1.1.0
+    reach_sub a.y a.vol.now p.0 a.a p.1.1.0 a.valid a.offset p.1.1.1.0 p.1.1.1.1.0
 
 cast-leading : tie.Need-overflow-cast-leading
 cast-leading c =
     let p = c.before.before.before.before.requires in
     let a = c.before.before.before.before.args in
-    omega (arith, reach-count a.y a.vol.now p.0 a.a p.1.1.0 a.valid a.offset p.1.1.1.0 p.1.1.1.1.0)
+    omega (arith, reach_count a.y a.vol.now p.0 a.a p.1.1.0 a.valid a.offset p.1.1.1.0 p.1.1.1.1.0)
 
 leading-requires : tie.Need-leading-requires
 leading-requires c κs =
     let p = c.before.before.before.before.requires in
     let a = c.before.before.before.before.args in
-    (p.0, (p.1.0, (reach-heap a.y a.vol.now p.0 a.a p.1.1.0 a.valid a.offset p.1.1.1.0 p.1.1.1.1.0 a.k p.1.1.1.1.1, reach-some a.y a.vol.now p.0 a.a p.1.1.0 a.valid a.offset p.1.1.1.0 p.1.1.1.1.0)))
+    (p.0, (p.1.0, (reach_heap a.y a.vol.now p.0 a.a p.1.1.0 a.valid a.offset p.1.1.1.0 p.1.1.1.1.0 a.k p.1.1.1.1.1, reach_some a.y a.vol.now p.0 a.a p.1.1.0 a.valid a.offset p.1.1.1.0 p.1.1.1.1.0)))
 
 cast-together : tie.Need-overflow-cast-together
 cast-together c = search rules
@@ -51,7 +51,7 @@ cluster-offset-requires : tie.Need-cluster-offset-requires
 cluster-offset-requires c κs =
     let p = c.before.before.before.before.before.requires in
     let a = c.before.before.before.before.before.args in
-    let h = first-in a.y a.vol.now p.0 a.a p.1.1.0 a.valid a.offset p.1.1.1.0 p.1.1.1.1.0 a.k p.1.1.1.1.1 in
+    let h = first_in a.y a.vol.now p.0 a.a p.1.1.0 a.valid a.offset p.1.1.1.0 p.1.1.1.1.0 a.k p.1.1.1.1.1 in
     (p.0, (h.0, h.1))
 
 add_start : tie.Need-overflow-add-start
@@ -59,7 +59,7 @@ add_start c =
     let p = c.before.before.before.before.before.before.requires in
     let a = c.before.before.before.before.before.before.args in
     let h = piece_inside a.y a.vol.now p.0 a.a p.1.1.0 a.valid a.offset p.1.1.1.0 p.1.1.1.1.0 a.k p.1.1.1.1.1 c.before.leading.result c.before.leading.ensures in
-    omega (arith, h, p.0.len-high, p.0.size-high, place-low a.y a.vol.now p.0 a.a p.1.1.0 a.valid a.offset p.1.1.1.0 p.1.1.1.1.0, c.cluster-offset.ensures)
+    omega (arith, h, p.0.len-high, p.0.size-high, place_low a.y a.vol.now p.0 a.a p.1.1.0 a.valid a.offset p.1.1.1.0 p.1.1.1.1.0, c.cluster-offset.ensures)
 
 sub-lesser : tie.Need-overflow-sub-lesser
 sub-lesser c = search rules
@@ -76,7 +76,7 @@ sub-lesser-2 c =
     let p = c.before.before.before.before.before.before.before.requires in
     let a = c.before.before.before.before.before.before.before.args in
     let t = c.before.before.leading.result in
-    omega (arith, place-low a.y a.vol.now p.0 a.a p.1.1.0 a.valid a.offset p.1.1.1.0 p.1.1.1.1.0, mul-le-mul_right {m = 1} {n = t} a.y.size (piece-some a.y a.vol.now p.0 a.a p.1.1.0 a.valid a.offset p.1.1.1.0 p.1.1.1.1.0 a.k p.1.1.1.1.1 c.before.before.leading.result c.before.before.leading.ensures))
+    omega (arith, place_low a.y a.vol.now p.0 a.a p.1.1.0 a.valid a.offset p.1.1.1.0 p.1.1.1.1.0, mul-le-mul_right {m = 1} {n = t} a.y.size (piece_some a.y a.vol.now p.0 a.a p.1.1.0 a.valid a.offset p.1.1.1.0 p.1.1.1.1.0 a.k p.1.1.1.1.1 c.before.before.leading.result c.before.before.leading.ensures))
 
 lesser-requires : tie.Need-lesser-requires
 lesser-requires c κs = search rules
@@ -86,7 +86,7 @@ cast-t17 c =
     let p = c.before.before.before.before.before.before.before.before.requires in
     let a = c.before.before.before.before.before.before.before.before.args in
     let h = piece_inside a.y a.vol.now p.0 a.a p.1.1.0 a.valid a.offset p.1.1.1.0 p.1.1.1.1.0 a.k p.1.1.1.1.1 c.before.before.before.leading.result c.before.before.before.leading.ensures in
-    omega (arith, h, p.0.len-high, p.0.size-high, place-low a.y a.vol.now p.0 a.a p.1.1.0 a.valid a.offset p.1.1.1.0 p.1.1.1.1.0, c.before.before.cluster-offset.ensures)
+    omega (arith, h, p.0.len-high, p.0.size-high, place_low a.y a.vol.now p.0 a.a p.1.1.0 a.valid a.offset p.1.1.1.0 p.1.1.1.1.0, c.before.before.cluster-offset.ensures)
 
 cast-t16 : tie.Need-overflow-cast-t16
 cast-t16 c =
@@ -99,7 +99,7 @@ returns : tie.Need-returns
 returns c =
     let p = c.before.before.before.before.before.before.before.before.requires in
     let a = c.before.before.before.before.before.before.before.before.args in
-    (cc) ∙ (part-is a.y a.vol.now p.0 a.a p.1.1.0 a.valid a.offset p.1.1.1.0 p.1.1.1.1.0 a.k p.1.1.1.1.1 c.before.before.before.leading.result c.before.before.before.leading.ensures c.lesser.result c.lesser.ensures)
+    (cc) ∙ (part_is a.y a.vol.now p.0 a.a p.1.1.0 a.valid a.offset p.1.1.1.0 p.1.1.1.1.0 a.k p.1.1.1.1.1 c.before.before.before.leading.result c.before.before.before.leading.ensures c.lesser.result c.lesser.ensures)
 
 pub stored-part-spec : {M : Type 1} → statement M
 stored-part-spec =

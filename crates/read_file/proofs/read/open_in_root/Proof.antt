@@ -4,8 +4,8 @@ use Rattle.stream.specs.declared.allocation.Allocation.{Allocation}
 use Rattle.stream.specs.Bytes.{bytes_in}
 use Rattle.directory.specs.Directory.{root_record}
 use Rattle.directory.specs.Internal.{open_file, set_read}
-use Rattle.directory.proofs.DirectoryLaws.{root-number, root-record, root_reads}
-use Rattle.read_file.proofs.ReadSteps.{root-refused, root-opens}
+use Rattle.directory.proofs.DirectoryLaws.{root_number, root_record_lem, root_reads}
+use Rattle.read_file.proofs.ReadSteps.{root_refused, root_opens}
 use borrow.Author.Rules.{rules}
 use Rattle.read_file.proofs.read.open_in_root.Statement.{statement}
 use Rattle.read_file.proofs.read.open_in_root.Tie as tie
@@ -21,7 +21,7 @@ returns c =
     let p = c.before.before.before.before.before.before.requires in
     let a = c.before.before.before.before.before.before.args in
     let r = c.before.before.before.root_dir in
-    let t = root-refused a.y a.vol.now a.map.now (root_record a.y a.vol.now a.root) a.slot a.offset r.result.number (root-number a.y a.vol.now a.root r.result r.ensures) (λ z. omega arith) in
+    let t = root_refused a.y a.vol.now a.map.now (root_record a.y a.vol.now a.root) a.slot a.offset r.result.number (root_number a.y a.vol.now a.root r.result r.ensures) (λ z. omega arith) in
     (c.no-file.ensures ∙ t.0, p.1.1.1.1 ∙ t.1)
 
 open-file-requires : tie.Need-open-file-requires
@@ -38,8 +38,8 @@ returns-2 c =
     let a = c.before.before.before.before.before.before.before.before.args in
     let r = c.before.before.before.before.before.root_dir in
     let z : r.result.number ≡ 0 = omega arith in
-    let x = root-record a.y a.vol.now a.root r.result r.ensures z in
-    let t = root-opens a.y a.vol.now a.map.now (root_record a.y a.vol.now a.root) a.slot a.offset (sym (root-number a.y a.vol.now a.root r.result r.ensures) ∙ z) in
+    let x = root_record_lem a.y a.vol.now a.root r.result r.ensures z in
+    let t = root_opens a.y a.vol.now a.map.now (root_record a.y a.vol.now a.root) a.slot a.offset (sym (root_number a.y a.vol.now a.root r.result r.ensures) ∙ z) in
     (c.open-file.ensures.0 ∙ ap (λ (u : Allocation). open_file a.y a.vol.now a.map.now u a.slot a.offset) x ∙ t.0, c.open-file.ensures.1 ∙ ap (λ (u : Allocation). set_read (bytes_in a.y a.vol.now u) a.slot) x ∙ t.1)
 
 pub open-in-root-spec : {M : Type 1} → statement M

@@ -3,7 +3,7 @@ use native.Mathlib.Omega.{arith}
 use Rattle.metadata.proofs.Frame.{Fits}
 use Rattle.directory.specs.Directory.{root_record}
 use Rattle.read_file.specs.Read.{zero_cause}
-use Rattle.read_file.proofs.ReadSteps.{root-file-number, found-set, found-readable, cause-zeros, cause-file, part-not, part-done}
+use Rattle.read_file.proofs.ReadSteps.{root-file_number, found_set, found_readable, cause_zeros, cause_file, part_not, part_done}
 use borrow.Author.Rules.{rules}
 use Rattle.read_file.proofs.read.part_in.Statement.{statement}
 use Rattle.read_file.proofs.read.part_in.Tie as tie
@@ -17,8 +17,8 @@ no-part-requires c κs = search rules
 returns : tie.Need-returns
 returns c =
     let a = c.before.before.before.before.before.before.args in
-    let n = cause-zeros a.y a.vol.now a.map.now (root_record a.y a.vol.now a.root) a.zeros.now a.slot _ c.before.before.zero-cause.ensures (λ z. omega arith) in
-    c.no_part.ensures ∙ part-not a.y a.vol.now a.map.now (root_record a.y a.vol.now a.root) a.zeros.now a.slot a.offset (λ z. omega (arith, n, z))
+    let n = cause_zeros a.y a.vol.now a.map.now (root_record a.y a.vol.now a.root) a.zeros.now a.slot _ c.before.before.zero-cause.ensures (λ z. omega arith) in
+    c.no_part.ensures ∙ part_not a.y a.vol.now a.map.now (root_record a.y a.vol.now a.root) a.zeros.now a.slot a.offset (λ z. omega (arith, n, z))
 
 open-in-root-requires : tie.Need-open-in-root-requires
 open-in-root-requires c κs = search rules
@@ -31,8 +31,8 @@ returns-2 c =
     let a = c.before.before.before.before.before.before.before.before.before.before.args in
     let f = c.before.before.before.open-in-root in
     let z : zero_cause a.zeros.now ≡ 0 = sym c.before.before.before.before.before.before.zero-cause.ensures ∙ (omega arith) in
-    let n = root-file-number a.y a.vol.now a.map.now (root_record a.y a.vol.now a.root) a.slot a.offset f.result f.ensures.0 ∙ cause-file a.y a.vol.now a.map.now (root_record a.y a.vol.now a.root) a.zeros.now a.slot z in
-    c.no-part2.ensures ∙ part-not a.y a.vol.now a.map.now (root_record a.y a.vol.now a.root) a.zeros.now a.slot a.offset (λ q. omega (arith, n, q))
+    let n = root-file_number a.y a.vol.now a.map.now (root_record a.y a.vol.now a.root) a.slot a.offset f.result f.ensures.0 ∙ cause_file a.y a.vol.now a.map.now (root_record a.y a.vol.now a.root) a.zeros.now a.slot z in
+    c.no-part2.ensures ∙ part_not a.y a.vol.now a.map.now (root_record a.y a.vol.now a.root) a.zeros.now a.slot a.offset (λ q. omega (arith, n, q))
 
 file-part-requires : tie.Need-file-part-requires
 file-part-requires c κs =
@@ -40,7 +40,7 @@ file-part-requires c κs =
     let a = c.before.before.before.before.before.before.before.before.before.before.before.args in
     let f = c.before.before.before.before.open-in-root in
     let w : Fits a.y a.vol.now = record { laid = p.0; apart = p.1.1.1; long = p.1.0 } in
-    found-readable a.y a.vol.now a.map.now (root_record a.y a.vol.now a.root) a.slot a.offset w f.result f.ensures.0 _ f.ensures.1 (omega arith)
+    found_readable a.y a.vol.now a.map.now (root_record a.y a.vol.now a.root) a.slot a.offset w f.result f.ensures.0 _ f.ensures.1 (omega arith)
 
 returns-3 : tie.Need-returns-3
 returns-3 c =
@@ -50,8 +50,8 @@ returns-3 c =
     let w : Fits a.y a.vol.now = record { laid = p.0; apart = p.1.1.1; long = p.1.0 } in
     let z : zero_cause a.zeros.now ≡ 0 = sym c.before.before.before.before.before.before.before.before.zero-cause.ensures ∙ (omega (arith, c.before.before.before.before.before.before.before.if1.false)) in
     let q : f.result.number ≡ 0 = omega arith in
-    let n = root-file-number a.y a.vol.now a.map.now (root_record a.y a.vol.now a.root) a.slot a.offset f.result f.ensures.0 ∙ cause-file a.y a.vol.now a.map.now (root_record a.y a.vol.now a.root) a.zeros.now a.slot z in
-    c.file-part.ensures ∙ part-done a.y a.vol.now a.map.now (root_record a.y a.vol.now a.root) a.zeros.now a.slot a.offset _ (found-set a.y a.vol.now a.map.now (root_record a.y a.vol.now a.root) a.slot a.offset w f.result f.ensures.0 _ f.ensures.1 q) (sym n ∙ q)
+    let n = root-file_number a.y a.vol.now a.map.now (root_record a.y a.vol.now a.root) a.slot a.offset f.result f.ensures.0 ∙ cause_file a.y a.vol.now a.map.now (root_record a.y a.vol.now a.root) a.zeros.now a.slot z in
+    c.file-part.ensures ∙ part_done a.y a.vol.now a.map.now (root_record a.y a.vol.now a.root) a.zeros.now a.slot a.offset _ (found_set a.y a.vol.now a.map.now (root_record a.y a.vol.now a.root) a.slot a.offset w f.result f.ensures.0 _ f.ensures.1 q) (sym n ∙ q)
 
 pub part-in-spec : {M : Type 1} → statement M
 part-in-spec =

@@ -3,7 +3,7 @@ use lib.ListN.{length}
 use Rattle.read_file.specs.Part.{part_bytes, part_place, Inside}
 use Rattle.read_file.specs.Read.{read_part}
 use borrow.Author.Rules.{rules}
-use Rattle.read_file.proofs.ReadBackLaws.{read-inside}
+use Rattle.read_file.proofs.ReadBackLaws.{read_inside}
 use borrow.Author.Rules.{rules}
 use Rattle.read_file.proofs.read.read.Statement.{statement}
 use Rattle.read_file.proofs.read.read.Tie as tie
@@ -14,7 +14,7 @@ read-part-requires c κs = search rules
 lend-requires : tie.Need-lend-requires
 lend-requires c κs =
     let a = c.before.before.before.before.args in
-    subst (Inside (length a.vol.now) (length a.zeros.now)) (sym c.read-part.ensures) (read-inside a.g a.vol.now a.map.now a.zeros.now a.slot a.offset)
+    subst (Inside (length a.vol.now) (length a.zeros.now)) (sym c.read-part.ensures) (read_inside a.g a.vol.now a.map.now a.zeros.now a.slot a.offset)
 
 returns : tie.Need-returns
 returns c =

@@ -1,8 +1,8 @@
 use mathlib.Core.Path.{◌∙◌}
 use native.Mathlib.Omega.{arith}
-use Rattle.boot.proofs.Admission.{admit-number, admission}
+use Rattle.boot.proofs.Admission.{admit_number, admission}
 use borrow.Author.Rules.{rules}
-use Rattle.read_file.proofs.ReadSteps.{part-not-admitted, part-admitted}
+use Rattle.read_file.proofs.ReadSteps.{part_not-admitted, part_admitted}
 use borrow.Author.Rules.{rules}
 use Rattle.read_file.proofs.read.read_part.Statement.{statement}
 use Rattle.read_file.proofs.read.read_part.Tie as tie
@@ -16,8 +16,8 @@ no-part-requires c κs = search rules
 returns : tie.Need-returns
 returns c =
     let a = c.before.before.before.before.before.before.before.args in
-    let n = admit-number a.g a.vol.now a.map.now _ c.before.before.before.admit.ensures in
-    c.no_part.ensures ∙ part-not-admitted a.g a.vol.now a.map.now a.zeros.now a.slot a.offset (λ z. omega (arith, n, z))
+    let n = admit_number a.g a.vol.now a.map.now _ c.before.before.before.admit.ensures in
+    c.no_part.ensures ∙ part_not-admitted a.g a.vol.now a.map.now a.zeros.now a.slot a.offset (λ z. omega (arith, n, z))
 
 part-in-requires : tie.Need-part-in-requires
 part-in-requires c κs =
@@ -26,7 +26,7 @@ part-in-requires c κs =
     (a.laid, (a.long, (a.wide, a.apart)))
 
 returns-2 : tie.Need-returns-2
-returns-2 c = part-admitted _ _ _ _ _ _ (admission _ _ _ _ c.before.before.before.admit.ensures (omega arith)) _ _ c.part_in.ensures
+returns-2 c = part_admitted _ _ _ _ _ _ (admission _ _ _ _ c.before.before.before.admit.ensures (omega arith)) _ _ c.part_in.ensures
 
 pub read-part-spec : {M : Type 1} → statement M
 read-part-spec =

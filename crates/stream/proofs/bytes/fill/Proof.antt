@@ -6,7 +6,7 @@ use lib.ListN.{replicate}
 use Rattle.metadata.specs.Fat.{fat_entry}
 use Rattle.stream.specs.Internal.{along, reached}
 use Rattle.stream.specs.Bytes.{store_at}
-use Rattle.stream.proofs.BytesSteps.{known-steps, sought, reach-sum, last_from}
+use Rattle.stream.proofs.BytesSteps.{known_steps, sought, reach_sum, last_from}
 use borrow.Author.Rules.{rules}
 use Rattle.stream.proofs.bytes.fill.Statement.{statement}
 use Rattle.stream.proofs.bytes.fill.Tie as tie
@@ -26,7 +26,7 @@ seek-from-requires c κs =
     let p = c.before.before.before.requires in
     let a = c.before.before.before.args in
     let s = sought _ _ _ _ _ a.at a.n p.0 p.1.0 p.1.1.0 p.1.1.1.0 in
-    (p.0, (p.1.0, (s.before, (p.1.1.1.1.1.0.reaches, known-steps _ _ _ _ _ p.1.1.1.1.1.0 (omega (arith, p.0.size_low))))))
+    (p.0, (p.1.0, (s.before, (p.1.1.1.1.1.0.reaches, known_steps _ _ _ _ _ p.1.1.1.1.1.0 (omega (arith, p.0.size_low))))))
 
 sub-fill-from : tie.Need-overflow-sub-fill-from
 sub-fill-from c =
@@ -81,7 +81,7 @@ returns c =
     let q : c.before.before.before.fill-from.result ≡ reached f run a.a.first ((a.at + a.n - 1) / a.y.size) =
     e.1 ∙ ap (λ (x : ℕ). reached f run x ((a.at % a.y.size + a.n - 1) / a.y.size)) k.ensures
     ∙ ap (reached f run (reached f run a.a.first (a.at / a.y.size))) (sym z)
-    ∙ reach-sum f run (a.at / a.y.size) a.a.first ((a.at + a.n - 1) / a.y.size) (omega (arith, i)) in (
+    ∙ reach_sum f run (a.at / a.y.size) a.a.first ((a.at + a.n - 1) / a.y.size) (omega (arith, i)) in (
       e.0
           ∙ ap (λ (x : ℕ). store_at a.y a.vol.now (along f run x (a.a.count - a.at / a.y.size)) (a.at % a.y.size) (replicate a.n 0)) k.ensures
           ∙ s.stores _,

@@ -6,14 +6,14 @@ use borrow.Author.Rules.{rules}
 use lib.ListN.{length, replicate, length-replicate}
 use Rattle.tables.specs.Lists.{every}
 use Rattle.boot.specs.Layout.{in_heap}
-use Rattle.boot.proofs.Apart.{in_heap_lem, cluster-end}
+use Rattle.boot.proofs.Apart.{in_heap_lem, cluster_end}
 use Rattle.metadata.specs.Fat.{fat_entry}
 use Rattle.metadata.specs.Cluster.{put_bytes}
 use Rattle.metadata.proofs.Frame.{Fits}
 use Rattle.stream.specs.Internal.{along, reached}
 use Rattle.stream.specs.Bytes.{store_at}
-use Rattle.stream.proofs.StreamLaws.{along-head}
-use Rattle.stream.proofs.BytesSteps.{some_left, left_after, store-next, reach-next, reach-none, last-here, last-next, last-inside, store-empty, take_zeros, drop_zeros}
+use Rattle.stream.proofs.StreamLaws.{along_head}
+use Rattle.stream.proofs.BytesSteps.{some_left, left_after, store_next, reach_next, reach_none, last_here, last_next, last_inside, store_empty, take_zeros, drop_zeros}
 use Rattle.stream.proofs.bytes.fill_chain.Statement.{statement}
 use Rattle.stream.proofs.bytes.fill_chain.Tie as tie
 
@@ -38,7 +38,7 @@ next-cluster-requires c κs =
     let a = c.before.before.before.before.before.before.args in
     let l = c.before.before.before.before.loop in
     let n = some_left l.left a.y.size l.place l.more l.invariant.1.1.0 (omega arith) in
-    let h = in_heap_lem _ _ (along-head _ _ _ _ _ n l.invariant.1.1.1.0) in
+    let h = in_heap_lem _ _ (along_head _ _ _ _ _ n l.invariant.1.1.1.0) in
     (p.0, (l.invariant.0 ∙ p.1.0, omega arith))
 
 put-zeros-requires : tie.Need-put-zeros-requires invariant-loop decreases-loop
@@ -47,9 +47,9 @@ put-zeros-requires c κs =
     let a = c.before.before.before.before.before.before.before.before.args in
     let l = c.before.before.before.before.before.before.loop in
     let n = some_left l.left a.y.size l.place l.more l.invariant.1.1.0 (omega arith) in
-    let i = along-head _ _ _ _ _ n l.invariant.1.1.1.0 in
+    let i = along_head _ _ _ _ _ n l.invariant.1.1.1.0 in
     let h = in_heap_lem _ _ i in
-    (p.0, (l.invariant.0 ∙ p.1.0, (h.0, (h.1, omega (arith, cluster-end a.y p.0 p.1.1.1.1.1.0 l.k i)))))
+    (p.0, (l.invariant.0 ∙ p.1.0, (h.0, (h.1, omega (arith, cluster_end a.y p.0 p.1.1.1.1.1.0 l.k i)))))
 
 sub-left : tie.Need-overflow-sub-left invariant-loop decreases-loop
 sub-left c =
@@ -74,13 +74,13 @@ loop-again c =
     let m = a.y.size - l.place in
     let w : Fits a.y l.vol = record { laid = p.0; apart = p.1.1.1.1.1.0; long = l.invariant.0 ∙ p.1.0 } in
     let t =
-    store-next a.y l.vol w false l.k l.left n l.invariant.1.1.1.0 l.place l.invariant.1.0 (replicate l.more 0)
+    store_next a.y l.vol w false l.k l.left n l.invariant.1.1.1.0 l.place l.invariant.1.0 (replicate l.more 0)
     z.new.0 m q.result (omega (arith, length-replicate {A = ℕ} l.more 0))
     (z.ensures ∙ ap (put_bytes a.y l.vol l.k l.place) (sym (take_zeros m l.more (omega arith)))) q.ensures in
-    let s = last-next a.y.size l.place l.more l.invariant.1.0 (omega arith) in
-    let i = last-inside a.y.size l.place l.more l.invariant.1.0 l.left l.invariant.1.1.0 l.invariant.1.1.1.1.1.0 in
+    let s = last_next a.y.size l.place l.more l.invariant.1.0 (omega arith) in
+    let i = last_inside a.y.size l.place l.more l.invariant.1.0 l.left l.invariant.1.1.0 l.invariant.1.1.1.1.1.0 in
     let r =
-    reach-next a.y l.vol w false l.k l.left n l.invariant.1.1.1.0 l.place l.invariant.1.0 (replicate m 0)
+    reach_next a.y l.vol w false l.k l.left n l.invariant.1.1.1.0 l.place l.invariant.1.0 (replicate m 0)
     z.new.0 q.result ((0 + (l.more - m) - 1) / a.y.size) (omega (arith, length-replicate {A = ℕ} m 0, l.invariant.1.0)) z.ensures q.ensures (omega (arith, s, i)) in (
       z.auto.0 ∙ l.invariant.0,
       (
@@ -104,9 +104,9 @@ put-zeros-requires-2 c κs =
     let a = c.before.before.before.before.before.args in
     let l = c.before.before.before.loop in
     let n = some_left l.left a.y.size l.place l.more l.invariant.1.1.0 (omega arith) in
-    let i = along-head _ _ _ _ _ n l.invariant.1.1.1.0 in
+    let i = along_head _ _ _ _ _ n l.invariant.1.1.1.0 in
     let h = in_heap_lem _ _ i in
-    (p.0, (l.invariant.0 ∙ p.1.0, (h.0, (h.1, omega (arith, cluster-end a.y p.0 p.1.1.1.1.1.0 l.k i)))))
+    (p.0, (l.invariant.0 ∙ p.1.0, (h.0, (h.1, omega (arith, cluster_end a.y p.0 p.1.1.1.1.1.0 l.k i)))))
 
 same_length : tie.Need-same-length invariant-loop decreases-loop
 same_length c = search rules
@@ -121,11 +121,11 @@ returns c =
     let w : Fits a.y l.vol = record { laid = p.0; apart = p.1.1.1.1.1.0; long = l.invariant.0 ∙ p.1.0 } in
     let f = length-replicate {A = ℕ} l.more 0 in
     let t =
-    store-next a.y l.vol w false l.k l.left n l.invariant.1.1.1.0 l.place l.invariant.1.0 (replicate l.more 0)
+    store_next a.y l.vol w false l.k l.left n l.invariant.1.1.1.0 l.place l.invariant.1.0 (replicate l.more 0)
     z.new.0 l.more _ (omega (arith, f)) (z.ensures ∙ ap (put_bytes a.y l.vol l.k l.place) (sym (take_zeros l.more l.more (omega arith)))) refl in
-    let h = last-here a.y.size l.place l.more l.invariant.1.0 (omega arith) l.invariant.1.1.1.1.1.0 in (
-      sym (store-empty _ _ _ _ _ (omega (arith, ap length (drop_zeros l.more l.more (omega arith)), length-replicate {A = ℕ} (l.more - l.more) 0))) ∙ t.1 ∙ l.invariant.1.1.1.1.0,
-      sym (reach-none (fat_entry a.y l.vol) false l.k ((l.place + l.more - 1) / a.y.size) (omega (arith, h))) ∙ l.invariant.1.1.1.1.1.1,
+    let h = last_here a.y.size l.place l.more l.invariant.1.0 (omega arith) l.invariant.1.1.1.1.1.0 in (
+      sym (store_empty _ _ _ _ _ (omega (arith, ap length (drop_zeros l.more l.more (omega arith)), length-replicate {A = ℕ} (l.more - l.more) 0))) ∙ t.1 ∙ l.invariant.1.1.1.1.0,
+      sym (reach_none (fat_entry a.y l.vol) false l.k ((l.place + l.more - 1) / a.y.size) (omega (arith, h))) ∙ l.invariant.1.1.1.1.1.1,
     )
 
 pub fill-chain-spec : {M : Type 1} → statement M

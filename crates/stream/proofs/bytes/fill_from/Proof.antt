@@ -11,7 +11,7 @@ use Rattle.metadata.proofs.Frame.{Fits}
 use Rattle.stream.specs.Internal.{along, reached}
 use Rattle.stream.specs.Bytes.{store_at}
 use Rattle.stream.proofs.BytesSteps.{reach_run}
-use Rattle.stream.proofs.RowLaws.{run-first, run_inside, store-run}
+use Rattle.stream.proofs.RowLaws.{run_first, run_inside, store_run}
 use borrow.Author.Rules.{rules}
 use Rattle.stream.proofs.bytes.fill_from.Statement.{statement}
 use Rattle.stream.proofs.bytes.fill_from.Tie as tie
@@ -22,7 +22,7 @@ put-zeros-requires c κs =
     let a = c.before.before.before.args in
     let w : Fits a.y a.vol.now = record { laid = p.0; apart = p.1.1.1.1.1.0; long = p.1.0 } in
     let r = c.before.if1.true in
-    let f = run-first a.y a.vol.now w a.run r a.first a.count p.1.1.0 a.at a.n p.1.1.1.0 (omega arith) p.1.1.1.1.0 in
+    let f = run_first a.y a.vol.now w a.run r a.first a.count p.1.1.0 a.at a.n p.1.1.1.0 (omega arith) p.1.1.1.1.0 in
     (p.0, (p.1.0, (f.0, (f.1, run_inside a.y a.vol.now w a.run r a.first a.count p.1.1.0 a.at a.n p.1.1.1.0 (omega arith) p.1.1.1.1.0))))
 
 add-result : tie.Need-overflow-add-result
@@ -31,7 +31,7 @@ add-result c =
     let a = c.before.before.before.before.before.before.args in
     let w : Fits a.y a.vol.now = record { laid = p.0; apart = p.1.1.1.1.1.0; long = p.1.0 } in
     let r = c.before.before.before.before.if1.true in
-    omega (arith, run_inside a.y a.vol.now w a.run r a.first a.count p.1.1.0 a.at a.n p.1.1.1.0 (omega arith) p.1.1.1.1.0, run-first a.y a.vol.now w a.run r a.first a.count p.1.1.0 a.at a.n p.1.1.1.0 (omega arith) p.1.1.1.1.0, div-le_self (a.at + a.n - 1) a.y.size, p.0.len-high, p.0.count-high)
+    omega (arith, run_inside a.y a.vol.now w a.run r a.first a.count p.1.1.0 a.at a.n p.1.1.1.0 (omega arith) p.1.1.1.1.0, run_first a.y a.vol.now w a.run r a.first a.count p.1.1.0 a.at a.n p.1.1.1.0 (omega arith) p.1.1.1.1.0, div-le_self (a.at + a.n - 1) a.y.size, p.0.len-high, p.0.count-high)
 
 sub-result : tie.Need-overflow-sub-result
 sub-result c = search rules
@@ -45,7 +45,7 @@ cast-result c =
     let a = c.before.before.before.before.before.before.before.args in
     let w : Fits a.y a.vol.now = record { laid = p.0; apart = p.1.1.1.1.1.0; long = p.1.0 } in
     let r = c.before.before.before.before.before.if1.true in
-    omega (arith, run_inside a.y a.vol.now w a.run r a.first a.count p.1.1.0 a.at a.n p.1.1.1.0 (omega arith) p.1.1.1.1.0, run-first a.y a.vol.now w a.run r a.first a.count p.1.1.0 a.at a.n p.1.1.1.0 (omega arith) p.1.1.1.1.0, div-le_self (a.at + a.n - 1) a.y.size, p.0.len-high, p.0.count-high)
+    omega (arith, run_inside a.y a.vol.now w a.run r a.first a.count p.1.1.0 a.at a.n p.1.1.1.0 (omega arith) p.1.1.1.1.0, run_first a.y a.vol.now w a.run r a.first a.count p.1.1.0 a.at a.n p.1.1.1.0 (omega arith) p.1.1.1.1.0, div-le_self (a.at + a.n - 1) a.y.size, p.0.len-high, p.0.count-high)
 
 add-result-2 : tie.Need-overflow-add-result-2
 add-result-2 c =
@@ -53,7 +53,7 @@ add-result-2 c =
     let a = c.before.before.before.before.before.before.before.args in
     let w : Fits a.y a.vol.now = record { laid = p.0; apart = p.1.1.1.1.1.0; long = p.1.0 } in
     let r = c.before.before.before.before.before.if1.true in
-    omega (arith, run_inside a.y a.vol.now w a.run r a.first a.count p.1.1.0 a.at a.n p.1.1.1.0 (omega arith) p.1.1.1.1.0, run-first a.y a.vol.now w a.run r a.first a.count p.1.1.0 a.at a.n p.1.1.1.0 (omega arith) p.1.1.1.1.0, div-le_self (a.at + a.n - 1) a.y.size, p.0.len-high, p.0.count-high)
+    omega (arith, run_inside a.y a.vol.now w a.run r a.first a.count p.1.1.0 a.at a.n p.1.1.1.0 (omega arith) p.1.1.1.1.0, run_first a.y a.vol.now w a.run r a.first a.count p.1.1.0 a.at a.n p.1.1.1.0 (omega arith) p.1.1.1.1.0, div-le_self (a.at + a.n - 1) a.y.size, p.0.len-high, p.0.count-high)
 
 same_length : tie.Need-same-length
 same_length c = search rules
@@ -64,7 +64,7 @@ returns c =
     let a = c.before.before.before.before.before.before.before.args in
     let w : Fits a.y a.vol.now = record { laid = p.0; apart = p.1.1.1.1.1.0; long = p.1.0 } in
     let r = c.before.before.before.before.before.if1.true in (
-      c.before.before.before.put-zeros.ensures ∙ sym (store-run a.y a.vol.now w a.run r a.first a.count p.1.1.0 a.at a.n p.1.1.1.0 (omega arith) p.1.1.1.1.0 (replicate a.n 0) (length-replicate {A = ℕ} a.n 0)),
+      c.before.before.before.put-zeros.ensures ∙ sym (store_run a.y a.vol.now w a.run r a.first a.count p.1.1.0 a.at a.n p.1.1.1.0 (omega arith) p.1.1.1.1.0 (replicate a.n 0) (length-replicate {A = ℕ} a.n 0)),
       sym (reach_run (fat_entry a.y a.vol.now) a.run a.first ((a.at + a.n - 1) / a.y.size) r),
     )
 

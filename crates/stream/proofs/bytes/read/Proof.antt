@@ -3,7 +3,7 @@ use mathlib.Core.List.{List}
 use Prim.Native.Nat.{ℕ}
 use lib.ListN.{take}
 use Rattle.primitives.specs.Splice.{splice}
-use Rattle.stream.proofs.BytesSteps.{known-steps, sought}
+use Rattle.stream.proofs.BytesSteps.{known_steps, sought}
 use borrow.Author.Rules.{rules}
 use native.Mathlib.Omega.{arith}
 use Rattle.stream.proofs.bytes.read.Statement.{statement}
@@ -22,7 +22,7 @@ seek-from-requires : tie.Need-seek-from-requires
 seek-from-requires c κs =
     let p = c.before.before.before.requires in
     let s = sought _ _ _ _ _ c.before.before.before.args.at c.before.before.before.args.n p.0 p.1.0 p.1.1.0 p.1.1.1.0 in
-    (p.0, (p.1.0, (s.before, (p.1.1.1.1.1.reaches, known-steps _ _ _ _ _ p.1.1.1.1.1 (omega (arith, p.0.size_low))))))
+    (p.0, (p.1.0, (s.before, (p.1.1.1.1.1.reaches, known_steps _ _ _ _ _ p.1.1.1.1.1 (omega (arith, p.0.size_low))))))
 
 sub-read-from : tie.Need-overflow-sub-read-from
 sub-read-from c =

@@ -11,7 +11,7 @@ use Rattle.boot.proofs.Apart.{in_heap_lem}
 use Rattle.metadata.specs.Fat.{fat_entry}
 use Rattle.stream.specs.Internal.{along}
 use Rattle.stream.specs.Bytes.{bytes_of}
-use Rattle.stream.proofs.StreamLaws.{along-head}
+use Rattle.stream.proofs.StreamLaws.{along_head}
 use Rattle.stream.proofs.BytesSteps.{some_left, left_after, splice-none, read_next}
 use Rattle.stream.proofs.bytes.read_from.Statement.{statement}
 use Rattle.stream.proofs.bytes.read_from.Tie as tie
@@ -38,7 +38,7 @@ get-piece-requires c κs =
     let l = c.before.before.before.before.loop in
     let r = c.before.lesser.ensures in
     let n = some_left l.left a.y.size l.place l.more l.invariant.1.1.0 (omega arith) in
-    let h = in_heap_lem _ _ (along-head _ _ _ _ _ n l.invariant.1.1.1.1.0) in
+    let h = in_heap_lem _ _ (along_head _ _ _ _ _ n l.invariant.1.1.1.1.0) in
     (p.0, (p.1.0, (omega arith, (omega arith, (omega arith, omega arith)))))
 
 next-cluster-requires : tie.Need-next-cluster-requires invariant-loop decreases-loop
@@ -47,7 +47,7 @@ next-cluster-requires c κs =
     let a = c.before.before.before.before.before.before.before.before.before.before.args in
     let l = c.before.before.before.before.before.before.before.loop in
     let n = some_left l.left a.y.size l.place l.more l.invariant.1.1.0 (omega arith) in
-    let h = in_heap_lem _ _ (along-head _ _ _ _ _ n l.invariant.1.1.1.1.0) in
+    let h = in_heap_lem _ _ (along_head _ _ _ _ _ n l.invariant.1.1.1.1.0) in
     (p.0, (p.1.0, omega arith))
 
 sub-left : tie.Need-overflow-sub-left invariant-loop decreases-loop

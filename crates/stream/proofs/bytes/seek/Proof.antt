@@ -9,8 +9,8 @@ use Rattle.boot.specs.Layout.{in_heap}
 use Rattle.boot.proofs.Apart.{in_heap_lem}
 use Rattle.metadata.specs.Fat.{fat_entry}
 use Rattle.stream.specs.Internal.{along, reached}
-use Rattle.stream.proofs.StreamLaws.{after-chain, along-head, along-rest}
-use Rattle.stream.proofs.BytesSteps.{reach-none, reach_step, reach_run, run_end}
+use Rattle.stream.proofs.StreamLaws.{after-chain, along_head, along_rest}
+use Rattle.stream.proofs.BytesSteps.{reach_none, reach_step, reach_run, run_end}
 use Rattle.stream.proofs.bytes.seek.Statement.{statement}
 use Rattle.stream.proofs.bytes.seek.Tie as tie
 
@@ -37,7 +37,7 @@ loop-holds c = search rules
 
 fat-entry-requires : tie.Need-fat-entry-requires invariant-loop decreases-loop
 fat-entry-requires c κs =
-    let h = in_heap_lem _ _ (along-head _ _ _ _ _ (omega arith) c.before.loop.invariant.1.0) in
+    let h = in_heap_lem _ _ (along_head _ _ _ _ _ (omega arith) c.before.loop.invariant.1.0) in
     search rules
 
 sub-left : tie.Need-overflow-sub-left invariant-loop decreases-loop
@@ -50,10 +50,10 @@ loop-again : tie.Need-loop-preserved invariant-loop decreases-loop
 loop-again c =
     let l = c.before.before.loop in
     let e = c.fat-entry.ensures ∙ sym (after-chain _ _ _ l.invariant.0) in
-    (l.invariant.0, (rw e (along-rest _ _ _ _ _ (omega arith) l.invariant.1.0), rw e (sym (reach_step _ _ _ _ (omega arith)) ∙ l.invariant.1.1)))
+    (l.invariant.0, (rw e (along_rest _ _ _ _ _ (omega arith) l.invariant.1.0), rw e (sym (reach_step _ _ _ _ (omega arith)) ∙ l.invariant.1.1)))
 
 returns-2 : tie.Need-returns-2 invariant-loop decreases-loop
-returns-2 c = sym (reach-none _ _ _ _ (omega arith)) ∙ c.before.loop.invariant.1.1
+returns-2 c = sym (reach_none _ _ _ _ (omega arith)) ∙ c.before.loop.invariant.1.1
 
 pub seek-spec : {M : Type 1} → statement M
 seek-spec =

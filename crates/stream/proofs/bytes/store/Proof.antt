@@ -4,7 +4,7 @@ use lib.ListN.{length}
 use Rattle.metadata.specs.Fat.{fat_entry}
 use Rattle.stream.specs.Internal.{along}
 use Rattle.stream.specs.Bytes.{store_at}
-use Rattle.stream.proofs.BytesSteps.{known-steps, sought}
+use Rattle.stream.proofs.BytesSteps.{known_steps, sought}
 use borrow.Author.Rules.{rules}
 use native.Mathlib.Omega.{arith}
 use Rattle.stream.proofs.bytes.store.Statement.{statement}
@@ -23,7 +23,7 @@ seek-from-requires : tie.Need-seek-from-requires
 seek-from-requires c κs =
     let p = c.before.before.before.before.requires in
     let s = sought _ _ _ _ _ c.before.before.before.before.args.at (length c.before.before.before.before.args.src.now) p.0 p.1.0 p.1.1.0 p.1.1.1.0 in
-    (p.0, (p.1.0, (s.before, (p.1.1.1.1.1.0.reaches, known-steps _ _ _ _ _ p.1.1.1.1.1.0 (omega (arith, p.0.size_low))))))
+    (p.0, (p.1.0, (s.before, (p.1.1.1.1.1.0.reaches, known_steps _ _ _ _ _ p.1.1.1.1.1.0 (omega (arith, p.0.size_low))))))
 
 sub-store-from : tie.Need-overflow-sub-store-from
 sub-store-from c =

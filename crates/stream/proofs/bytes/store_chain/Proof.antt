@@ -7,13 +7,13 @@ use lib.ListN.{length, drop, length-drop}
 use lib.Seq.{drop-drop}
 use Rattle.tables.specs.Lists.{every}
 use Rattle.boot.specs.Layout.{in_heap}
-use Rattle.boot.proofs.Apart.{in_heap_lem, cluster-end}
+use Rattle.boot.proofs.Apart.{in_heap_lem, cluster_end}
 use Rattle.metadata.specs.Fat.{fat_entry}
 use Rattle.metadata.proofs.Frame.{Fits}
 use Rattle.stream.specs.Internal.{along}
 use Rattle.stream.specs.Bytes.{store_at}
-use Rattle.stream.proofs.StreamLaws.{along-head}
-use Rattle.stream.proofs.BytesSteps.{some_left, left_after, store-next, store-empty}
+use Rattle.stream.proofs.StreamLaws.{along_head}
+use Rattle.stream.proofs.BytesSteps.{some_left, left_after, store_next, store_empty}
 use Rattle.stream.proofs.bytes.store_chain.Statement.{statement}
 use Rattle.stream.proofs.bytes.store_chain.Tie as tie
 
@@ -38,7 +38,7 @@ next-cluster-requires c κs =
     let a = c.before.before.before.before.before.before.before.args in
     let l = c.before.before.before.before.loop in
     let n = some_left l.left a.y.size l.place l.more l.invariant.1.1.0 (omega arith) in
-    let h = in_heap_lem _ _ (along-head _ _ _ _ _ n l.invariant.1.1.1.1.0) in
+    let h = in_heap_lem _ _ (along_head _ _ _ _ _ n l.invariant.1.1.1.1.0) in
     (p.0, (l.invariant.0 ∙ p.1.0, omega arith))
 
 put-piece-requires : tie.Need-put-piece-requires invariant-loop decreases-loop
@@ -48,9 +48,9 @@ put-piece-requires c κs =
     let l = c.before.before.before.before.before.before.loop in
     let r = c.before.before.before.lesser.ensures in
     let n = some_left l.left a.y.size l.place l.more l.invariant.1.1.0 (omega arith) in
-    let i = along-head _ _ _ _ _ n l.invariant.1.1.1.1.0 in
+    let i = along_head _ _ _ _ _ n l.invariant.1.1.1.1.0 in
     let h = in_heap_lem _ _ i in
-    (p.0, (l.invariant.0 ∙ p.1.0, (h.0, (h.1, (omega (arith, cluster-end a.y p.0 p.1.1.1.1.1 l.k i), omega arith)))))
+    (p.0, (l.invariant.0 ∙ p.1.0, (h.0, (h.1, (omega (arith, cluster_end a.y p.0 p.1.1.1.1.1 l.k i), omega arith)))))
 
 sub-left : tie.Need-overflow-sub-left invariant-loop decreases-loop
 sub-left c =
@@ -76,7 +76,7 @@ loop-again c =
     let n = some_left l.left a.y.size l.place l.more l.invariant.1.1.0 (omega arith) in
     let w : Fits a.y l.vol = record { laid = p.0; apart = p.1.1.1.1.1; long = l.invariant.0 ∙ p.1.0 } in
     let t =
-    store-next a.y l.vol w false l.k l.left n l.invariant.1.1.1.1.0 l.place l.invariant.1.0 (drop l.from a.src.now)
+    store_next a.y l.vol w false l.k l.left n l.invariant.1.1.1.1.0 l.place l.invariant.1.0 (drop l.from a.src.now)
     c.before.before.put-piece.new.0 r.result c.before.before.before.before.next-cluster.result
     (omega (arith, r.ensures, length-drop l.from a.src.now)) c.before.before.put-piece.ensures c.before.before.before.before.next-cluster.ensures in (
       c.before.before.put-piece.auto.0 ∙ l.invariant.0,
@@ -102,7 +102,7 @@ returns : tie.Need-returns invariant-loop decreases-loop
 returns c =
     let a = c.before.before.before.before.args in
     let l = c.before.loop in
-    sym (store-empty _ _ _ _ _ (omega (arith, length-drop l.from a.src.now))) ∙ l.invariant.1.1.1.1.1
+    sym (store_empty _ _ _ _ _ (omega (arith, length-drop l.from a.src.now))) ∙ l.invariant.1.1.1.1.1
 
 pub store-chain-spec : {M : Type 1} → statement M
 store-chain-spec =

@@ -11,7 +11,7 @@ use Rattle.metadata.specs.Cluster.{put_bytes}
 use Rattle.metadata.proofs.Frame.{Fits}
 use Rattle.stream.specs.Internal.{along}
 use Rattle.stream.specs.Bytes.{store_at}
-use Rattle.stream.proofs.RowLaws.{run-first, run_inside, store-run}
+use Rattle.stream.proofs.RowLaws.{run_first, run_inside, store_run}
 use Rattle.stream.proofs.bytes.store_from.Statement.{statement}
 use Rattle.stream.proofs.bytes.store_from.Tie as tie
 
@@ -22,7 +22,7 @@ put-piece-requires c κs =
     let w : Fits a.y a.vol.now = record { laid = p.0; apart = p.1.1.1.1.1.0; long = p.1.0 } in
     let r = c.before.if1.true in
     let n = length a.src.now in
-    let f = run-first a.y a.vol.now w a.run r a.first a.count p.1.1.0 a.at n p.1.1.1.0 (omega arith) p.1.1.1.1.0 in
+    let f = run_first a.y a.vol.now w a.run r a.first a.count p.1.1.0 a.at n p.1.1.1.0 (omega arith) p.1.1.1.1.0 in
     (p.0, (p.1.0, (f.0, (f.1, (run_inside a.y a.vol.now w a.run r a.first a.count p.1.1.0 a.at n p.1.1.1.0 (omega arith) p.1.1.1.1.0, omega arith)))))
 
 store-chain-requires : tie.Need-store-chain-requires
@@ -43,7 +43,7 @@ returns c =
     let r = c.before.before.before.before.if1.true in
     c.before.before.put-piece.ensures
     ∙ ap (put_bytes a.y a.vol.now a.first a.at) (take-length a.src.now)
-    ∙ sym (store-run a.y a.vol.now w a.run r a.first a.count p.1.1.0 a.at _ p.1.1.1.0 (omega arith) p.1.1.1.1.0 a.src.now refl)
+    ∙ sym (store_run a.y a.vol.now w a.run r a.first a.count p.1.1.0 a.at _ p.1.1.1.0 (omega arith) p.1.1.1.1.0 a.src.now refl)
 
 same-length-2 : tie.Need-same-length-2
 same-length-2 c = search rules

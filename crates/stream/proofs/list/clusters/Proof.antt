@@ -1,6 +1,6 @@
 use native.Mathlib.Omega.{arith}
-use Rattle.boot.proofs.Admission.{admit-number, admission}
-use Rattle.stream.proofs.ListingLaws.{listing-not-admitted, listing-is}
+use Rattle.boot.proofs.Admission.{admit_number, admission}
+use Rattle.stream.proofs.ListingLaws.{listing_not-admitted, listing_is}
 use borrow.Author.Rules.{rules}
 use Rattle.stream.proofs.list.clusters.Statement.{statement}
 use Rattle.stream.proofs.list.clusters.Tie as tie
@@ -10,7 +10,7 @@ admit-requires c κs = search rules
 
 returns : tie.Need-returns
 returns c =
-    listing-not-admitted _ _ _ _ _ _ (admit-number _ _ _ _ c.before.before.admit.ensures) (λ z. omega arith)
+    listing_not-admitted _ _ _ _ _ _ (admit_number _ _ _ _ c.before.before.admit.ensures) (λ z. omega arith)
 
 list-clusters-requires : tie.Need-list-clusters-requires
 list-clusters-requires c κs =
@@ -23,7 +23,7 @@ same_length c = search rules
 
 returns-2 : tie.Need-returns-2
 returns-2 c =
-    listing-is _ _ _ _ _ _ _ _ (admission _ _ _ _ c.before.before.before.before.before.before.admit.ensures (omega arith)) (cc) (cc)
+    listing_is _ _ _ _ _ _ _ _ (admission _ _ _ _ c.before.before.before.before.before.before.admit.ensures (omega arith)) (cc) (cc)
 
 pub clusters-spec : {M : Type 1} → statement M
 clusters-spec =

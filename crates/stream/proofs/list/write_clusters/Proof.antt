@@ -12,7 +12,7 @@ use Rattle.boot.specs.Layout.{in_heap}
 use Rattle.boot.proofs.Apart.{in_heap_lem}
 use Rattle.metadata.specs.Fat.{fat_entry}
 use Rattle.stream.specs.Internal.{along}
-use Rattle.stream.proofs.StreamLaws.{along-step, along-head, along-rest, drop-turn, list-turn, length-along}
+use Rattle.stream.proofs.StreamLaws.{along-step, along_head, along_rest, drop_turn, list_turn, length-along}
 use Rattle.stream.proofs.list.write_clusters.Statement.{statement}
 use Rattle.stream.proofs.list.write_clusters.Tie as tie
 
@@ -34,7 +34,7 @@ slice-write-list c = omega arith
 next-cluster-requires : tie.Need-next-cluster-requires invariant-loop decreases-loop
 next-cluster-requires c κs =
     let i = c.before.loop.invariant in
-    let h = in_heap_lem _ _ (along-head _ _ _ _ _ (omega arith) i.1.1.1.1) in
+    let h = in_heap_lem _ _ (along_head _ _ _ _ _ (omega arith) i.1.1.1.1) in
     search rules
 
 add-i : tie.Need-overflow-add-i invariant-loop decreases-loop
@@ -60,10 +60,10 @@ loop-again c =
       (
         simp length-set i.1.0,
         (
-          rw i.1.1.0 (list-turn full l.i l.k _ e a.list.now (omega arith)),
+          rw i.1.1.0 (list_turn full l.i l.k _ e a.list.now (omega arith)),
           (
-            rw c.next-cluster.ensures (drop-turn full l.i l.k _ e),
-            rw c.next-cluster.ensures (along-rest (in_heap a.y.count) f run l.k l.left (omega arith) i.1.1.1.1),
+            rw c.next-cluster.ensures (drop_turn full l.i l.k _ e),
+            rw c.next-cluster.ensures (along_rest (in_heap a.y.count) f run l.k l.left (omega arith) i.1.1.1.1),
           ),
         ),
       ),

@@ -9,8 +9,8 @@ use Rattle.boot.proofs.Apart.{in_heap_lem}
 use Rattle.metadata.specs.Fat.{fat_entry}
 use Rattle.stream.specs.Internal.{along, four_follow}
 use Rattle.stream.specs.Pieces.{following}
-use Rattle.stream.proofs.StreamLaws.{along-head}
-use Rattle.stream.proofs.PieceSteps.{following-four, heap-four}
+use Rattle.stream.proofs.StreamLaws.{along_head}
+use Rattle.stream.proofs.PieceSteps.{following_four, heap_four}
 use Rattle.stream.proofs.pieces.following.Statement.{statement}
 use Rattle.stream.proofs.pieces.following.Tie as tie
 
@@ -25,7 +25,7 @@ loop-holds c = (omega arith, (c.before.requires.1.1, omega arith))
 
 add-if1 : tie.Need-overflow-add-if1 invariant-loop decreases-loop
 add-if1 c =
-    let h = in_heap_lem _ _ (along-head _ _ _ _ _ (omega arith) c.before.loop.invariant.1.0) in
+    let h = in_heap_lem _ _ (along_head _ _ _ _ _ (omega arith) c.before.loop.invariant.1.0) in
     search rules
 
 sub-result : tie.Need-overflow-sub-result invariant-loop decreases-loop
@@ -65,8 +65,8 @@ loop-again c =
     let a = c.before.before.before.before.before.before.before.args in
     let fat = fat_entry a.y a.vol.now in
     let e : four_follow fat l.last ≡ true = sym c.before.four-follow.ensures ∙ c.if2.true in
-    let f = following-four fat l.last l.left (omega arith) e in
-    (omega (arith, l.invariant.0), (heap-four fat l.last l.left (omega arith) e (in_heap a.y.count) l.invariant.1.0, omega (arith, f, l.invariant.1.1, l.invariant.0)))
+    let f = following_four fat l.last l.left (omega arith) e in
+    (omega (arith, l.invariant.0), (heap_four fat l.last l.left (omega arith) e (in_heap a.y.count) l.invariant.1.0, omega (arith, f, l.invariant.1.1, l.invariant.0)))
 
 sub-result-2 : tie.Need-overflow-sub-result-2 invariant-loop decreases-loop
 sub-result-2 c = c.before.before.before.before.before.loop.invariant.0

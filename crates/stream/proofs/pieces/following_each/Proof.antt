@@ -9,8 +9,8 @@ use Rattle.boot.proofs.Apart.{in_heap_lem}
 use Rattle.metadata.specs.Fat.{fat_entry}
 use Rattle.stream.specs.Internal.{along}
 use Rattle.stream.specs.Pieces.{following}
-use Rattle.stream.proofs.StreamLaws.{along-head}
-use Rattle.stream.proofs.PieceSteps.{following-none, following-next, following-other, heap-next}
+use Rattle.stream.proofs.StreamLaws.{along_head}
+use Rattle.stream.proofs.PieceSteps.{following-none, following_next, following_other, heap_next}
 use Rattle.stream.proofs.pieces.following_each.Statement.{statement}
 use Rattle.stream.proofs.pieces.following_each.Tie as tie
 
@@ -25,12 +25,12 @@ loop-holds c = (omega arith, (c.before.requires.1.1, omega arith))
 
 fat-entry-requires : tie.Need-fat-entry-requires invariant-loop decreases-loop
 fat-entry-requires c κs =
-    let h = in_heap_lem _ _ (along-head _ _ _ _ _ (omega arith) c.before.loop.invariant.1.0) in
+    let h = in_heap_lem _ _ (along_head _ _ _ _ _ (omega arith) c.before.loop.invariant.1.0) in
     search rules
 
 add-if1 : tie.Need-overflow-add-if1 invariant-loop decreases-loop
 add-if1 c =
-    let h = in_heap_lem _ _ (along-head _ _ _ _ _ (omega arith) c.before.before.loop.invariant.1.0) in
+    let h = in_heap_lem _ _ (along_head _ _ _ _ _ (omega arith) c.before.before.loop.invariant.1.0) in
     search rules
 
 sub-result : tie.Need-overflow-sub-result invariant-loop decreases-loop
@@ -41,12 +41,12 @@ returns c =
     let l = c.before.before.before.loop in
     let a = c.before.before.before.before.before.args in
     let fat = fat_entry a.y a.vol.now in
-    let f = following-other fat l.last l.left (omega arith) (λ z. omega (arith, z, c.before.fat-entry.ensures)) in
+    let f = following_other fat l.last l.left (omega arith) (λ z. omega (arith, z, c.before.fat-entry.ensures)) in
     (omega (arith, f, l.invariant.1.1), omega arith)
 
 add-last : tie.Need-overflow-add-last invariant-loop decreases-loop
 add-last c =
-    let h = in_heap_lem _ _ (along-head _ _ _ _ _ (omega arith) c.before.before.before.loop.invariant.1.0) in
+    let h = in_heap_lem _ _ (along_head _ _ _ _ _ (omega arith) c.before.before.before.loop.invariant.1.0) in
     search rules
 
 sub-left : tie.Need-overflow-sub-left invariant-loop decreases-loop
@@ -61,8 +61,8 @@ loop-again c =
     let a = c.before.before.before.before.before.args in
     let fat = fat_entry a.y a.vol.now in
     let e : fat l.last ≡ l.last + 1 = sym c.before.fat-entry.ensures ∙ (omega arith) in
-    let f = following-next fat l.last l.left (omega arith) e in
-    (omega arith, (heap-next fat (in_heap a.y.count) l.last l.left (omega arith) e l.invariant.1.0, omega (arith, f, l.invariant.1.1, l.invariant.0)))
+    let f = following_next fat l.last l.left (omega arith) e in
+    (omega arith, (heap_next fat (in_heap a.y.count) l.last l.left (omega arith) e l.invariant.1.0, omega (arith, f, l.invariant.1.1, l.invariant.0)))
 
 returns-2 : tie.Need-returns-2 invariant-loop decreases-loop
 returns-2 c =

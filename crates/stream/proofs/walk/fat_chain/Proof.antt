@@ -8,7 +8,7 @@ use Rattle.metadata.specs.Fat.{fat_entry}
 use Rattle.metadata.specs.Marks.{marked}
 use Rattle.stream.specs.Chain.{chain_from, read_chain}
 use Rattle.stream.specs.Internal.{barred, walked}
-use Rattle.stream.proofs.ChainLaws.{walk_at, walk_end, walk-wrong, walk-over, walk_more, walk_start}
+use Rattle.stream.proofs.ChainLaws.{walk_at, walk_end, walk_wrong, walk_over, walk_more, walk_start}
 use Rattle.stream.proofs.walk.fat_chain.Statement.{statement}
 use Rattle.stream.proofs.walk.fat_chain.Tie as tie
 
@@ -53,7 +53,7 @@ returns : tie.Need-returns invariant-loop decreases-loop
 returns c =
     let v = c.before.before.before.before.before.before.before.before.before.fat-entry.result in
     let h = in_heap_lem c.before.before.before.before.before.before.before.before.before.before.before.before.before.before.args.y.count v (cc) in
-    c.not-walked.ensures ∙ (sym (walk-over _ _ _ _ _ _ _ _ _ _ _ (omega arith) (λ z. omega arith) (cc)) ∙ c.before.before.before.before.before.before.before.before.before.before.loop.invariant.1.1.1)
+    c.not-walked.ensures ∙ (sym (walk_over _ _ _ _ _ _ _ _ _ _ _ (omega arith) (λ z. omega arith) (cc)) ∙ c.before.before.before.before.before.before.before.before.before.before.loop.invariant.1.1.1)
 
 add-before : tie.Need-overflow-add-before invariant-loop decreases-loop
 add-before c = omega arith
@@ -81,7 +81,7 @@ not-walked-requires-2 : tie.Need-not-walked-requires-2 invariant-loop decreases-
 not-walked-requires-2 c κs = search rules
 
 returns-3 : tie.Need-returns-3 invariant-loop decreases-loop
-returns-3 c = c.not-walked2.ensures ∙ (sym (walk-wrong _ _ _ _ _ _ _ _ _ _ _ (λ z. omega arith) (cc)) ∙ c.before.before.before.before.before.before.before.before.before.before.loop.invariant.1.1.1)
+returns-3 c = c.not-walked2.ensures ∙ (sym (walk_wrong _ _ _ _ _ _ _ _ _ _ _ (λ z. omega arith) (cc)) ∙ c.before.before.before.before.before.before.before.before.before.before.loop.invariant.1.1.1)
 
 pub fat-chain-spec : {M : Type 1} → statement M
 fat-chain-spec =

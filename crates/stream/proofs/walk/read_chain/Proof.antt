@@ -2,8 +2,8 @@ use mathlib.Core.Path.{sym, ◌∙◌, ap}
 use Rattle.boot.proofs.Apart.{in_heap_lem}
 use Rattle.stream.specs.declared.walk.Walked.{Walked}
 use Rattle.stream.specs.Internal.{chain_clear}
-use Rattle.stream.proofs.ChainLaws.{chain-number, chain-out-number}
-use Rattle.stream.proofs.ClearLaws.{chain-out-clear}
+use Rattle.stream.proofs.ChainLaws.{chain_number, chain_out_number}
+use Rattle.stream.proofs.ClearLaws.{chain_out_clear}
 use borrow.Author.Rules.{rules}
 use Rattle.stream.proofs.walk.read_chain.Statement.{statement}
 use Rattle.stream.proofs.walk.read_chain.Tie as tie
@@ -24,10 +24,10 @@ unfolding chain_clear
 returns c =
     let h = sym c.before.before.before.in_heap_lem.ensures ∙ c.before.before.if1.true in
     let w = c.before.fat-chain in
-    (c.walk-cause.ensures ∙ chain-number _ _ _ _ _ _ _ _ _ h w.ensures, ap (λ (v : Walked). v.clear) w.ensures)
+    (c.walk-cause.ensures ∙ chain_number _ _ _ _ _ _ _ _ _ h w.ensures, ap (λ (v : Walked). v.clear) w.ensures)
 
 returns-2 : tie.Need-returns-2
-returns-2 c = (sym (chain-out-number _ _ _ _ _ _ (cc)), sym (chain-out-clear _ _ _ _ (cc)))
+returns-2 c = (sym (chain_out_number _ _ _ _ _ _ (cc)), sym (chain_out_clear _ _ _ _ (cc)))
 
 pub read-chain-spec : {M : Type 1} → statement M
 read-chain-spec =

@@ -9,9 +9,9 @@ use Rattle.boot.specs.Layout.{in_heap}
 use Rattle.boot.proofs.Apart.{in_heap_lem, heap_in}
 use Rattle.metadata.specs.Marks.{marked}
 use Rattle.metadata.specs.Internal.{first_unmarked}
-use Rattle.metadata.proofs.UnmarkedLaws.{unmarked-bounds, unmarked-before, unmarked-at}
+use Rattle.metadata.proofs.UnmarkedLaws.{unmarked_bounds, unmarked_before, unmarked_at}
 use Rattle.stream.specs.Stream.{run_cause}
-use Rattle.stream.proofs.ChainLaws.{run_none, run-outside, run-unmarked, run-jump}
+use Rattle.stream.proofs.ChainLaws.{run_none, run_outside, run_unmarked, run_jump}
 use Rattle.stream.proofs.walk.run_cause.Statement.{statement}
 use Rattle.stream.proofs.walk.run_cause.Tie as tie
 
@@ -20,10 +20,10 @@ module _ (y : Layout) (d : List ℕ) (first n next : ℕ) (i : in_heap y.count f
   run_past : run_cause y.count (marked y d) first n ≡ run_cause y.count (marked y d) next (n - (next - first))
   run_past =
       let h = in_heap_lem y.count first i in
-      let b = unmarked-bounds y d first (min n (y.count + 2 - first)) in
+      let b = unmarked_bounds y d first (min n (y.count + 2 - first)) in
       let q : first + (next - first) ≡ next = omega arith in
-      run-jump y.count (marked y d) (next - first) first n (omega arith)
-      (λ j s t. (heap_in y.count j (omega arith) (omega arith), unmarked-before y d first (min n (y.count + 2 - first)) j s (omega arith)))
+      run_jump y.count (marked y d) (next - first) first n (omega arith)
+      (λ j s t. (heap_in y.count j (omega arith) (omega arith), unmarked_before y d first (min n (y.count + 2 - first)) j s (omega arith)))
       ∙ ap (λ (k : ℕ). run_cause y.count (marked y d) k (n - (next - first))) q
 
   run-whole : next - first ≡ n → 0 ≡ run_cause y.count (marked y d) first n
@@ -33,14 +33,14 @@ module _ (y : Layout) (d : List ℕ) (first n next : ℕ) (i : in_heap y.count f
   run-stops h w =
       let a = in_heap_lem y.count first i in
       let z = in_heap_lem y.count next w in
-      let b = unmarked-bounds y d first (min n (y.count + 2 - first)) in
-      sym (run_past ∙ run-unmarked y.count (marked y d) next (n - (next - first)) (omega arith) w
-      (ap (marked y d) e ∙ unmarked-at y d first (min n (y.count + 2 - first)) (omega arith)))
+      let b = unmarked_bounds y d first (min n (y.count + 2 - first)) in
+      sym (run_past ∙ run_unmarked y.count (marked y d) next (n - (next - first)) (omega arith) w
+      (ap (marked y d) e ∙ unmarked_at y d first (min n (y.count + 2 - first)) (omega arith)))
 
   run-leaves : (next - first ≡ n → ⊥) → in_heap y.count next ≡ false → 2 ≡ run_cause y.count (marked y d) first n
   run-leaves h w =
-      let b = unmarked-bounds y d first (min n (y.count + 2 - first)) in
-      sym (run_past ∙ run-outside y.count (marked y d) next (n - (next - first)) (omega arith) w)
+      let b = unmarked_bounds y d first (min n (y.count + 2 - first)) in
+      sym (run_past ∙ run_outside y.count (marked y d) next (n - (next - first)) (omega arith) w)
 
 in-heap-requires : tie.Need-in-heap-requires
 in-heap-requires c κs = search rules
@@ -66,7 +66,7 @@ returns-3 : tie.Need-returns-3
 returns-3 c = run-leaves _ _ _ _ _ (cc) c.before.before.before.past-marked.ensures.0 (λ z. omega arith) (cc)
 
 returns-4 : tie.Need-returns-4
-returns-4 c = sym (run-outside _ _ _ _ (omega arith) (cc))
+returns-4 c = sym (run_outside _ _ _ _ (omega arith) (cc))
 
 pub run-cause-spec : {M : Type 1} → statement M
 run-cause-spec =

@@ -1,7 +1,7 @@
 use mathlib.Core.Path.{refl}
 use native.Mathlib.Omega.{arith}
-use Rattle.boot.proofs.Admission.{admit-number, admission}
-use Rattle.write_alloc.proofs.AllocateLaws.{shown_as, allocate-is, allocate-not-admitted}
+use Rattle.boot.proofs.Admission.{admit_number, admission}
+use Rattle.write_alloc.proofs.AllocateLaws.{shown_as, allocate_is, allocate_not-admitted}
 use borrow.Author.Rules.{rules}
 use Rattle.write_alloc.proofs.allocate.allocate_clusters.Statement.{statement}
 use Rattle.write_alloc.proofs.allocate.allocate_clusters.Tie as tie
@@ -14,7 +14,7 @@ no-stream-requires c κs = search rules
 
 returns : tie.Need-returns
 returns c =
-    shown_as (allocate-not-admitted _ _ _ _ _ _ _ _ (admit-number _ _ _ _ c.before.before.before.admit.ensures) (λ z. omega arith)) (c.no_stream.ensures, refl)
+    shown_as (allocate_not-admitted _ _ _ _ _ _ _ _ (admit_number _ _ _ _ c.before.before.before.admit.ensures) (λ z. omega arith)) (c.no_stream.ensures, refl)
 
 allocate-in-requires : tie.Need-allocate-in-requires
 allocate-in-requires c κs =
@@ -27,7 +27,7 @@ same_length c = search rules
 
 returns-2 : tie.Need-returns-2
 returns-2 c =
-    shown_as (allocate-is _ _ _ _ _ _ _ _ (admission _ _ _ _ c.before.before.before.before.before.before.admit.ensures (omega arith))) c.before.before.allocate-in.ensures
+    shown_as (allocate_is _ _ _ _ _ _ _ _ (admission _ _ _ _ c.before.before.before.before.before.before.admit.ensures (omega arith))) c.before.before.allocate-in.ensures
 
 pub allocate-clusters-spec : {M : Type 1} → statement M
 allocate-clusters-spec =

@@ -2,7 +2,7 @@ use mathlib.Core.Path.{◌∙◌, refl}
 use native.Mathlib.Omega.{arith}
 use borrow.Author.Rules.{rules}
 use Rattle.boot.proofs.Apart.{in_heap_lem}
-use Rattle.write_alloc.proofs.AllocateLaws.{shown_as, start_heap, in-hint, in-none, in-free, in_near, in-new}
+use Rattle.write_alloc.proofs.AllocateLaws.{shown_as, start_heap, in_hint, in_none, in_free, in_near, in_new}
 use Rattle.write_alloc.proofs.allocate.allocate_in.Statement.{statement}
 use Rattle.write_alloc.proofs.allocate.allocate_in.Tie as tie
 
@@ -13,7 +13,7 @@ no-stream-requires : tie.Need-no-stream-requires
 no-stream-requires c κs = search rules
 
 returns : tie.Need-returns
-returns c = shown_as (in-none _ _ _ _ _ _ _ (cc) (omega arith)) (c.no_stream.ensures, refl)
+returns c = shown_as (in_none _ _ _ _ _ _ _ (cc) (omega arith)) (c.no_stream.ensures, refl)
 
 near-ok-requires : tie.Need-near-ok-requires
 near-ok-requires c κs = search rules
@@ -34,7 +34,7 @@ same_length : tie.Need-same-length
 same_length c = search rules
 
 returns-2 : tie.Need-returns-2
-returns-2 c = shown_as (in-new _ _ _ _ _ _ _ (cc) (λ z. omega arith) (cc) ∙ (cc)) c.before.before.new-stream.ensures
+returns-2 c = shown_as (in_new _ _ _ _ _ _ _ (cc) (λ z. omega arith) (cc) ∙ (cc)) c.before.before.new-stream.ensures
 
 free-count-requires : tie.Need-free-count-requires
 free-count-requires c κs = search rules
@@ -46,7 +46,7 @@ same-length-2 : tie.Need-same-length-2
 same-length-2 c = search rules
 
 returns-3 : tie.Need-returns-3
-returns-3 c = shown_as (in-free _ _ _ _ _ _ _ (cc) (λ z. omega arith) (omega arith)) (c.no-stream2.ensures, refl)
+returns-3 c = shown_as (in_free _ _ _ _ _ _ _ (cc) (λ z. omega arith) (omega arith)) (c.no-stream2.ensures, refl)
 
 no-stream-requires-3 : tie.Need-no-stream-requires-3
 no-stream-requires-3 c κs = search rules
@@ -61,7 +61,7 @@ no-stream-requires-4 : tie.Need-no-stream-requires-4
 no-stream-requires-4 c κs = search rules
 
 returns-5 : tie.Need-returns-5
-returns-5 c = shown_as (in-hint _ _ _ _ _ _ _ (cc)) (c.no-stream4.ensures, refl)
+returns-5 c = shown_as (in_hint _ _ _ _ _ _ _ (cc)) (c.no-stream4.ensures, refl)
 
 pub allocate-in-spec : {M : Type 1} → statement M
 allocate-in-spec =

@@ -1,4 +1,4 @@
-use Rattle.write_alloc.proofs.AllocateLaws.{prev_none, chain-is}
+use Rattle.write_alloc.proofs.AllocateLaws.{prev_none, chain_is}
 use borrow.Author.Rules.{rules}
 use Rattle.write_alloc.proofs.allocate.new_chain.Statement.{statement}
 use Rattle.write_alloc.proofs.allocate.new_chain.Tie as tie
@@ -25,7 +25,7 @@ returns c =
     let p = c.before.before.before.before.before.before.before.before.before.requires in
     let z = p.1.1.1.1.1.1 in
     let t = c.before.before.before.take-chain in
-    chain-is _ _ _ _ _ p.1.1.1.0 p.1.1.1.1.0 z.0 z.1 _ _ _ _ c.before.before.before.before.before.first-usable.ensures t.ensures.1.0 c.wrap-cluster.ensures t.ensures.0
+    chain_is _ _ _ _ _ p.1.1.1.0 p.1.1.1.1.0 z.0 z.1 _ _ _ _ c.before.before.before.before.before.first-usable.ensures t.ensures.1.0 c.wrap-cluster.ensures t.ensures.0
 
 pub new-chain-spec : {M : Type 1} → statement M
 new-chain-spec =

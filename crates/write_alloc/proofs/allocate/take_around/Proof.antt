@@ -1,5 +1,5 @@
 use native.Mathlib.Omega.{arith}
-use Rattle.write_alloc.proofs.AllocateLaws.{prev_facts, then_ready, then-done}
+use Rattle.write_alloc.proofs.AllocateLaws.{prev_facts, then_ready, then_done}
 use borrow.Author.Rules.{rules}
 use Rattle.write_alloc.proofs.allocate.take_around.Statement.{statement}
 use Rattle.write_alloc.proofs.allocate.take_around.Tie as tie
@@ -32,7 +32,7 @@ returns c =
     let r = c.before.before.before.before.before.before.take-usable in
     let s = c.before.before.take-usable2 in
     let z = p.1.1.1.1.1 in
-    then-done a.y a.vol.now a.map.now a.start a.n a.prev p.0 z.1 p.1.0 p.1.1.1.0 p.1.1.1.1.0 z.0 _ _ r.ensures.0 r.ensures.1 _ _ s.ensures.0 s.ensures.1
+    then_done a.y a.vol.now a.map.now a.start a.n a.prev p.0 z.1 p.1.0 p.1.1.1.0 p.1.1.1.1.0 z.0 _ _ r.ensures.0 r.ensures.1 _ _ s.ensures.0 s.ensures.1
 
 pub take-around-spec : {M : Type 1} → statement M
 take-around-spec =

@@ -4,7 +4,7 @@ use native.Mathlib.Omega.{arith}
 use borrow.Author.Rules.{rules}
 use lib.ListN.{length}
 use Rattle.metadata.specs.Marks.{mark_run}
-use Rattle.write_alloc.proofs.Taking.{mark-none, mark-step, mark-eight, byte_yes}
+use Rattle.write_alloc.proofs.Taking.{mark_none, mark_step, mark_eight, byte_yes}
 use Rattle.write_alloc.proofs.take.mark_run.Statement.{statement}
 use Rattle.write_alloc.proofs.take.mark_run.Tie as tie
 
@@ -46,7 +46,7 @@ loop-again : tie.Need-loop-preserved invariant-loop decreases-loop
 loop-again c =
     let l = c.before.before.before.before.before.before.before.loop in
     let b = byte_yes l.k l.left (cc) in
-    (omega arith, (omega arith, (omega arith, (cc) ∙ (sym (mark-eight _ _ _ _ (omega arith)) ∙ l.invariant.1.1.1))))
+    (omega arith, (omega arith, (omega arith, (cc) ∙ (sym (mark_eight _ _ _ _ (omega arith)) ∙ l.invariant.1.1.1))))
 
 mark-requires : tie.Need-mark-requires invariant-loop decreases-loop
 mark-requires c κs = search rules
@@ -63,13 +63,13 @@ loop-less-2 c = search rules
 loop-again-2 : tie.Need-loop-preserved-2 invariant-loop decreases-loop
 loop-again-2 c =
     let l = c.before.before.before.before.before.before.before.loop in
-    (omega arith, (omega arith, (omega arith, (cc) ∙ (sym (mark-step _ _ _ _ (omega arith)) ∙ l.invariant.1.1.1))))
+    (omega arith, (omega arith, (omega arith, (cc) ∙ (sym (mark_step _ _ _ _ (omega arith)) ∙ l.invariant.1.1.1))))
 
 same_length : tie.Need-same-length invariant-loop decreases-loop
 same_length c = search rules
 
 returns : tie.Need-returns invariant-loop decreases-loop
-returns c = sym (mark-none _ _ _ _ (omega arith)) ∙ c.before.loop.invariant.1.1.1
+returns c = sym (mark_none _ _ _ _ (omega arith)) ∙ c.before.loop.invariant.1.1.1
 
 pub mark-run-spec : {M : Type 1} → statement M
 mark-run-spec =

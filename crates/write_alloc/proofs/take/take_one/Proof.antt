@@ -1,6 +1,6 @@
 use mathlib.Core.Path.{sym, ◌∙◌}
 use native.Mathlib.Omega.{arith}
-use Rattle.write_alloc.proofs.Taking.{one-first, one_more}
+use Rattle.write_alloc.proofs.Taking.{one_first, one_more}
 use borrow.Author.Rules.{rules}
 use Rattle.write_alloc.proofs.take.take_one.Statement.{statement}
 use Rattle.write_alloc.proofs.take.take_one.Tie as tie
@@ -21,7 +21,7 @@ same-length-2 : tie.Need-same-length-2
 same-length-2 c = search rules
 
 returns-2 : tie.Need-returns-2
-returns-2 c = (cc) ∙ sym (one-first _ _ _ _ (omega arith))
+returns-2 c = (cc) ∙ sym (one_first _ _ _ _ (omega arith))
 
 pub take-one-spec : {M : Type 1} → statement M
 take-one-spec =

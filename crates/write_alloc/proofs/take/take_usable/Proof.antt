@@ -4,10 +4,10 @@ use mathlib.Core.Bool.{true}
 use native.Mathlib.Omega.{arith}
 use borrow.Author.Rules.{rules}
 use lib.ListN.{length}
-use Rattle.search.proofs.Lowest.{fewest-at}
+use Rattle.search.proofs.Lowest.{fewest_at}
 use Rattle.metadata.specs.Usable.{is_usable}
 use Rattle.write_alloc.specs.Internal.{prev_taken}
-use Rattle.write_alloc.proofs.Taking.{takes, takes-end, takes-done, takes_past, takes-yes, took, one_taken}
+use Rattle.write_alloc.proofs.Taking.{takes, takes_end, takes_done, takes_past, takes_yes, took, one_taken}
 use Rattle.write_alloc.proofs.take.take_usable.Statement.{statement}
 use Rattle.write_alloc.proofs.take.take_usable.Tie as tie
 
@@ -24,7 +24,7 @@ same_length : tie.Need-same-length invariant-loop decreases-loop
 same_length c = search rules
 
 returns : tie.Need-returns invariant-loop decreases-loop
-returns c = took _ _ _ _ _ _ _ _ _ _ (sym (takes-done _ _ _ _ _ _ _ (omega arith)) ∙ c.before.before.loop.invariant.1.1.1.1)
+returns c = took _ _ _ _ _ _ _ _ _ _ (sym (takes_done _ _ _ _ _ _ _ (omega arith)) ∙ c.before.before.loop.invariant.1.1.1.1)
 
 sub-next-usable : tie.Need-overflow-sub-next-usable invariant-loop decreases-loop
 sub-next-usable c = search rules
@@ -39,7 +39,7 @@ returns-2 : tie.Need-returns-2 invariant-loop decreases-loop
 returns-2 c =
     let l = c.before.before.before.before.before.loop in
     took _ _ _ _ _ _ _ _ _ _
-    (sym (takes_past _ _ _ _ l.k _ _ _ (omega arith) c.before.next-usable.ensures.0 ∙ takes-end _ _ _ _ _ _ _ (omega arith)) ∙ l.invariant.1.1.1.1)
+    (sym (takes_past _ _ _ _ l.k _ _ _ (omega arith) c.before.next-usable.ensures.0 ∙ takes_end _ _ _ _ _ _ _ (omega arith)) ∙ l.invariant.1.1.1.1)
 
 take-one-requires : tie.Need-take-one-requires invariant-loop decreases-loop
 take-one-requires c κs = search rules
@@ -61,7 +61,7 @@ loop-again c =
     let q = c.before.before.before.before.before.next-usable in
     let len = l.invariant.0 ∙ p.1.0 in
     let apart = p.1.1.1.1.1.1.1 in
-    let u = ap (is_usable a.y l.vol a.map.now) q.ensures.0 ∙ fewest-at (is_usable a.y l.vol a.map.now) (a.end - l.k) l.k (omega arith) in (
+    let u = ap (is_usable a.y l.vol a.map.now) q.ensures.0 ∙ fewest_at (is_usable a.y l.vol a.map.now) (a.end - l.k) l.k (omega arith) in (
       c.before.before.take-one.auto.0 ∙ l.invariant.0,
       (
         omega arith,
@@ -70,7 +70,7 @@ loop-again c =
           (
             one_taken _ _ _ _ _ p.0 apart len (omega arith) (omega arith) l.invariant.1.1.0 c.before.before.take-one.ensures,
             (cc)
-                ∙ (sym (takes_past _ _ _ _ l.k _ _ _ (omega arith) q.ensures.0 ∙ takes-yes _ _ _ _ _ _ _ p.0 apart len (omega arith) (omega arith) (omega arith) (omega arith) l.invariant.1.1.0 l.invariant.1.1.1.0 u)
+                ∙ (sym (takes_past _ _ _ _ l.k _ _ _ (omega arith) q.ensures.0 ∙ takes_yes _ _ _ _ _ _ _ p.0 apart len (omega arith) (omega arith) (omega arith) (omega arith) l.invariant.1.1.0 l.invariant.1.1.1.0 u)
                 ∙ l.invariant.1.1.1.1),
           ),
         ),
@@ -81,7 +81,7 @@ same-length-3 : tie.Need-same-length-3 invariant-loop decreases-loop
 same-length-3 c = search rules
 
 returns-3 : tie.Need-returns-3 invariant-loop decreases-loop
-returns-3 c = took _ _ _ _ _ _ _ _ _ _ (sym (takes-end _ _ _ _ _ _ _ (omega arith)) ∙ c.before.loop.invariant.1.1.1.1)
+returns-3 c = took _ _ _ _ _ _ _ _ _ _ (sym (takes_end _ _ _ _ _ _ _ (omega arith)) ∙ c.before.loop.invariant.1.1.1.1)
 
 pub take-usable-spec : {M : Type 1} → statement M
 take-usable-spec =

@@ -5,7 +5,7 @@ use lib.ListN.{length}
 use Rattle.metadata.proofs.Frame.{Fits}
 use Rattle.write_dir.specs.Internal.{Growable, standing}
 use Rattle.write_dir.specs.Place.{grow_by}
-use Rattle.write_dir.proofs.AddedLaws.{growable-one, grow-turn, grow_end}
+use Rattle.write_dir.proofs.AddedLaws.{growable_one, grow_turn, grow_end}
 use Rattle.write_dir.proofs.place.grow_by.Statement.{statement}
 use Rattle.write_dir.proofs.place.grow_by.Tie as tie
 
@@ -24,7 +24,7 @@ grow-requires : tie.Need-grow-requires invariant-loop decreases-loop
 grow-requires c κs =
     let p = c.before.before.before.before.before.before.requires in
     let l = c.before.before.before.loop in
-    (p.0, (l.invariant.0 ∙ p.1.0, (p.1.1.0, (p.1.1.1.0, growable-one _ _ _ _ _ _ l.invariant.1.0 (omega arith)))))
+    (p.0, (l.invariant.0 ∙ p.1.0, (p.1.1.0, (p.1.1.1.0, growable_one _ _ _ _ _ _ l.invariant.1.0 (omega arith)))))
 
 sub-left : tie.Need-overflow-sub-left invariant-loop decreases-loop
 sub-left c = search rules
@@ -39,7 +39,7 @@ loop-again c =
     let l = c.before.before.before.before.before.before.loop in
     let g = c.before.before.grow in
     let w : Fits a.y l.vol = record { laid = p.0; apart = p.1.1.1.0; long = l.invariant.0 ∙ p.1.0 } in
-    let t = grow-turn a.y l.vol a.map.now l.w.allocation l.left l.w.hint l.invariant.1.0 w (omega arith) g.result g.new.0 g.ensures.0 g.ensures.1 in
+    let t = grow_turn a.y l.vol a.map.now l.w.allocation l.left l.w.hint l.invariant.1.0 w (omega arith) g.result g.new.0 g.ensures.0 g.ensures.1 in
     (g.auto.0 ∙ l.invariant.0, (t.0, t.1 ∙ l.invariant.1.1))
 
 same_length : tie.Need-same-length invariant-loop decreases-loop

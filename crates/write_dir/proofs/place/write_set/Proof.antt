@@ -1,7 +1,7 @@
 use mathlib.Core.Path.{refl, ◌∙◌}
 use native.Mathlib.Omega.{arith}
 use lib.ListN.{length}
-use Rattle.write_dir.proofs.PlaceLaws.{parts_reach, parts_fit, store-spot}
+use Rattle.write_dir.proofs.PlaceLaws.{parts_reach, parts_fit, store_spot}
 use borrow.Author.Rules.{rules}
 use Rattle.write_dir.proofs.place.write_set.Statement.{statement}
 use Rattle.write_dir.proofs.place.write_set.Tie as tie
@@ -73,7 +73,7 @@ returns : tie.Need-returns
 returns c =
     let a = c.before.before.before.before.before.before.before.before.before.before.before.before.before.before.before.before.args in
     let p = c.before.before.before.before.before.before.before.before.before.before.before.before.before.before.before.before.requires in
-    store-spot a.y a.vol.now _ _ _ a.spot a.set.now a.n _ _ _ p.0 p.1.1 (omega arith) c.before.before.before.before.before.before.before.before.before.before.before.before.put-part.ensures.0 c.before.before.before.before.before.before.before.put-part2.ensures.0 c.before.before.put-part3.ensures.0 c.before.before.before.before.before.before.before.before.before.before.before.before.put-part.ensures.1 c.before.before.before.before.before.before.before.put-part2.ensures.1 c.before.before.put-part3.ensures.1
+    store_spot a.y a.vol.now _ _ _ a.spot a.set.now a.n _ _ _ p.0 p.1.1 (omega arith) c.before.before.before.before.before.before.before.before.before.before.before.before.put-part.ensures.0 c.before.before.before.before.before.before.before.put-part2.ensures.0 c.before.before.put-part3.ensures.0 c.before.before.before.before.before.before.before.before.before.before.before.before.put-part.ensures.1 c.before.before.before.before.before.before.before.put-part2.ensures.1 c.before.before.put-part3.ensures.1
 
 pub write-set-spec : {M : Type 1} → statement M
 write-set-spec =

@@ -1,7 +1,7 @@
 use Rattle.std.proofs.Common.{refl, arith, rules}
-use Rattle.boot.proofs.Admission.{admit-number, admission}
+use Rattle.boot.proofs.Admission.{admit_number, admission}
 use Rattle.write_alloc.proofs.AllocateLaws.{shown_as}
-use Rattle.write_extend.proofs.ExtendLaws.{extend-is, extend-not-admitted}
+use Rattle.write_extend.proofs.ExtendLaws.{extend_is, extend_not-admitted}
 use Rattle.write_extend.proofs.extend.extend_clusters.Statement.{statement}
 use Rattle.write_extend.proofs.extend.extend_clusters.Tie as tie
 
@@ -13,7 +13,7 @@ as-given-requires c κs = search rules
 
 returns : tie.Need-returns
 returns c =
-    shown_as (extend-not-admitted _ _ _ _ _ _ _ (admit-number _ _ _ _ c.before.before.before.admit.ensures) (λ z. omega arith)) (c.as-given.ensures, refl)
+    shown_as (extend_not-admitted _ _ _ _ _ _ _ (admit_number _ _ _ _ c.before.before.before.admit.ensures) (λ z. omega arith)) (c.as-given.ensures, refl)
 
 extend-in-requires : tie.Need-extend-in-requires
 extend-in-requires c κs =
@@ -26,7 +26,7 @@ same_length c = search rules
 
 returns-2 : tie.Need-returns-2
 returns-2 c =
-    shown_as (extend-is _ _ _ _ _ _ _ (admission _ _ _ _ c.before.before.before.before.before.before.admit.ensures (omega arith))) c.before.before.extend-in.ensures
+    shown_as (extend_is _ _ _ _ _ _ _ (admission _ _ _ _ c.before.before.before.before.before.before.admit.ensures (omega arith))) c.before.before.extend-in.ensures
 
 pub extend-clusters-spec : {M : Type 1} → statement M
 extend-clusters-spec =

@@ -3,7 +3,7 @@ use Rattle.boot.proofs.Apart.{in_heap_lem}
 use Rattle.metadata.specs.Usable.{is_usable}
 use Rattle.choice.specs.Choice.{choose, begin_of}
 use Rattle.boot.specs.Causes.{wrap}
-use Rattle.write_extend.proofs.ExtendLaws.{start-in, begin-heap, old-ready, chain_more, last-facts}
+use Rattle.write_extend.proofs.ExtendLaws.{start_in, begin_heap, old_ready, chain_more, last_facts}
 use Rattle.write_extend.proofs.extend.longer_chain.Statement.{statement}
 use Rattle.write_extend.proofs.extend.longer_chain.Tie as tie
 
@@ -12,7 +12,7 @@ add-wrap-cluster c =
     let a = c.before.before.before.args in
     let p = c.before.before.before.requires in
     let z = p.1.1.1 in
-    let f = last-facts a.y a.vol.now a.map.now a.a a.n p.0 z.0 p.1.0 z.1.0 z.1.1.0 z.1.1.1 in
+    let f = last_facts a.y a.vol.now a.map.now a.a a.n p.0 z.0 p.1.0 z.1.0 z.1.1.0 z.1.1.1 in
     omega (arith, f.1)
 
 wrap-cluster-requires : tie.Need-wrap-cluster-requires
@@ -23,7 +23,7 @@ choose-clusters-requires c κs =
     let a = c.before.before.before.before.before.args in
     let p = c.before.before.before.before.before.requires in
     let z = p.1.1.1 in
-    let h = in_heap_lem _ _ (start-in a.y a.vol.now a.map.now a.a a.n p.0 z.0 p.1.0 z.1.0 z.1.1.0 z.1.1.1) in
+    let h = in_heap_lem _ _ (start_in a.y a.vol.now a.map.now a.a a.n p.0 z.0 p.1.0 z.1.0 z.1.1.0 z.1.1.1) in
     (p.0, (p.1.0, (p.1.1.0, (rw c.before.wrap-cluster.ensures h.0, (rw c.before.wrap-cluster.ensures h.1, z.1.1.0)))))
 
 begin-of-requires : tie.Need-begin-of-requires
@@ -34,7 +34,7 @@ link-old-requires c κs =
     let a = c.before.before.before.before.before.before.before.before.args in
     let p = c.before.before.before.before.before.before.before.before.requires in
     let z = p.1.1.1 in
-    let f = last-facts a.y a.vol.now a.map.now a.a a.n p.0 z.0 p.1.0 z.1.0 z.1.1.0 z.1.1.1 in
+    let f = last_facts a.y a.vol.now a.map.now a.a a.n p.0 z.0 p.1.0 z.1.0 z.1.1.0 z.1.1.1 in
     (p.0, (p.1.0, (f.1, (z.1.0, f.3))))
 
 take-chain-requires : tie.Need-take-chain-requires
@@ -44,8 +44,8 @@ take-chain-requires c κs =
     let z = p.1.1.1 in
     let q : c.before.before.before.before.before.before.choose-clusters.result ≡ choose (is_usable a.y a.vol.now a.map.now) a.y.count a.n (wrap a.y.count (a.a.last + 1)) = cc in
     let r : c.before.before.before.before.before.begin-of.result ≡ begin_of c.before.before.before.before.before.before.choose-clusters.result (wrap a.y.count (a.a.last + 1)) = cc in
-    let b = begin-heap a.y a.vol.now a.map.now a.a a.n p.0 z.0 p.1.0 z.1.0 z.1.1.0 z.1.1.1 _ q in
-    let o = old-ready a.y a.vol.now a.map.now a.a a.n p.0 z.0 p.1.0 z.1.0 z.1.1.0 z.1.1.1 _ c.before.before.before.link-old.ensures in
+    let b = begin_heap a.y a.vol.now a.map.now a.a a.n p.0 z.0 p.1.0 z.1.0 z.1.1.0 z.1.1.1 _ q in
+    let o = old_ready a.y a.vol.now a.map.now a.a a.n p.0 z.0 p.1.0 z.1.0 z.1.1.0 z.1.1.1 _ c.before.before.before.link-old.ensures in
     (p.0, (o.2, (p.1.1.0, (rw r b.0, (rw r b.1, (o.0, (z.0, (z.1.1.0, o.1))))))))
 
 add-wrap-cluster-2 : tie.Need-overflow-add-wrap-cluster-2

@@ -1,7 +1,7 @@
 use Rattle.std.proofs.Common.{◌≡◌, sym, refl, ◌∙◌, arith, rules}
 use Rattle.file.proofs.OpenLaws.{shown_as}
 use Rattle.file.proofs.CallLaws.{refused_shown}
-use Rattle.write_file.proofs.NewFileLaws.{ready-reads, name_few, entries_are, space_enough, new-name, new-attributes, new-space, new-done}
+use Rattle.write_file.proofs.NewFileLaws.{ready_reads, name_few, entries_are, space_enough, new_name, new_attributes, new_space, new-done}
 use Rattle.write_file.proofs.new_file.new_file_in.Statement.{statement}
 use Rattle.write_file.proofs.new_file.new_file_in.Tie as tie
 
@@ -25,7 +25,7 @@ free-run-requires : tie.Need-free-run-requires
 free-run-requires c κs =
     let r = c.before.before.before.before.before.before.before.before.before.requires in
     let n = c.before.name-entries.ensures in
-    (r.laid, (r.long, (r.apart, (ready-reads _ _ _ _ _ r, (omega arith, omega (arith, n.1))))))
+    (r.laid, (r.long, (r.apart, (ready_reads _ _ _ _ _ r, (omega arith, omega (arith, n.1))))))
 
 space-cause-requires : tie.Need-space-cause-requires
 space-cause-requires c κs = search rules
@@ -63,19 +63,19 @@ same-length-2 c = search rules
 returns-2 : tie.Need-returns-2
 returns-2 c =
     let p = c.before.before.before.before.before.before.before.before.before.before.before.before.before.before.requires in
-    shown_as (new-space _ _ _ _ _ _ _ _ _ p (cc) (cc) _ _ (entries_are _ _ c.before.before.before.before.before.before.name-entries.ensures.0) c.before.before.before.before.free-run.ensures _ c.before.before.space-cause.ensures (λ z. omega arith)) (refused_shown _ _ _ _ _ c.refused.ensures refl)
+    shown_as (new_space _ _ _ _ _ _ _ _ _ p (cc) (cc) _ _ (entries_are _ _ c.before.before.before.before.before.before.name-entries.ensures.0) c.before.before.before.before.free-run.ensures _ c.before.before.space-cause.ensures (λ z. omega arith)) (refused_shown _ _ _ _ _ c.refused.ensures refl)
 
 refused-requires-2 : tie.Need-refused-requires-2
 refused-requires-2 c κs = search rules
 
 returns-3 : tie.Need-returns-3
-returns-3 c = let p = c.before.before.before.before.before.before.before.before.requires in shown_as (new-attributes _ _ _ _ _ _ _ _ _ p (cc) (cc)) (refused_shown _ _ _ _ _ c.refused2.ensures refl)
+returns-3 c = let p = c.before.before.before.before.before.before.before.before.requires in shown_as (new_attributes _ _ _ _ _ _ _ _ _ p (cc) (cc)) (refused_shown _ _ _ _ _ c.refused2.ensures refl)
 
 refused-requires-3 : tie.Need-refused-requires-3
 refused-requires-3 c κs = search rules
 
 returns-4 : tie.Need-returns-4
-returns-4 c = let p = c.before.before.before.before.before.before.requires in shown_as (new-name _ _ _ _ _ _ _ _ _ p (cc)) (refused_shown _ _ _ _ _ c.refused3.ensures refl)
+returns-4 c = let p = c.before.before.before.before.before.before.requires in shown_as (new_name _ _ _ _ _ _ _ _ _ p (cc)) (refused_shown _ _ _ _ _ c.refused3.ensures refl)
 
 pub new-file-in-spec : {M : Type 1} → statement M
 new-file-in-spec =

@@ -1,6 +1,6 @@
 use Rattle.write_file.proofs.WriteLaws.{data_is}
-use Rattle.file.proofs.RefreshLaws.{stored-along, stored-heap, stored-known, zeroed-known}
-use Rattle.stream.proofs.BytesSteps.{known-later}
+use Rattle.file.proofs.RefreshLaws.{stored-along, stored_heap, stored_known, zeroed_known}
+use Rattle.stream.proofs.BytesSteps.{known_later}
 use Rattle.std.proofs.Common.{◌-◌, replicate, ◌∙◌, arith, rules}
 use Rattle.metadata.proofs.Frame.{Fits}
 use Rattle.write_file.proofs.write.put_data.Statement.{statement}
@@ -9,7 +9,7 @@ use Rattle.write_file.proofs.write.put_data.Tie as tie
 zero-range-requires : tie.Need-zero-range-requires
 zero-range-requires c κs =
     let p = c.before.before.before.requires in
-    (p.0, (p.1.0, (p.1.1.0, (p.1.1.1.0, (omega arith, known-later _ _ _ _ _ p.1.1.1.1.1.0 _ (omega arith))))))
+    (p.0, (p.1.0, (p.1.1.0, (p.1.1.1.0, (omega arith, known_later _ _ _ _ _ p.1.1.1.1.1.0 _ (omega arith))))))
 
 store-requires : tie.Need-store-requires
 store-requires c κs =
@@ -17,8 +17,8 @@ store-requires c κs =
     let p = c.before.before.before.before.before.before.before.requires in
     let w : Fits a.y a.vol.now = record { laid = p.0; apart = p.1.1.0; long = p.1.0 } in
     let z = c.before.before.before.zero-range in
-    let k = zeroed-known a.y a.vol.now a.b a.known a.valid a.offset (omega (arith, p.0.size_low)) (omega arith) p.1.1.1.1.1.0 in
-    (p.0, (omega arith, (stored-heap a.y a.vol.now w a.b p.1.1.1.0 a.valid (replicate (a.offset - a.valid) 0) _ z.ensures.0, (p.1.1.1.1.0, (p.1.1.0, (rw z.ensures.1 (stored-known a.y a.vol.now w a.b p.1.1.1.0 a.valid (replicate (a.offset - a.valid) 0) _ z.ensures.0 _ _ k), p.1.1.1.1.1.1))))))
+    let k = zeroed_known a.y a.vol.now a.b a.known a.valid a.offset (omega (arith, p.0.size_low)) (omega arith) p.1.1.1.1.1.0 in
+    (p.0, (omega arith, (stored_heap a.y a.vol.now w a.b p.1.1.1.0 a.valid (replicate (a.offset - a.valid) 0) _ z.ensures.0, (p.1.1.1.1.0, (p.1.1.0, (rw z.ensures.1 (stored_known a.y a.vol.now w a.b p.1.1.1.0 a.valid (replicate (a.offset - a.valid) 0) _ z.ensures.0 _ _ k), p.1.1.1.1.1.1))))))
 
 same_length : tie.Need-same-length
 same_length c = search rules

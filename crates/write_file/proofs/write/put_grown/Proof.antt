@@ -1,7 +1,7 @@
 use Rattle.std.proofs.Common.{ℕ, List, ap, ◌∙◌, arith, rules}
 use Rattle.metadata.proofs.Frame.{Fits}
 use Rattle.stream.specs.Stream.{clusters_in}
-use Rattle.file.proofs.RefreshLaws.{grow-known}
+use Rattle.file.proofs.RefreshLaws.{grow_known}
 use Rattle.write_file.specs.Write.{with_data}
 use Rattle.write_file.proofs.write.put_grown.Statement.{statement}
 use Rattle.write_file.proofs.write.put_grown.Tie as tie
@@ -21,7 +21,7 @@ put-data-requires c κs =
     let w : Fits a.y a.vol.now = record { laid = p.0; apart = p.1.1.1.0; long = p.1.0 } in
     let g = c.before.before.before.before.grow-to in
     let k = c.before.grown-place in
-    let n = grow-known a.y a.vol.now a.map.now w a.b a.len a.hint p.1.1.1.1.1.0 p.1.1.1.1.0 p.1.1.1.1.1.1.0 g.result _ g.ensures.0 g.ensures.1.0 a.known _ p.1.1.1.1.1.1.1.1.0 in
+    let n = grow_known a.y a.vol.now a.map.now w a.b a.len a.hint p.1.1.1.1.1.0 p.1.1.1.1.0 p.1.1.1.1.1.1.0 g.result _ g.ensures.0 g.ensures.1.0 a.known _ p.1.1.1.1.1.1.1.1.0 in
     (p.0, (omega arith, (p.1.1.1.0, (g.ensures.1.1.0, (omega (arith, g.ensures.1.1.1, p.1.1.1.1.1.1.1.0), (rw k.ensures n, p.1.1.1.1.1.1.1.1.1))))))
 
 same_length : tie.Need-same-length

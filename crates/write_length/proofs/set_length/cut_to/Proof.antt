@@ -1,6 +1,6 @@
 use mathlib.Core.Path.{◌∙◌}
 use native.Mathlib.Omega.{arith}
-use Rattle.write_length.proofs.SetLengthLaws.{cut-some, cut-idle}
+use Rattle.write_length.proofs.SetLengthLaws.{cut-some, cut_idle}
 use borrow.Author.Rules.{rules}
 use Rattle.write_length.proofs.set_length.cut_to.Statement.{statement}
 use Rattle.write_length.proofs.set_length.cut_to.Tie as tie
@@ -18,7 +18,7 @@ returns : tie.Need-returns
 returns c = c.before.before.cut_in.ensures ∙ cut-some _ _ _ _ (omega arith)
 
 returns-2 : tie.Need-returns-2
-returns-2 c = cut-idle _ _ _ _ (omega arith)
+returns-2 c = cut_idle _ _ _ _ (omega arith)
 
 pub cut-to-spec : {M : Type 1} → statement M
 cut-to-spec = tie.close (tie.spec cut-in-requires same_length returns returns-2)

@@ -8,8 +8,8 @@ use Rattle.metadata.proofs.Frame.{Fits}
 use Rattle.stream.specs.Stream.{clusters_in}
 use Rattle.write_extend.specs.Extend.{extend_in}
 use Rattle.file.specs.Refresh.{missing}
-use Rattle.file.proofs.RefreshLaws.{grow-known}
-use Rattle.write_length.proofs.SetLengthLaws.{end-le}
+use Rattle.file.proofs.RefreshLaws.{grow_known}
+use Rattle.write_length.proofs.SetLengthLaws.{end_le}
 use borrow.Author.Rules.{rules}
 use Rattle.write_length.proofs.set_length.grow_zeroed.Statement.{statement}
 use Rattle.write_length.proofs.set_length.grow_zeroed.Tie as tie
@@ -34,8 +34,8 @@ zero-range-requires c κs =
     let k = c.before.grown-place in
     let l = p.0 in
     let h : 1 ≤ a.y.size = omega (arith, l.size_low) in
-    let n = grow-known a.y a.vol.now a.map.now w a.b a.len a.hint p.1.1.1.1.1.0 p.1.1.1.1.0 p.1.1.1.1.1.1.0 g.result _ g.ensures.0 g.ensures.1.0 a.known _ p.1.1.1.1.1.1.1.1.1 in
-    (l, (omega arith, (p.1.1.1.0, (g.ensures.1.1.0, (omega (arith, g.ensures.1.1.1, c.before.before.before.before.before.before.zero-end.ensures, end-le a.y.size a.valid a.len h), rw k.ensures n)))))
+    let n = grow_known a.y a.vol.now a.map.now w a.b a.len a.hint p.1.1.1.1.1.0 p.1.1.1.1.0 p.1.1.1.1.1.1.0 g.result _ g.ensures.0 g.ensures.1.0 a.known _ p.1.1.1.1.1.1.1.1.1 in
+    (l, (omega arith, (p.1.1.1.0, (g.ensures.1.1.0, (omega (arith, g.ensures.1.1.1, c.before.before.before.before.before.before.zero-end.ensures, end_le a.y.size a.valid a.len h), rw k.ensures n)))))
 
 same_length : tie.Need-same-length
 same_length c = search rules

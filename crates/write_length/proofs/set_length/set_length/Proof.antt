@@ -1,5 +1,5 @@
 use native.Mathlib.Omega.{arith}
-use Rattle.boot.proofs.Admission.{admit-number, admission}
+use Rattle.boot.proofs.Admission.{admit_number, admission}
 use Rattle.file.proofs.OpenLaws.{shown_as, refuse-shown}
 use Rattle.write_length.proofs.SetLengthLaws.{set_is, set-not-admitted}
 use borrow.Author.Rules.{rules}
@@ -14,7 +14,7 @@ refused-requires c κs = search rules
 
 returns : tie.Need-returns
 returns c =
-    shown_as (set-not-admitted _ _ _ _ _ _ _ _ (admit-number _ _ _ _ c.before.before.before.admit.ensures) (λ z. omega arith)) (refuse-shown _ _ _ _ c.refused.ensures)
+    shown_as (set-not-admitted _ _ _ _ _ _ _ _ (admit_number _ _ _ _ c.before.before.before.admit.ensures) (λ z. omega arith)) (refuse-shown _ _ _ _ c.refused.ensures)
 
 set-length-in-requires : tie.Need-set-length-in-requires
 set-length-in-requires c κs =

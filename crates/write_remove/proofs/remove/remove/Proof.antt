@@ -1,7 +1,7 @@
 use native.Mathlib.Omega.{arith}
-use Rattle.boot.proofs.Admission.{admit-number, admission}
+use Rattle.boot.proofs.Admission.{admit_number, admission}
 use Rattle.file.proofs.OpenLaws.{shown_as, refuse-shown}
-use Rattle.write_remove.proofs.RemoveLaws.{remove-is, remove-not-admitted}
+use Rattle.write_remove.proofs.RemoveLaws.{remove_is, remove-not-admitted}
 use borrow.Author.Rules.{rules}
 use Rattle.write_remove.proofs.remove.remove.Statement.{statement}
 use Rattle.write_remove.proofs.remove.remove.Tie as tie
@@ -14,7 +14,7 @@ refused-requires c κs = search rules
 
 returns : tie.Need-returns
 returns c =
-    shown_as (remove-not-admitted _ _ _ _ _ _ (admit-number _ _ _ _ c.before.before.before.admit.ensures) (λ z. omega arith)) (refuse-shown _ _ _ _ c.refused.ensures)
+    shown_as (remove-not-admitted _ _ _ _ _ _ (admit_number _ _ _ _ c.before.before.before.admit.ensures) (λ z. omega arith)) (refuse-shown _ _ _ _ c.refused.ensures)
 
 remove-in-requires : tie.Need-remove-in-requires
 remove-in-requires c κs =
@@ -27,7 +27,7 @@ same_length c = search rules
 
 returns-2 : tie.Need-returns-2
 returns-2 c =
-    shown_as (remove-is _ _ _ _ _ _ (admission _ _ _ _ c.before.before.before.before.before.before.admit.ensures (omega arith))) c.before.before.remove-in.ensures
+    shown_as (remove_is _ _ _ _ _ _ (admission _ _ _ _ c.before.before.before.before.before.before.admit.ensures (omega arith))) c.before.before.remove-in.ensures
 
 pub remove-spec : {M : Type 1} → statement M
 remove-spec =

@@ -1,5 +1,5 @@
 use mathlib.Core.Path.{◌∙◌}
-use Rattle.write_shrink.proofs.Cutting.{part-next, part-last, kept_heap, left-heap, left-distinct, left_cut}
+use Rattle.write_shrink.proofs.Cutting.{part_next, part_last, kept_heap, left_heap, left_distinct, left_cut}
 use borrow.Author.Rules.{rules}
 use Rattle.write_shrink.proofs.shrink.cut_in.Statement.{statement}
 use Rattle.write_shrink.proofs.shrink.cut_in.Tie as tie
@@ -7,7 +7,7 @@ use Rattle.write_shrink.proofs.shrink.cut_in.Tie as tie
 end-kept-requires : tie.Need-end-kept-requires
 end-kept-requires c κs =
     let p = c.before.before.requires in
-    (p.0, (p.1.0, (part-last _ _ _ _ _ p.1.1.1.1.1, kept_heap _ _ _ _ p.0 p.1.1.1.1.0 p.1.1.1.0)))
+    (p.0, (p.1.0, (part_last _ _ _ _ _ p.1.1.1.1.1, kept_heap _ _ _ _ p.0 p.1.1.1.1.0 p.1.1.1.0)))
 
 sub-free-from : tie.Need-overflow-sub-free-from
 sub-free-from c = search rules
@@ -16,11 +16,11 @@ free-from-requires : tie.Need-free-from-requires
 free-from-requires c κs =
     let p = c.before.before.before.before.before.before.before.requires in
     let q = c.before.before.before.before.End-kept in
-    let n = part-next _ _ _ _ _ p.1.1.1.1.1 in
+    let n = part_next _ _ _ _ _ p.1.1.1.1.1 in
     let l = p.1.1.1.1.0 in
     let z = p.1.1.0 in
-    let h = left-heap _ _ _ _ p.0 l p.1.1.1.0 z p.1.0 _ q.ensures _ n in
-    (p.0, (q.auto.0 ∙ p.1.0, (z, (h, left-distinct _ _ _ _ p.0 l p.1.1.1.0 z p.1.0 _ q.ensures _ n))))
+    let h = left_heap _ _ _ _ p.0 l p.1.1.1.0 z p.1.0 _ q.ensures _ n in
+    (p.0, (q.auto.0 ∙ p.1.0, (z, (h, left_distinct _ _ _ _ p.0 l p.1.1.1.0 z p.1.0 _ q.ensures _ n))))
 
 same_length : tie.Need-same-length
 same_length c = search rules
@@ -29,7 +29,7 @@ returns : tie.Need-returns
 returns c =
     let p = c.before.before.before.before.before.before.before.before.before.before.requires in
     let q = c.before.before.before.before.before.before.before.End-kept.ensures in
-    let n = part-next _ _ _ _ _ p.1.1.1.1.1 in
+    let n = part_next _ _ _ _ _ p.1.1.1.1.1 in
     c.before.before.free-from.ensures ∙ left_cut _ _ _ _ p.0 p.1.1.1.1.0 p.1.1.1.0 p.1.1.0 p.1.0 _ q _ n
 
 pub cut-in-spec : {M : Type 1} → statement M

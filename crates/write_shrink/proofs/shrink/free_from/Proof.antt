@@ -8,9 +8,9 @@ use Rattle.boot.specs.Layout.{in_heap}
 use Rattle.boot.proofs.Apart.{in_heap_lem}
 use Rattle.metadata.specs.Fat.{fat_entry}
 use Rattle.stream.specs.Internal.{along}
-use Rattle.stream.proofs.StreamLaws.{along-head}
+use Rattle.stream.proofs.StreamLaws.{along_head}
 use Rattle.write_shrink.specs.Shrink.{free_all}
-use Rattle.write_shrink.proofs.Cutting.{free_one, free_none, free_step, free-heap, free-distinct}
+use Rattle.write_shrink.proofs.Cutting.{free_one, free_none, free_step, free_heap, free_distinct}
 use Rattle.write_shrink.proofs.shrink.free_from.Statement.{statement}
 use Rattle.write_shrink.proofs.shrink.free_from.Tie as tie
 
@@ -25,17 +25,17 @@ loop-holds c = (refl, (c.before.requires.1.1.1.0, (c.before.requires.1.1.1.1, re
 
 next-cluster-requires : tie.Need-next-cluster-requires invariant-loop decreases-loop
 next-cluster-requires c κs =
-    let h = in_heap_lem _ _ (along-head _ _ _ _ _ (omega arith) c.before.before.loop.invariant.1.0) in
+    let h = in_heap_lem _ _ (along_head _ _ _ _ _ (omega arith) c.before.before.loop.invariant.1.0) in
     search rules
 
 set-fat-requires : tie.Need-set-fat-requires invariant-loop decreases-loop
 set-fat-requires c κs =
-    let h = in_heap_lem _ _ (along-head _ _ _ _ _ (omega arith) c.before.before.before.before.loop.invariant.1.0) in
+    let h = in_heap_lem _ _ (along_head _ _ _ _ _ (omega arith) c.before.before.before.before.loop.invariant.1.0) in
     search rules
 
 mark-requires : tie.Need-mark-requires invariant-loop decreases-loop
 mark-requires c κs =
-    let h = in_heap_lem _ _ (along-head _ _ _ _ _ (omega arith) c.before.before.before.before.before.before.before.before.loop.invariant.1.0) in
+    let h = in_heap_lem _ _ (along_head _ _ _ _ _ (omega arith) c.before.before.before.before.before.before.before.before.loop.invariant.1.0) in
     search rules
 
 sub-left : tie.Need-overflow-sub-left invariant-loop decreases-loop
@@ -54,9 +54,9 @@ loop-again c =
     let e = c.before.before.before.before.before.before.before.before.next-cluster.ensures in (
       omega arith,
       (
-        rw (q, e) (free-heap _ _ p.0 p.1.1.0 len _ _ _ (omega arith) i.1.0 i.1.1.0),
+        rw (q, e) (free_heap _ _ p.0 p.1.1.0 len _ _ _ (omega arith) i.1.0 i.1.1.0),
         (
-          rw (q, e) (free-distinct _ _ p.0 p.1.1.0 len _ _ _ (omega arith) i.1.0 i.1.1.0),
+          rw (q, e) (free_distinct _ _ p.0 p.1.1.0 len _ _ _ (omega arith) i.1.0 i.1.1.0),
           rw (q, e) (sym (free_step _ _ p.0 p.1.1.0 len _ _ _ (omega arith) i.1.0 i.1.1.0) ∙ i.1.1.1),
         ),
       ),

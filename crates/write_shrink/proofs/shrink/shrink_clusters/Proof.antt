@@ -1,7 +1,7 @@
 use native.Mathlib.Omega.{arith}
-use Rattle.boot.proofs.Admission.{admit-number, admission}
+use Rattle.boot.proofs.Admission.{admit_number, admission}
 use Rattle.write_alloc.proofs.AllocateLaws.{shown_as}
-use Rattle.write_shrink.proofs.Cutting.{shrink-is, shrink-not-admitted}
+use Rattle.write_shrink.proofs.Cutting.{shrink_is, shrink_not-admitted}
 use borrow.Author.Rules.{rules}
 use Rattle.write_shrink.proofs.shrink.shrink_clusters.Statement.{statement}
 use Rattle.write_shrink.proofs.shrink.shrink_clusters.Tie as tie
@@ -11,7 +11,7 @@ admit-requires c κs = search rules
 
 returns : tie.Need-returns
 returns c =
-    shrink-not-admitted _ _ _ _ _ _ _ (admit-number _ _ _ _ c.before.before.admit.ensures) (λ z. omega arith)
+    shrink_not-admitted _ _ _ _ _ _ _ (admit_number _ _ _ _ c.before.before.admit.ensures) (λ z. omega arith)
 
 shrink-in-requires : tie.Need-shrink-in-requires
 shrink-in-requires c κs =
@@ -24,7 +24,7 @@ same_length c = search rules
 
 returns-2 : tie.Need-returns-2
 returns-2 c =
-    shown_as (shrink-is _ _ _ _ _ _ _ (admission _ _ _ _ c.before.before.before.before.before.before.admit.ensures (omega arith))) c.before.before.shrink-in.ensures
+    shown_as (shrink_is _ _ _ _ _ _ _ (admission _ _ _ _ c.before.before.before.before.before.before.admit.ensures (omega arith))) c.before.before.shrink-in.ensures
 
 pub shrink-clusters-spec : {M : Type 1} → statement M
 shrink-clusters-spec =
