@@ -5,7 +5,7 @@ ghost use Rattle.boot.specs.Limits.{all, shape_tests, room_tests, map_tests, in_
 ghost use Rattle.boot.specs.Internal.{Shape};
 
 // The boot sector's fields, and the first cluster of one bitmap per FAT. Offsets and lengths are in sectors.
-#[derive(Drop)]
+#[derive(Clone, Copy)]
 pub struct Geometry {
     pub sector_shift: u32,
     pub cluster_shift: u32,

@@ -9,7 +9,7 @@ use crate::geometry::Geometry;
 // Whether there are two FATs; the first byte of the active FAT, of the first and the second one, and of their bitmaps in the same
 // order; the first cluster of each bitmap and how many clusters a bitmap spans; the first byte of the heap; the bytes of a cluster;
 // the clusters; the bytes of the volume. With one FAT the second places are the first.
-#[derive(Drop)]
+#[derive(Clone, Copy)]
 pub struct Layout {
     pub two: bool,
     pub fat: usize,
@@ -28,7 +28,7 @@ pub struct Layout {
 }
 
 // The number of admission, and the layout: of zeros where the number is not 0.
-#[derive(Drop)]
+#[derive(Clone, Copy)]
 pub struct Admitted {
     pub number: u32,
     pub layout: Layout,

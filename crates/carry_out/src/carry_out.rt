@@ -8,7 +8,7 @@ use entry_set::stamp::Stamps;
 use file::answer::FileAnswer;
 
 // The four calls that change files.
-#[derive(Drop)]
+#[derive(Clone, Copy)]
 pub enum Kind {
     NewFile,
     Write,

@@ -14,7 +14,7 @@ use boot::layout::Layout;
 use search::found::Found;
 
 // A run from a cluster on, usable clusters one by one, or too few.
-#[derive(Drop)]
+#[derive(Clone, Copy)]
 pub enum Choice {
     Run(u32),
     Scattered,

@@ -8,7 +8,7 @@ use boot::layout::Layout;
 use stream::allocation::Allocation;
 
 // A directory's record, or the number of what refuses it.
-#[derive(Drop)]
+#[derive(Clone, Copy)]
 pub struct Directory {
     pub number: u32,
     pub allocation: Allocation,

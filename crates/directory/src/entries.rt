@@ -14,21 +14,21 @@ use boot::layout::Layout;
 use stream::allocation::Allocation;
 
 // An entry: its cluster, and its first byte there.
-#[derive(Drop)]
+#[derive(Clone, Copy)]
 pub struct Cursor {
     pub cluster: u32,
     pub at: usize,
 }
 
 // An entry by its slot, and where it stands.
-#[derive(Drop)]
+#[derive(Clone, Copy)]
 struct Tail {
     slot: u32,
     entry: Cursor,
 }
 
 // Where a new set goes: its slot, and the clusters that the directory grows by for it.
-#[derive(Drop)]
+#[derive(Clone, Copy)]
 pub struct Room {
     pub slot: u32,
     pub clusters: u32,

@@ -20,7 +20,7 @@ use stream::allocation::Allocation;
 use stream::bytes::Place;
 
 // A stream's record and the place where the call begins in it; or the number of what refuses it.
-#[derive(Drop)]
+#[derive(Clone, Copy)]
 struct Opened {
     number: u32,
     allocation: Allocation,
@@ -29,7 +29,7 @@ struct Opened {
 
 // A file opened (Rust: `OpenFile`): where its set stands, its stream's record and the place where the call begins in it, which the walk
 // that tested the stream took down; or the number of what refuses it.
-#[derive(Drop)]
+#[derive(Clone, Copy)]
 pub struct OpenFile {
     pub number: u32,
     pub spot: Spot,

@@ -13,7 +13,7 @@ use boot::layout::Layout;
 use stream::allocation::Allocation;
 
 // The clusters that a set reaches, three at most, 0 where there is none, and the byte in the first one.
-#[derive(Drop)]
+#[derive(Clone, Copy)]
 pub struct Spot {
     pub first: u32,
     pub second: u32,

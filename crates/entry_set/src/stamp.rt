@@ -3,7 +3,7 @@ ghost use Rattle.std.specs.Prelude.{◌≡◌, ◌+◌, ◌≤◌, length};
 ghost use Rattle.entry_set.specs.Stamps.{stamp_at, stamps_at};
 
 // One stamp: 4 bytes, an increment byte and an offset byte.
-#[derive(Drop)]
+#[derive(Clone, Copy)]
 pub struct Stamp {
     pub value: u32,
     pub increment: u8,
@@ -11,7 +11,7 @@ pub struct Stamp {
 }
 
 // The three stamps of a new file.
-#[derive(Drop)]
+#[derive(Clone, Copy)]
 pub struct Stamps {
     pub created: Stamp,
     pub modified: Stamp,

@@ -5,7 +5,7 @@ ghost use Rattle.metadata.specs.Free.{free_clusters};
 use boot::geometry::Geometry;
 
 // The number of the call, and the free clusters: 0 where it is refused.
-#[derive(Drop)]
+#[derive(Clone, Copy)]
 pub struct FreeCount {
     pub number: u32,
     pub count: u32,

@@ -10,7 +10,7 @@ use boot::layout::Layout;
 use stream::allocation::Allocation;
 
 // Whether a part is of the zeros, else of the volume; its first byte there; and how many bytes it has.
-#[derive(Drop)]
+#[derive(Clone, Copy)]
 pub struct Part {
     pub zeros: bool,
     pub start: u32,

@@ -7,7 +7,7 @@ use entry_set::stamp::Stamps;
 use primitives::words::{u16_at, u32_at, u64_at};
 
 // The arguments of a call on streams. Allocate has the near cluster in `first`, whether it is given in `flag` and the count in `number`.
-#[derive(Drop)]
+#[derive(Clone, Copy)]
 pub struct StreamArguments {
     pub first: u32,
     pub last: u32,
@@ -18,7 +18,7 @@ pub struct StreamArguments {
 }
 
 // The arguments of a call on files; `number` is the offset of a write or a new length.
-#[derive(Drop)]
+#[derive(Clone, Copy)]
 pub struct FileArguments {
     pub attributes: u16,
     pub hash: u16,
@@ -28,7 +28,7 @@ pub struct FileArguments {
 }
 
 // Where the volume, the map and the data end, and how many units the name has.
-#[derive(Drop)]
+#[derive(Clone, Copy)]
 pub struct Ends {
     pub volume: usize,
     pub map: usize,

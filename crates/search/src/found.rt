@@ -1,6 +1,6 @@
 // What a search finds.
 // The number that a search found, or none.
-#[derive(Drop)]
+#[derive(Clone, Copy)]
 pub enum Found {
     At(u32),
     Nothing,

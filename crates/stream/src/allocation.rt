@@ -4,7 +4,7 @@ ghost use Rattle.stream.specs.Stream.{empty};
 
 // Where a stream starts and ends, how many clusters it has, and whether they are consecutive with no links in the FAT.
 // With count 0 it is empty, whatever the rest.
-#[derive(Drop)]
+#[derive(Clone, Copy)]
 pub struct Allocation {
     pub first: u32,
     pub last: u32,

@@ -13,7 +13,7 @@ use crate::allocation::Allocation;
 use boot::layout::Layout;
 
 // A cluster of a stream that is known, and how many steps from the first one lead to it.
-#[derive(Drop)]
+#[derive(Clone, Copy)]
 pub struct Place {
     pub cluster: u32,
     pub steps: u32,

@@ -13,7 +13,7 @@ use boot::layout::Layout;
 use primitives::bits::both;
 
 // What a FAT value says: the end of the chain, another cluster, or neither. The definitions speak of it; the code tests the value itself.
-#[derive(Drop)]
+#[derive(Clone, Copy)]
 pub enum Next {
     End,
     More,
@@ -22,7 +22,7 @@ pub enum Next {
 
 // A chain walked to its end: its last cluster, its length, whether all are marked, whether none is barred (number 9), and the cluster
 // that the caller looks for, 0 where the chain ends before it; or what refuses it.
-#[derive(Drop)]
+#[derive(Clone, Copy)]
 pub struct Walked {
     pub number: u32,
     pub last: u32,
@@ -33,7 +33,7 @@ pub struct Walked {
 }
 
 // A record's clusters tested: what refuses it, and whether a walk of them saw that none is a system cluster.
-#[derive(Drop)]
+#[derive(Clone, Copy)]
 pub struct Tested {
     pub number: u32,
     pub clear: bool,

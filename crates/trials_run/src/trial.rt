@@ -9,7 +9,7 @@ use stream::allocation::Allocation;
 use write_alloc::answer::Answer;
 
 // A call with its own arguments.
-#[derive(Drop)]
+#[derive(Clone, Copy)]
 enum Call {
     // Clusters and hint.
     Allocate(u32, u32),

@@ -2,7 +2,7 @@
 use stream::allocation::Allocation;
 
 // The number, the record and the hint.
-#[derive(Drop)]
+#[derive(Clone, Copy)]
 pub struct Answer {
     pub number: u32,
     pub allocation: Allocation,

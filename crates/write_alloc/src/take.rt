@@ -8,7 +8,7 @@ ghost use Rattle.write_alloc.specs.Internal.{prev_taken, taken_from, taken_of, w
 use boot::layout::Layout;
 
 // The cluster reached, 0 before the first, and how many are still to be taken.
-#[derive(Drop)]
+#[derive(Clone, Copy)]
 pub struct Taken {
     pub prev: u32,
     pub left: u32,

@@ -13,7 +13,7 @@ use directory::spot::Spot;
 use stream::allocation::Allocation;
 
 // A directory's record after growth, and the hint.
-#[derive(Drop)]
+#[derive(Clone, Copy)]
 pub struct Added {
     pub allocation: Allocation,
     pub hint: u32,

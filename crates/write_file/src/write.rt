@@ -19,7 +19,7 @@ use stream::bytes::Place;
 use write_alloc::answer::Answer;
 
 // What storing data makes of a file but its set: the stream, both lengths and the hint; or the number of what refuses it.
-#[derive(Drop)]
+#[derive(Clone, Copy)]
 struct DataAnswer {
     number: u32,
     allocation: Allocation,

@@ -24,7 +24,7 @@ use write_alloc::answer::Answer;
 use write_shrink::shrink::Kept;
 
 // What a cut keeps: how many clusters, what a walk of them tells, and their record.
-#[derive(Drop)]
+#[derive(Clone, Copy)]
 struct Cut {
     keep: u32,
     part: Kept,

@@ -15,7 +15,7 @@ use stream::allocation::Allocation;
 use write_alloc::answer::Answer;
 
 // The kept clusters of a stream: the last one (0: none), whether their numbers rise by one, and the cluster after them.
-#[derive(Drop)]
+#[derive(Clone, Copy)]
 pub struct Kept {
     pub last: u32,
     pub rising: bool,

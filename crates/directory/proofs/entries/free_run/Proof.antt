@@ -193,7 +193,7 @@ cast-t15 c =
     let m = c.before.before.before.before.before.before.entry-count in
     let i = window_in (bytes_in a.y a.vol.now a.dir) l.base (m.result - l.base) t.result.slot t.ensures.0 in
     let q = div-le_self (32 * (t.result.slot + a.need - m.result) + (a.y.size - 1)) a.y.size in
-    let z = p.0.size-high in
+    let z = p.0.size_high in
     omega arith
 
 returns-2 : tie.Need-returns-2 invariant-loop decreases-loop

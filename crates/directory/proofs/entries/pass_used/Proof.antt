@@ -13,7 +13,7 @@ cast-from c =
     let w : Fits a.y a.vol.now = record { laid = p.0; apart = p.1.1.0; long = p.1.0 } in
     let r = p.1.1.1.0 in
     let i = cursor_in a.y a.vol.now w a.dir r a.base p.1.1.1.1.1.1.1 a.e p.1.1.1.1.0 in
-    let z = p.0.size-high in
+    let z = p.0.size_high in
     omega arith
 
 used-windows-in-requires : tie.Need-used-windows-in-requires

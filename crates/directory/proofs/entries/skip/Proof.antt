@@ -16,7 +16,7 @@ decreases-loop vol y dir k m per cluster₀ more₀ cluster more = more
 cast-per : tie.Need-overflow-cast-per invariant-loop decreases-loop
 cast-per c =
     let l = c.before.before.requires.0 in
-    omega (arith, l.size-high)
+    omega (arith, l.size_high)
 
 cast-more : tie.Need-overflow-cast-more invariant-loop decreases-loop
 cast-more c =
@@ -24,7 +24,7 @@ cast-more c =
     let a = c.before.before.before.args in
     let w : Fits a.y a.vol.now = record { laid = p.0; apart = p.1.1.0; long = p.1.0 } in
     let h = cursor_in a.y a.vol.now w a.dir p.1.1.1.0 a.k (omega arith) a.e p.1.1.1.1.0 in
-    let z = p.0.size-high in
+    let z = p.0.size_high in
     omega arith
 
 add-more : tie.Need-overflow-add-more invariant-loop decreases-loop
@@ -33,7 +33,7 @@ add-more c =
     let a = c.before.before.before.args in
     let w : Fits a.y a.vol.now = record { laid = p.0; apart = p.1.1.0; long = p.1.0 } in
     let h = cursor_in a.y a.vol.now w a.dir p.1.1.1.0 a.k (omega arith) a.e p.1.1.1.1.0 in
-    let z = p.0.size-high in
+    let z = p.0.size_high in
     omega arith
 
 loop-holds : tie.Need-loop-init invariant-loop decreases-loop

@@ -15,7 +15,7 @@ abbrev decreases-loop : tie.decreases-loop
 decreases-loop vol y dir slot per k₀ left₀ k left = left
 
 cast-per : tie.Need-overflow-cast-per invariant-loop decreases-loop
-cast-per c = omega (arith, c.before.before.requires.0.size-high)
+cast-per c = omega (arith, c.before.before.requires.0.size_high)
 
 loop-holds : tie.Need-loop-init invariant-loop decreases-loop
 loop-holds c =

@@ -30,7 +30,7 @@ add-byte-at c =
     let a = c.before.before.before.before.args in
     let w : Fits a.y a.vol.now = record { laid = p.0; apart = p.1.1.0; long = p.1.0 } in
     let q = slot_in a.y a.vol.now w a.dir p.1.1.1.0 a.slot p.1.1.1.1.0 a.e p.1.1.1.1.1.0 in
-    omega (arith, q.1.1, p.0.size-high)
+    omega (arith, q.1.1, p.0.size_high)
 
 byte-at-requires-2 : tie.Need-byte-at-requires-2
 byte-at-requires-2 c κs =

@@ -37,7 +37,7 @@ cast-n c =
     let a = c.before.before.before.before.before.args in
     let n : c.clusters-for.result ≡ clusters_for a.y.size (data_length a.set.now) = (cc) in
     let q = (formed_of a.y.count a.y.size a.set.now p.1.1.1).lengths.room (λ z. omega (arith, z)) in
-    omega (arith, n, q, p.0.count-high)
+    omega (arith, n, q, p.0.count_high)
 
 first-cluster-requires : tie.Need-first-cluster-requires
 first-cluster-requires c κs = search rules

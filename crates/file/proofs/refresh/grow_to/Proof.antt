@@ -9,7 +9,7 @@ missing-requires c κs =
     let a = c.before.before.args in
     let p = c.before.before.requires in
     let l = p.0 in
-    (l, omega (arith, length_enough a.y a.b a.len a.vol.now a.map.now p.1.1.1.1.1.1, usable_few a.y a.vol.now a.map.now, l.count-high))
+    (l, omega (arith, length_enough a.y a.b a.len a.vol.now a.map.now p.1.1.1.1.1.1, usable_few a.y a.vol.now a.map.now, l.count_high))
 
 grow-in-requires : tie.Need-grow-in-requires
 grow-in-requires c κs =

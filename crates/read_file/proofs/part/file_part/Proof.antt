@@ -34,7 +34,7 @@ zero-part-requires c κs =
     let p = c.before.before.before.before.before.requires in
     let a = c.before.before.before.before.before.args in
     let e = c.before.before.data-length.ensures in
-    (omega arith, omega (arith, e, length_high a.y a.vol.now a.set.now a.b a.k a.offset p, p.laid.len-high))
+    (omega arith, omega (arith, e, length_high a.y a.vol.now a.set.now a.b a.k a.offset p, p.laid.len_high))
 
 returns-2 : tie.Need-returns-2
 returns-2 c =

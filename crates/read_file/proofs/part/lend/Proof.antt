@@ -17,7 +17,7 @@ part-result-start : tie.Need-slice-bounds-result-start
 part-result-start c = search rules
 
 part-result-end : tie.Need-slice-bounds-result-end
-part-result-end c = omega (arith, c.before.requires.of-zeros c.if1.true)
+part-result-end c = omega (arith, c.before.requires.from_zeros c.if1.true)
 
 returns : tie.Need-returns
 unfolding part_bytes part_place
@@ -36,7 +36,7 @@ part-result-start-2 : tie.Need-slice-bounds-result-start-2
 part-result-start-2 c = search rules
 
 part-result-end-2 : tie.Need-slice-bounds-result-end-2
-part-result-end-2 c = omega (arith, c.before.requires.of-volume c.if1.false)
+part-result-end-2 c = omega (arith, c.before.requires.from_volume c.if1.false)
 
 returns-2 : tie.Need-returns-2
 unfolding part_bytes part_place

@@ -59,7 +59,7 @@ add_start c =
     let p = c.before.before.before.before.before.before.requires in
     let a = c.before.before.before.before.before.before.args in
     let h = piece_inside a.y a.vol.now p.0 a.a p.1.1.0 a.valid a.offset p.1.1.1.0 p.1.1.1.1.0 a.k p.1.1.1.1.1 c.before.leading.result c.before.leading.ensures in
-    omega (arith, h, p.0.len-high, p.0.size-high, place_low a.y a.vol.now p.0 a.a p.1.1.0 a.valid a.offset p.1.1.1.0 p.1.1.1.1.0, c.cluster-offset.ensures)
+    omega (arith, h, p.0.len_high, p.0.size_high, place_low a.y a.vol.now p.0 a.a p.1.1.0 a.valid a.offset p.1.1.1.0 p.1.1.1.1.0, c.cluster-offset.ensures)
 
 sub-lesser : tie.Need-overflow-sub-lesser
 sub-lesser c = search rules
@@ -69,7 +69,7 @@ mul-lesser c =
     let p = c.before.before.before.before.before.before.before.requires in
     let a = c.before.before.before.before.before.before.before.args in
     let h = piece_inside a.y a.vol.now p.0 a.a p.1.1.0 a.valid a.offset p.1.1.1.0 p.1.1.1.1.0 a.k p.1.1.1.1.1 c.before.before.leading.result c.before.before.leading.ensures in
-    omega (arith, h, p.0.len-high)
+    omega (arith, h, p.0.len_high)
 
 sub-lesser-2 : tie.Need-overflow-sub-lesser-2
 sub-lesser-2 c =
@@ -86,14 +86,14 @@ cast-t17 c =
     let p = c.before.before.before.before.before.before.before.before.requires in
     let a = c.before.before.before.before.before.before.before.before.args in
     let h = piece_inside a.y a.vol.now p.0 a.a p.1.1.0 a.valid a.offset p.1.1.1.0 p.1.1.1.1.0 a.k p.1.1.1.1.1 c.before.before.before.leading.result c.before.before.before.leading.ensures in
-    omega (arith, h, p.0.len-high, p.0.size-high, place_low a.y a.vol.now p.0 a.a p.1.1.0 a.valid a.offset p.1.1.1.0 p.1.1.1.1.0, c.before.before.cluster-offset.ensures)
+    omega (arith, h, p.0.len_high, p.0.size_high, place_low a.y a.vol.now p.0 a.a p.1.1.0 a.valid a.offset p.1.1.1.0 p.1.1.1.1.0, c.before.before.cluster-offset.ensures)
 
 cast-t16 : tie.Need-overflow-cast-t16
 cast-t16 c =
     let p = c.before.before.before.before.before.before.before.before.requires in
     let a = c.before.before.before.before.before.before.before.before.args in
     let h = piece_inside a.y a.vol.now p.0 a.a p.1.1.0 a.valid a.offset p.1.1.1.0 p.1.1.1.1.0 a.k p.1.1.1.1.1 c.before.before.before.leading.result c.before.before.before.leading.ensures in
-    omega (arith, h, p.0.len-high, c.lesser.ensures)
+    omega (arith, h, p.0.len_high, c.lesser.ensures)
 
 returns : tie.Need-returns
 returns c =

@@ -50,7 +50,7 @@ add-t10 c =
     let p = c.before.before.before.before.before.before.before.before.before.before.requires in
     let a = c.before.before.before.before.before.before.before.before.before.before.args in
     let f : a.a.count ≤ 4294967295 = omega arith in
-    omega (arith, p.1.1.1.0, mul-le-mul_right {m = a.a.count} {n = 4294967295} a.y.size f, p.0.size-high)
+    omega (arith, p.1.1.1.0, mul-le-mul_right {m = a.a.count} {n = 4294967295} a.y.size f, p.0.size_high)
 
 sub-t16 : tie.Need-overflow-sub-t16
 sub-t16 c = search rules

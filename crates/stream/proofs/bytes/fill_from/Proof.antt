@@ -31,7 +31,7 @@ add-result c =
     let a = c.before.before.before.before.before.before.args in
     let w : Fits a.y a.vol.now = record { laid = p.0; apart = p.1.1.1.1.1.0; long = p.1.0 } in
     let r = c.before.before.before.before.if1.true in
-    omega (arith, run_inside a.y a.vol.now w a.run r a.first a.count p.1.1.0 a.at a.n p.1.1.1.0 (omega arith) p.1.1.1.1.0, run_first a.y a.vol.now w a.run r a.first a.count p.1.1.0 a.at a.n p.1.1.1.0 (omega arith) p.1.1.1.1.0, div-le_self (a.at + a.n - 1) a.y.size, p.0.len-high, p.0.count-high)
+    omega (arith, run_inside a.y a.vol.now w a.run r a.first a.count p.1.1.0 a.at a.n p.1.1.1.0 (omega arith) p.1.1.1.1.0, run_first a.y a.vol.now w a.run r a.first a.count p.1.1.0 a.at a.n p.1.1.1.0 (omega arith) p.1.1.1.1.0, div-le_self (a.at + a.n - 1) a.y.size, p.0.len_high, p.0.count_high)
 
 sub-result : tie.Need-overflow-sub-result
 sub-result c = search rules
@@ -45,7 +45,7 @@ cast-result c =
     let a = c.before.before.before.before.before.before.before.args in
     let w : Fits a.y a.vol.now = record { laid = p.0; apart = p.1.1.1.1.1.0; long = p.1.0 } in
     let r = c.before.before.before.before.before.if1.true in
-    omega (arith, run_inside a.y a.vol.now w a.run r a.first a.count p.1.1.0 a.at a.n p.1.1.1.0 (omega arith) p.1.1.1.1.0, run_first a.y a.vol.now w a.run r a.first a.count p.1.1.0 a.at a.n p.1.1.1.0 (omega arith) p.1.1.1.1.0, div-le_self (a.at + a.n - 1) a.y.size, p.0.len-high, p.0.count-high)
+    omega (arith, run_inside a.y a.vol.now w a.run r a.first a.count p.1.1.0 a.at a.n p.1.1.1.0 (omega arith) p.1.1.1.1.0, run_first a.y a.vol.now w a.run r a.first a.count p.1.1.0 a.at a.n p.1.1.1.0 (omega arith) p.1.1.1.1.0, div-le_self (a.at + a.n - 1) a.y.size, p.0.len_high, p.0.count_high)
 
 add-result-2 : tie.Need-overflow-add-result-2
 add-result-2 c =
@@ -53,7 +53,7 @@ add-result-2 c =
     let a = c.before.before.before.before.before.before.before.args in
     let w : Fits a.y a.vol.now = record { laid = p.0; apart = p.1.1.1.1.1.0; long = p.1.0 } in
     let r = c.before.before.before.before.before.if1.true in
-    omega (arith, run_inside a.y a.vol.now w a.run r a.first a.count p.1.1.0 a.at a.n p.1.1.1.0 (omega arith) p.1.1.1.1.0, run_first a.y a.vol.now w a.run r a.first a.count p.1.1.0 a.at a.n p.1.1.1.0 (omega arith) p.1.1.1.1.0, div-le_self (a.at + a.n - 1) a.y.size, p.0.len-high, p.0.count-high)
+    omega (arith, run_inside a.y a.vol.now w a.run r a.first a.count p.1.1.0 a.at a.n p.1.1.1.0 (omega arith) p.1.1.1.1.0, run_first a.y a.vol.now w a.run r a.first a.count p.1.1.0 a.at a.n p.1.1.1.0 (omega arith) p.1.1.1.1.0, div-le_self (a.at + a.n - 1) a.y.size, p.0.len_high, p.0.count_high)
 
 same_length : tie.Need-same-length
 same_length c = search rules

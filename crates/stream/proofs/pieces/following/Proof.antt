@@ -54,7 +54,7 @@ four-follow-requires c κs =
 add-last : tie.Need-overflow-add-last invariant-loop decreases-loop
 add-last c =
     let p = c.before.before.before.before.before.before.before.requires in
-    omega (arith, p.0.count-high)
+    omega (arith, p.0.count_high)
 
 loop-less : tie.Need-loop-smaller invariant-loop decreases-loop
 loop-less c = omega arith

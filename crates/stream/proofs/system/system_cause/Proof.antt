@@ -25,7 +25,7 @@ run-system-cause-requires c κs =
     let p = c.before.before.before.requires in
     let h = in_heap_lem _ _ (along_head _ _ _ _ _ (omega arith) p.1.1.1.0) in
     let e = run_end _ _ _ _ _ c.if1.true p.1.1.1.0 (omega arith) in
-    let l = p.0.count-high in
+    let l = p.0.count_high in
     (omega arith, (omega arith, omega arith))
 
 returns : tie.Need-returns invariant-loop decreases-loop

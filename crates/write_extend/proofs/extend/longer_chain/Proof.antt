@@ -52,7 +52,7 @@ add-wrap-cluster-2 : tie.Need-overflow-add-wrap-cluster-2
 add-wrap-cluster-2 c =
     let p = c.before.before.before.before.before.before.before.before.before.before.before.before.before.before.before.before.requires in
     let h = c.before.before.before.take-chain.ensures.1.1 in
-    let l = p.0.count-high in
+    let l = p.0.count_high in
     omega arith
 
 add-wrap-cluster-3 : tie.Need-overflow-add-wrap-cluster-3

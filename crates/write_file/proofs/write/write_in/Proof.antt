@@ -41,7 +41,7 @@ write-data-requires c κs =
     let o = found_opens i.y i.vol.now i.map.now (root_record i.y i.vol.now i.root) i.slot i.offset i.hint w p.1.1.0 f.result f.ensures.0 _ f.ensures.1 z in
     let v = c.before.before.before.before.valid-length in
     let k = found_known i.y i.vol.now i.map.now (root_record i.y i.vol.now i.root) i.slot i.offset i.hint w p.1.1.0 f.result f.ensures.0 _ f.ensures.1 z in
-    (p.0, (p.1.0, (p.1.1.0, (p.1.1.1, (o.hint-in, (open_stream _ _ _ _ _ _ _ _ o, rw v.ensures k))))))
+    (p.0, (p.1.0, (p.1.1.0, (p.1.1.1, (o.hint_in, (open_stream _ _ _ _ _ _ _ _ o, rw v.ensures k))))))
 
 refused-requires-2 : tie.Need-refused-requires-2
 refused-requires-2 c κs = search rules

@@ -15,7 +15,7 @@ cast-keep c =
     let p = c.before.before.requires in
     let w : Fits i.y i.vol.now = record { laid = p.0; apart = p.1.1.0; long = p.1.0 } in
     let l = p.0 in
-    omega (arith, count_few i.y i.vol.now w i.b p.1.1.1.0, l.count-high, p.1.1.1.1)
+    omega (arith, count_few i.y i.vol.now w i.b p.1.1.1.0, l.count_high, p.1.1.1.1)
 
 kept-part-requires : tie.Need-kept-part-requires
 kept-part-requires c κs =

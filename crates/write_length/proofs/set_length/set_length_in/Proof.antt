@@ -133,7 +133,7 @@ lengthen-requires c κs =
     let u = c.before.before.before.data-length in
     let e = found_known i.y i.vol.now i.map.now (root_record i.y i.vol.now i.root) i.slot i.len i.hint w p.1.1.0 f.result f.ensures.0 _ f.ensures.1 z in
     let k = known_later i.y i.vol.now f.result.stream f.result.place _ e v.result (omega (arith, v.ensures)) in
-    (p.0, (p.1.0, (p.1.1.0, (p.1.1.1, (o.hint-in, (open_stream _ _ _ _ _ _ _ _ o, (none, (omega (arith, v.ensures, u.ensures, open_valid _ _ _ _ _ _ _ _ o), (omega (arith, v.ensures, open_small _ _ _ _ _ _ _ _ o), k)))))))))
+    (p.0, (p.1.0, (p.1.1.0, (p.1.1.1, (o.hint_in, (open_stream _ _ _ _ _ _ _ _ o, (none, (omega (arith, v.ensures, u.ensures, open_valid _ _ _ _ _ _ _ _ o), (omega (arith, v.ensures, open_small _ _ _ _ _ _ _ _ o), k)))))))))
 
 record-set-requires-2 : tie.Need-record-set-requires-2
 record-set-requires-2 c κs =

@@ -1,0 +1,7 @@
+use native.Mathlib.Omega.{arith}
+use Rattle.boot.specs.Layout.{fat_start}
+use Rattle.boot.proofs.layout.fat_start.Goals as goal
+
+pub returns : goal.returns
+unfolding fat_start
+returns c = rw (← c.fats.ensures.0) (omega arith)
