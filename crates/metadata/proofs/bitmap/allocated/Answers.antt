@@ -1,0 +1,6 @@
+use Rattle.metadata.specs.Marks.{marked, mark_byte}
+use Rattle.metadata.proofs.bitmap.allocated.Goals as goal
+
+pub returns : goal.returns
+unfolding marked mark_byte
+returns c = cc

@@ -1,0 +1,11 @@
+use Prim.Native.Nat.{◌+◌, ◌-◌, ◌*◌}
+use mathlib.Core.Path.{◌∙◌, refl}
+use native.Mathlib.Omega.{arith}
+use Rattle.metadata.proofs.Stores.{bad_part}
+use Rattle.metadata.proofs.usable.bad_in.Goals as goal
+
+pub returns : goal.returns
+returns c =
+    let a = c.args in
+    let n = a.y.fat + 4 * (a.y.count + 2) - a.y.fat in
+    c.first_bad.ensures ∙ bad_part a.y a.vol.now a.y.fat n a.first a.n refl (omega arith)
