@@ -11,7 +11,7 @@ use borrow.Author.Tests.{eqb-true, leb-true, ltb-true, le-leb, lt-ltb}
 use Rattle.tables.proofs.Cases.{not_so, bool_ext, and_left, and_right, and_both}
 use Rattle.boot.specs.declared.geometry.Geometry.{Geometry}
 use Rattle.boot.specs.declared.layout.Layout.{Layout}
-use Rattle.boot.specs.Geometry.{number_of_fats, active_fat, cluster_count, bitmap0, bitmap1, bitmap_bytes, bitmap_clusters}
+use Rattle.boot.specs.Geometry.{number_of_fats, active_fat, cluster_count, bitmap0, bitmap_bytes, bitmap_clusters}
 use Rattle.boot.specs.Internal.{Accepted, Laid, Apart}
 use Rattle.boot.specs.Layout.{fat_start, cluster_start, bitmap_first, layout_of, cluster_at, in_heap, in_run, is_bitmap_cluster}
 use Rattle.boot.proofs.Clusters.{mul-step}

@@ -1,7 +1,6 @@
 use native.Mathlib.Omega.{arith}
 use mathlib.Core.Path.{refl, sym, ◌∙◌}
 use Rattle.boot.proofs.Limits.{set-step, set_stop, set-none}
-use borrow.Author.Tests.{not-true, not-false}
 use Rattle.boot.proofs.geometry.all_in_map.Goals as goal
 
 pub loop-left-init : goal.loop-left-init

@@ -10,5 +10,5 @@ unfolding mark_byte
 returns c =
     let a = c.args in
     let p = c.requires in
-    let b = (c.type_inv.vol (a.y.bitmap + (a.k - 2) / 8)).fits in
+    let b = (c.slice_known-1.given (a.y.bitmap + (a.k - 2) / 8)).fits in
     (cc) ∙ row_byte a.y a.vol.now a.k (record { laid = p.0; apart = p.1.1.1.1.1; long = p.1.0 }) (omega arith) (omega arith) (omega arith) b

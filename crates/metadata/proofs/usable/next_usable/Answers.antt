@@ -1,4 +1,4 @@
-use Prim.Native.Nat.{ℕ, ◌+◌, ◌-◌, ◌≤◌, ◌<◌}
+use Prim.Native.Nat.{ℕ, ◌+◌}
 use mathlib.Core.Path.{◌≡◌, sym, ◌∙◌, ap}
 use mathlib.Core.Bool.{false}
 use mathlib.Core.List.{List}
@@ -9,11 +9,8 @@ use Rattle.boot.specs.declared.layout.Layout.{Layout}
 use Rattle.metadata.specs.Internal.{first_unmarked}
 use Rattle.metadata.specs.Usable.{is_usable}
 use Rattle.metadata.proofs.UnmarkedLaws.{before_unusable}
+use Rattle.metadata.proofs.usable.next_usable.Invariants.{NoneTo}
 use Rattle.metadata.proofs.usable.next_usable.Goals as goal
-
--- none of the clusters from k to at is usable
-abbrev NoneTo : (y : Layout) (d m : List ℕ) (k at : ℕ) → Type 0
-NoneTo y d m k at = (j : ℕ) → k ≤ j → j < at → is_usable y d m j ≡ false
 
 none-on : (y : Layout) (d m : List ℕ) (k at n next : ℕ) → NoneTo y d m k at → next ≡ first_unmarked y d at n → NoneTo y d m k next
 none-on y d m k at n next f e j a b =

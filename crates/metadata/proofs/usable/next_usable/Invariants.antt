@@ -1,5 +1,14 @@
-use Prim.Native.Nat.{◌-◌, ◌≤◌}
+use Prim.Native.Nat.{ℕ, ◌-◌, ◌≤◌, ◌<◌}
+use mathlib.Core.Path.{◌≡◌}
+use mathlib.Core.Bool.{false}
+use mathlib.Core.List.{List}
+use Rattle.boot.specs.declared.layout.Layout.{Layout}
+use Rattle.metadata.specs.Usable.{is_usable}
 use Rattle.metadata.proofs.usable.next_usable.Given as goal
+
+-- none of the clusters from k to at is usable
+abbrev pub NoneTo : (y : Layout) (d m : List ℕ) (k at : ℕ) → Type 0
+NoneTo y d m k at = (j : ℕ) → k ≤ j → j < at → is_usable y d m j ≡ false
 
 abbrev pub invariant-loop-at : goal.invariant-loop-at
 invariant-loop-at l = (l.k ≤ l.at) × ((l.at ≤ l.end) × NoneTo l.y l.vol l.map l.k l.at)

@@ -4,7 +4,7 @@ use Rattle.metadata.proofs.WindowLaws.{map-all, refused_bad, refused_system, ref
 use Rattle.metadata.proofs.usable.none_refused.Goals as goal
 
 pub returns-in-At : goal.returns-in-At
-returns-in-At c = sym (refused_bad _ _ _ _ _ _ (sym c.bad_in-bad.ensures ∙ c.enum_told-1.given.1))
+returns-in-At c = sym (refused_bad _ _ _ _ _ _ (sym c.bad_in-bad.ensures ∙ c.in-At.is))
 
 pub returns-in-Nothing : goal.returns-in-Nothing
 returns-in-Nothing c = sym (refused_none _ _ _ _ _ (sym (map-all _ _ _ (omega arith)) ∙ (cc)) (cc))

@@ -1,4 +1,4 @@
-use Rattle.std.proofs.Common.{◌-◌, sym, ◌∙◌, arith}
+use Rattle.std.proofs.Common.{sym, ◌∙◌, arith}
 use Rattle.search.proofs.Lowest.{fewest_whole, fewest_end, fewest_within}
 use Rattle.primitives.proofs.ByteLaws.{full_byte, zero_byte, bit_here, bit_next, bit_bytes}
 use Rattle.primitives.proofs.bits.first_bit.Goals as goal

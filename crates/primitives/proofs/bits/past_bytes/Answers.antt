@@ -1,4 +1,4 @@
-use Rattle.std.proofs.Common.{◌-◌, sym, ◌∙◌, arith}
+use Rattle.std.proofs.Common.{sym, ◌∙◌, arith}
 use Rattle.search.proofs.Lowest.{fewest_within}
 use Rattle.primitives.proofs.ByteLaws.{to_all, to_bytes}
 use Rattle.primitives.proofs.bits.past_bytes.Goals as goal

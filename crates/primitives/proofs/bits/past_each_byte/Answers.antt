@@ -1,4 +1,4 @@
-use Rattle.std.proofs.Common.{◌-◌, sym, ◌∙◌, arith}
+use Rattle.std.proofs.Common.{sym, ◌∙◌, arith}
 use Rattle.primitives.proofs.ByteLaws.{to_all, to_stop, to_byte, to_end}
 use Rattle.primitives.proofs.bits.past_each_byte.Goals as goal
 

@@ -1,4 +1,4 @@
-use Rattle.std.proofs.Common.{◌≡◌, ◌-◌, sym, refl, ap, ◌∙◌, arith}
+use Rattle.std.proofs.Common.{◌≡◌, sym, refl, ap, ◌∙◌, arith}
 use Rattle.search.specs.Search.{all_from}
 use Rattle.search.proofs.Runs.{all_none}
 use Rattle.primitives.proofs.ByteLaws.{same_next}

@@ -1,4 +1,4 @@
-use Rattle.std.proofs.Common.{◌-◌, sym, ap, ◌∙◌, arith}
+use Rattle.std.proofs.Common.{sym, ap, ◌∙◌, arith}
 use Rattle.primitives.specs.Internal.{add_bytes}
 use Rattle.primitives.proofs.ChecksumLaws.{bytes_none, bytes_next}
 use Rattle.primitives.proofs.checksum.add_bytes.Goals as goal

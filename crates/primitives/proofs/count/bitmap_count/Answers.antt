@@ -1,4 +1,4 @@
-use Rattle.std.proofs.Common.{◌+◌, ◌-◌, ◌*◌, ◌/◌, ◌%◌, refl, ◌∙◌, arith}
+use Rattle.std.proofs.Common.{◌+◌, ◌*◌, ◌/◌, ◌%◌, refl, ◌∙◌, arith}
 use Rattle.primitives.specs.Bits.{count_bits}
 use Rattle.primitives.proofs.CountLaws.{count_le, mask_pos, more_byte, last_byte, no_rest}
 use Rattle.primitives.proofs.count.bitmap_count.Goals as goal

@@ -1,4 +1,4 @@
-use Rattle.std.proofs.Common.{◌≡◌, ◌+◌, ◌-◌, ◌<◌, length, sym, refl, arith, length-set}
+use Rattle.std.proofs.Common.{◌≡◌, ◌+◌, ◌<◌, length, sym, refl, arith, length-set}
 use Rattle.primitives.proofs.SpliceLaws.{splice-nil, splice_turn, length_part, part_more}
 use Rattle.primitives.proofs.slices.copy_bytes.Goals as goal
 

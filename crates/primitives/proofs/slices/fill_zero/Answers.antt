@@ -1,4 +1,4 @@
-use Rattle.std.proofs.Common.{◌≡◌, ◌-◌, sym, refl, arith, length-set}
+use Rattle.std.proofs.Common.{◌≡◌, sym, refl, arith, length-set}
 use lib.ListN.{length-replicate, replicate-append-replicate}
 use Rattle.primitives.proofs.SpliceLaws.{splice-nil, splice_turn}
 use Rattle.primitives.proofs.slices.fill_zero.Goals as goal
