@@ -1,0 +1,6 @@
+use Rattle.stream.specs.Internal.{four_follow}
+use Rattle.stream.proofs.pieces.four_follow.Goals as goal
+
+pub returns : goal.returns
+unfolding four_follow
+returns c = cc

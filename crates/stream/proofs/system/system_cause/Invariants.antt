@@ -1,0 +1,14 @@
+use mathlib.Core.Bool.{true}
+use mathlib.Core.Path.{◌≡◌}
+use Rattle.tables.specs.Lists.{every}
+use Rattle.boot.specs.Layout.{in_heap}
+use Rattle.metadata.specs.Fat.{fat_entry}
+use Rattle.stream.specs.Internal.{along}
+use Rattle.stream.specs.Stream.{system_cause}
+use Rattle.stream.proofs.system.system_cause.Given as goal
+
+abbrev pub invariant-loop-left : goal.invariant-loop-left
+invariant-loop-left l = (every (in_heap l.y.count) (along (fat_entry l.y l.vol) l.run l.k l.left) ≡ true) × (system_cause l.map (along (fat_entry l.y l.vol) l.run l.k l.left) ≡ system_cause l.map (along (fat_entry l.y l.vol) l.run l.first l.n))
+
+abbrev pub decreases-loop-left : goal.decreases-loop-left
+decreases-loop-left l = l.left
