@@ -1,6 +1,6 @@
 -- Streams gone through cluster by cluster: a step of a seek, of a store and of a reading. Assumes nothing.
 use mathlib.Core.Path.{◌≡◌, refl, sym, ◌∙◌, ap, ap₂}
-use mathlib.Core.Bool.{Bool, true, cond}
+use mathlib.Core.Bool.{Bool, true, false, cond, false≢true}
 use mathlib.Core.List.{List, [], ◌∷◌, ◌++◌, append-nil}
 use Prim.Native.Nat.{ℕ, zero, suc, ◌+◌, ◌-◌, ◌*◌, ◌/◌, ◌%◌, ◌≤◌, ◌<◌, min}
 use native.Mathlib.Decide.{dec_le}
@@ -148,15 +148,17 @@ module _ (fat : ℕ → ℕ) (run : Bool) where
 pub reach_run : (fat : ℕ → ℕ) (run : Bool) (k n : ℕ) → run ≡ true → reached fat run k n ≡ k + n
 unfolding reached after
 reach_run fat run k zero e = omega arith
-reach_run fat run k (suc n) e = rw e (reach_run fat true (k + 1) n refl ∙ (omega arith))
+reach_run fat false k (suc n) e = absurd (false≢true e)
+reach_run fat true k (suc n) e = reach_run fat true (k + 1) n refl ∙ (omega arith)
 
 pub run_end : (C : ℕ) (fat : ℕ → ℕ) (run : Bool) (k n : ℕ) → run ≡ true → every (in_heap C) (along fat run k n) ≡ true → 0 < n → k + n ≤ C + 2
 unfolding along after
 run_end C fat run k zero r e h = absurd (omega arith)
 run_end C fat run k (suc zero) r e h = let i = in_heap_lem C k (every_head (in_heap C) k [] e) in omega arith
-run_end C fat run k (suc (suc n)) r e h =
-    let t = every_tail (in_heap C) k (along fat run (cond run (k + 1) (fat k)) (suc n)) e in
-    omega (arith, run_end C fat true (k + 1) (suc n) refl (rw r at t) (omega arith))
+run_end C fat false k (suc (suc n)) r e h = absurd (false≢true r)
+run_end C fat true k (suc (suc n)) r e h =
+    let t = every_tail (in_heap C) k (along fat true (k + 1) (suc n)) e in
+    omega (arith, run_end C fat true (k + 1) (suc n) refl t (omega arith))
 
 -- FATs that are the same on the heap have the same streams
 module _ (C : ℕ) (f g : ℕ → ℕ) (same : (k : ℕ) → in_heap C k ≡ true → f k ≡ g k) (run : Bool) where

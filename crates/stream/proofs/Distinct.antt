@@ -88,6 +88,7 @@ module _ (C : ℕ) (f : ℕ → ℕ) where
   chain_from_lem : (k : ℕ) (ks : List ℕ) (c : ℕ) → Chain C f k ks → Mem c ks → (ls : List ℕ) × (length ls < length ks) × Chain C f (f c) ls
   chain_from_lem k (x ∷ xs) c p (here e) = (xs, omega arith, rw e p.2)
   chain_from_lem k (x ∷ xs) c p (there m) = let r = chain_from_lem (f x) xs c p.2 m in (r.0, omega arith, r.2)
+  chain_from_lem k [] c p x'' = elim x'' [ ]
 
   module _ (small : C + 2 ≤ END) where
     -- a cluster of the heap is not the end

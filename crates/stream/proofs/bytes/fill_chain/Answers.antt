@@ -53,14 +53,14 @@ loop-place-preserved c =
     let w : Fits a.y l.vol = record { laid = p.0; apart = p.1.1.1.1.1.0; long = l.invariant.0 ∙ p.1.0 } in
     let t =
     store_next a.y l.vol w false l.k l.left n l.invariant.1.1.1.0 l.place l.invariant.1.0 (replicate l.more 0)
-    z.new.0 m q.result (omega (arith, length-replicate {A = ℕ} l.more 0))
+    z.new.vol m q.result (omega (arith, length-replicate {A = ℕ} l.more 0))
     (z.ensures ∙ ap (put_bytes a.y l.vol l.k l.place) (sym (take_zeros m l.more (omega arith)))) q.ensures in
     let s = last_next a.y.size l.place l.more l.invariant.1.0 (omega arith) in
     let i = last_inside a.y.size l.place l.more l.invariant.1.0 l.left l.invariant.1.1.0 l.invariant.1.1.1.1.1.0 in
     let r =
     reach_next a.y l.vol w false l.k l.left n l.invariant.1.1.1.0 l.place l.invariant.1.0 (replicate m 0)
-    z.new.0 q.result ((0 + (l.more - m) - 1) / a.y.size) (omega (arith, length-replicate {A = ℕ} m 0, l.invariant.1.0)) z.ensures q.ensures (omega (arith, s, i)) in (
-      z.auto.0 ∙ l.invariant.0,
+    z.new.vol q.result ((0 + (l.more - m) - 1) / a.y.size) (omega (arith, length-replicate {A = ℕ} m 0, l.invariant.1.0)) z.ensures q.ensures (omega (arith, s, i)) in (
+      z.auto.vol ∙ l.invariant.0,
       (
         omega arith,
         (
@@ -68,7 +68,7 @@ loop-place-preserved c =
           (
             t.0,
             (
-              ap (store_at a.y z.new.0 _ 0) (sym (drop_zeros m l.more (omega arith))) ∙ t.1 ∙ l.invariant.1.1.1.1.0,
+              ap (store_at a.y z.new.vol _ 0) (sym (drop_zeros m l.more (omega arith))) ∙ t.1 ∙ l.invariant.1.1.1.1.0,
               (omega arith, r ∙ ap (reached (fat_entry a.y l.vol) false l.k) (sym s) ∙ l.invariant.1.1.1.1.1.1),
             ),
           ),
@@ -97,7 +97,7 @@ returns c =
     let f = length-replicate {A = ℕ} l.more 0 in
     let t =
     store_next a.y l.vol w false l.k l.left n l.invariant.1.1.1.0 l.place l.invariant.1.0 (replicate l.more 0)
-    z.new.0 l.more _ (omega (arith, f)) (z.ensures ∙ ap (put_bytes a.y l.vol l.k l.place) (sym (take_zeros l.more l.more (omega arith)))) refl in
+    z.new.vol l.more _ (omega (arith, f)) (z.ensures ∙ ap (put_bytes a.y l.vol l.k l.place) (sym (take_zeros l.more l.more (omega arith)))) refl in
     let h = last_here a.y.size l.place l.more l.invariant.1.0 (omega arith) l.invariant.1.1.1.1.1.0 in (
       sym (store_empty _ _ _ _ _ (omega (arith, ap length (drop_zeros l.more l.more (omega arith)), length-replicate {A = ℕ} (l.more - l.more) 0))) ∙ t.1 ∙ l.invariant.1.1.1.1.0,
       sym (reach_none (fat_entry a.y l.vol) false l.k ((l.place + l.more - 1) / a.y.size) (omega (arith, h))) ∙ l.invariant.1.1.1.1.1.1,

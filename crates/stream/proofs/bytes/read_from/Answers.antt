@@ -1,4 +1,3 @@
-use Prim.Native.Nat.{◌-◌}
 use mathlib.Core.Path.{refl, sym, ◌∙◌}
 use native.Mathlib.Omega.{arith}
 use lib.ListN.{drop}
@@ -48,7 +47,7 @@ loop-more-preserved c =
     let n = some_left l.left a.y.size l.place l.more l.invariant.1.1.0 (omega arith) in
     let t =
     read_next a.y a.vol.now p.0 p.1.0 (fat_entry a.y a.vol.now) a.run l.k l.left n l.invariant.1.1.1.1.0 l.place l.invariant.1.0
-    l.dst g.new.1.1.1.1.0 l.put l.more r.result c.next_cluster-k.result (omega (arith, r.ensures)) l.invariant.1.1.1.0 g.ensures c.next_cluster-k.ensures in (
+    l.dst g.new.dst l.put l.more r.result c.next_cluster-k.result (omega (arith, r.ensures)) l.invariant.1.1.1.0 g.ensures c.next_cluster-k.ensures in (
       omega arith,
       (omega arith, (left_after l.left a.y.size l.place l.more r.result l.invariant.1.0 l.invariant.1.1.0 r.ensures, (omega arith, (t.0, t.1 ∙ l.invariant.1.1.1.1.1)))),
     )

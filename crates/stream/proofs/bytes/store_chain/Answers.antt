@@ -1,4 +1,3 @@
-use Prim.Native.Nat.{◌-◌}
 use mathlib.Core.Path.{refl, sym, ◌∙◌, ap}
 use mathlib.Core.Bool.{false}
 use native.Mathlib.Omega.{arith}
@@ -50,9 +49,9 @@ loop-more-preserved c =
     let w : Fits a.y l.vol = record { laid = p.0; apart = p.1.1.1.1.1; long = l.invariant.0 ∙ p.1.0 } in
     let t =
     store_next a.y l.vol w false l.k l.left n l.invariant.1.1.1.1.0 l.place l.invariant.1.0 (drop l.from a.src.now)
-    c.put_piece.new.0 r.result c.next_cluster-next.result
+    c.put_piece.new.vol r.result c.next_cluster-next.result
     (omega (arith, r.ensures, length-drop l.from a.src.now)) c.put_piece.ensures c.next_cluster-next.ensures in (
-      c.put_piece.auto.0 ∙ l.invariant.0,
+      c.put_piece.auto.vol ∙ l.invariant.0,
       (
         omega arith,
         (
@@ -61,7 +60,7 @@ loop-more-preserved c =
             omega arith,
             (
               t.0,
-              ap (store_at a.y c.put_piece.new.0 _ 0) (sym (drop-drop r.result l.from a.src.now)) ∙ t.1 ∙ l.invariant.1.1.1.1.1,
+              ap (store_at a.y c.put_piece.new.vol _ 0) (sym (drop-drop r.result l.from a.src.now)) ∙ t.1 ∙ l.invariant.1.1.1.1.1,
             ),
           ),
         ),

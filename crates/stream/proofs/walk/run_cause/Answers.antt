@@ -12,8 +12,7 @@ use Rattle.metadata.specs.Internal.{first_unmarked}
 use Rattle.metadata.proofs.UnmarkedLaws.{unmarked_bounds, unmarked_before, unmarked_at}
 use Rattle.stream.specs.Stream.{run_cause}
 use Rattle.stream.proofs.ChainLaws.{run_none, run_outside, run_unmarked, run_jump}
-use Rattle.stream.proofs.walk.run_cause.Statement.{statement}
-use Rattle.stream.proofs.walk.run_cause.Tie as tie
+use Rattle.stream.proofs.walk.run_cause.Goals as goal
 
 -- a run from a cluster of the heap on, up to the first of its clusters that is unmarked or outside the heap
 module _ (y : Layout) (d : List ℕ) (first n next : ℕ) (i : in_heap y.count first ≡ true) (e : next ≡ first_unmarked y d first (min n (y.count + 2 - first))) where
@@ -42,41 +41,19 @@ module _ (y : Layout) (d : List ℕ) (first n next : ℕ) (i : in_heap y.count f
       let b = unmarked_bounds y d first (min n (y.count + 2 - first)) in
       sym (run_past ∙ run_outside y.count (marked y d) next (n - (next - first)) (omega arith) w)
 
-in-heap-requires : tie.Need-in-heap-requires
-in-heap-requires c κs = search rules
-
-past-marked-requires : tie.Need-past-marked-requires
-past-marked-requires c κs =
-    let h = in_heap_lem _ _ (sym c.before.in_heap_lem.ensures ∙ c.if1.true) in
+pub past_marked-next-requires : goal.past_marked-next-requires
+past_marked-next-requires c =
+    let h = in_heap_lem _ _ (sym c.in_heap.ensures ∙ c.if-in_heap.true) in
     search rules
 
-sub-if2 : tie.Need-overflow-sub-if2
-sub-if2 c = search rules
+pub returns-then-next-first : goal.returns-then-next-first
+returns-then-next-first c = run-whole _ _ _ _ _ (cc) c.past_marked-next.ensures.0 (omega arith)
 
-returns : tie.Need-returns
-returns c = run-whole _ _ _ _ _ (cc) c.before.past-marked.ensures.0 (omega arith)
+pub returns-then-in_heap-2 : goal.returns-then-in_heap-2
+returns-then-in_heap-2 c = run-stops _ _ _ _ _ (cc) c.past_marked-next.ensures.0 (λ z. omega arith) (cc)
 
-in-heap-requires-2 : tie.Need-in-heap-requires-2
-in-heap-requires-2 c κs = search rules
+pub returns-else-in_heap-2 : goal.returns-else-in_heap-2
+returns-else-in_heap-2 c = run-leaves _ _ _ _ _ (cc) c.past_marked-next.ensures.0 (λ z. omega arith) (cc)
 
-returns-2 : tie.Need-returns-2
-returns-2 c = run-stops _ _ _ _ _ (cc) c.before.before.before.past-marked.ensures.0 (λ z. omega arith) (cc)
-
-returns-3 : tie.Need-returns-3
-returns-3 c = run-leaves _ _ _ _ _ (cc) c.before.before.before.past-marked.ensures.0 (λ z. omega arith) (cc)
-
-returns-4 : tie.Need-returns-4
-returns-4 c = sym (run_outside _ _ _ _ (omega arith) (cc))
-
-pub run-cause-spec : {M : Type 1} → statement M
-run-cause-spec =
-    tie.close
-    (tie.spec
-    in-heap-requires
-    past-marked-requires
-    sub-if2
-    returns
-    in-heap-requires-2
-    returns-2
-    returns-3
-    returns-4)
+pub returns-else-in_heap : goal.returns-else-in_heap
+returns-else-in_heap c = sym (run_outside _ _ _ _ (omega arith) (cc))
