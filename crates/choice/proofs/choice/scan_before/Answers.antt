@@ -1,0 +1,14 @@
+use Prim.Native.Nat.{ℕ, ◌+◌}
+use mathlib.Core.Path.{◌∙◌, ap}
+use Rattle.metadata.specs.Usable.{is_usable}
+use Rattle.search.specs.Search.{run_from}
+use Rattle.search.proofs.Runs.{run_before}
+use Rattle.choice.proofs.choice.scan_before.Goals as goal
+
+pub returns : goal.returns
+returns c =
+    let a = c.args in
+    let p = c.requires in
+    let u = is_usable a.y a.vol.now a.map.now in
+    c.scan.ensures ∙ ap (λ (e : ℕ). run_from u e a.n 2) c.wrap_end-end.ensures
+    ∙ run_before u (a.y.count + 2) a.n a.start p.1.1.1.0 p.1.1.1.1.1.0 p.1.1.1.1.1.1
