@@ -117,8 +117,8 @@ module _ (y : Layout) (d m : List ℕ) (w : Fits y d) (a : Allocation) (n : ℕ)
         choose-after u y.count n (a.last + 1) (a.last + 1)
         (run_hit u (y.count + 2) n (a.last + 1) room (whole_all u (a.last + 1) n next.usable))
 
-    in_place : Picked u y.count n start true (consec (a.last + 1) n)
-    in_place =
+    in_place_lem : Picked u y.count n start true (consec (a.last + 1) n)
+    in_place_lem =
         subst (λ (s : ℕ). Picked u y.count n s true (consec (a.last + 1) n)) (sym (wrap_low y.count (a.last + 1) (omega (arith, room))))
         (subst (Picked u y.count n (a.last + 1) true) (chosen-run u y.count n (a.last + 1) next.low (a.last + 1) found)
         (run_picked u y.count n (a.last + 1) next.low (omega (arith, room)) (a.last + 1) found))
@@ -135,7 +135,7 @@ module _ (y : Layout) (d m : List ℕ) (w : Fits y d) (a : Allocation) (n : ℕ)
       adds = record {
         new = consec (a.last + 1) n;
         run = true;
-        picked = in_place;
+        picked = in_place_lem;
         reads = grown.reads;
         marks_new = grown.marks_new;
         marks_kept = grown.marks_kept;

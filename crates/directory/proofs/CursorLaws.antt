@@ -96,8 +96,8 @@ module _ (y : Layout) (fat : ℕ → ℕ) (run : Bool) where
         ∙ ap (next_entry y fat run) (row m (m * p) (p - 1) (rows m l) (omega arith))
         ∙ next_over (place m (32 * (p - 1))) (omega arith) ∙ ap (λ (k : ℕ). record { cluster = k; at = 0 }) (sym (reach_next fat run first m))
 
-    pub entry_place : (m j : ℕ) → j < p → entry_at y fat run first (m * p + j) ≡ record { cluster = reached fat run first m; at = 32 * j }
-    entry_place m j h = row m (m * p) j (rows m (omega arith)) h
+    pub entry_place_lem : (m j : ℕ) → j < p → entry_at y fat run first (m * p + j) ≡ record { cluster = reached fat run first m; at = 32 * j }
+    entry_place_lem m j h = row m (m * p) j (rows m (omega arith)) h
 
 -- ---- a directory that reads
 
@@ -177,7 +177,7 @@ module _ (y : Layout) (d : List ℕ) (w : Fits y d) (dir : Allocation) (reads : 
     there = record { cluster = reached fat run dir.first (i / per); at = 32 * (i % per) }
 
     pub there_is : entry_at y fat run dir.first i ≡ there
-    there_is = ap (entry_at y fat run dir.first) (sym split) ∙ entry_place y fat run per w.laid.whole dir.first (i / per) (i % per) rest
+    there_is = ap (entry_at y fat run dir.first) (sym split) ∙ entry_place_lem y fat run per w.laid.whole dir.first (i / per) (i % per) rest
 
     here_in : (2 ≤ there.cluster) × ((there.cluster < y.count + 2) × (there.at + 32 ≤ y.size))
     here_in =
@@ -271,7 +271,7 @@ module _ (y : Layout) (d : List ℕ) (w : Fits y d) (dir : Allocation) (reads : 
     pub counted_end : more < p → record { cluster = cluster; at = 32 * more } ≡ entry_at y (fat_entry y d) dir.no_fat_chain dir.first i
     counted_end h =
         ap (λ (x : ℕ). record { cluster = x; at = 32 * more }) c.there
-        ∙ sym (ap (entry_at y (fat_entry y d) dir.no_fat_chain dir.first) (sym c.whole) ∙ entry_place y (fat_entry y d) dir.no_fat_chain p w.laid.whole dir.first j more h)
+        ∙ sym (ap (entry_at y (fat_entry y d) dir.no_fat_chain dir.first) (sym c.whole) ∙ entry_place_lem y (fat_entry y d) dir.no_fat_chain p w.laid.whole dir.first j more h)
 
     -- by its byte
     pub counted_place : more < p → record { cluster = cluster; at = 32 * more } ≡ entry_place y d dir i

@@ -25,9 +25,9 @@ pub record Fit (C size n : ℕ) (s : List ℕ) : Type 0 where
 -- ---- what the parts of a well-formed set say
 
 module _ (C size : ℕ) (s : List ℕ) (w : well_formed C size s ≡ true) where
-  head_ok : head_ok s ≡ true
+  head_ok_lem : head_ok s ≡ true
   unfolding well_formed
-  head_ok = and_left (head_ok s) _ w
+  head_ok_lem = and_left (head_ok s) _ w
 
   stream_ok : stream_entry_ok s ≡ true
   unfolding well_formed
@@ -41,19 +41,19 @@ module _ (C size : ℕ) (s : List ℕ) (w : well_formed C size s ≡ true) where
 
   first_type : entry_type s 0 ≡ 0x85
   unfolding head_ok
-  first_type = eqb-true (entry_type s 0) 0x85 (and_left (eqb (entry_type s 0) 0x85) _ head_ok)
+  first_type = eqb-true (entry_type s 0) 0x85 (and_left (eqb (entry_type s 0) 0x85) _ head_ok_lem)
 
   second_low : 2 ≤ secondary_count s
   unfolding head_ok
   second_low =
-      leb-true 2 (secondary_count s) (and_left (leb 2 (secondary_count s)) _ (and_right (eqb (entry_type s 0) 0x85) _ head_ok))
+      leb-true 2 (secondary_count s) (and_left (leb 2 (secondary_count s)) _ (and_right (eqb (entry_type s 0) 0x85) _ head_ok_lem))
 
   second_high : secondary_count s ≤ 18
   unfolding head_ok
   second_high =
       leb-true (secondary_count s) 18
       (and_left (leb (secondary_count s) 18) _
-      (and_right (leb 2 (secondary_count s)) _ (and_right (eqb (entry_type s 0) 0x85) _ head_ok)))
+      (and_right (leb 2 (secondary_count s)) _ (and_right (eqb (entry_type s 0) 0x85) _ head_ok_lem)))
 
   second_is : secondary_count s ≡ 1 + name_entries (name_length s)
   unfolding head_ok
@@ -61,7 +61,7 @@ module _ (C size : ℕ) (s : List ℕ) (w : well_formed C size s ≡ true) where
       eqb-true (secondary_count s) (1 + name_entries (name_length s))
       (and_left (eqb (secondary_count s) (1 + name_entries (name_length s))) _
       (and_right (leb (secondary_count s) 18) _
-      (and_right (leb 2 (secondary_count s)) _ (and_right (eqb (entry_type s 0) 0x85) _ head_ok))))
+      (and_right (leb 2 (secondary_count s)) _ (and_right (eqb (entry_type s 0) 0x85) _ head_ok_lem))))
 
   stream_type : entry_type s 1 ≡ 0xC0
   unfolding stream_entry_ok

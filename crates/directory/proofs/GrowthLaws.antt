@@ -172,8 +172,8 @@ module _ (bs : List ℕ) (n : ℕ) (whole : length bs ≡ 32 * entry_count bs) w
       ∙ run_cong free (λ i. not (in_use (with_zeros bs (32 * k)) i)) (N + k) n 0 (λ j a b. ap not (zeros_used bs (32 * k) j))
 
   -- there always is one
-  pub place_at : free_run (with_zeros bs (32 * n)) n ≡ At (slot_of (free_run (with_zeros bs (32 * n)) n))
-  place_at =
+  pub place_at_lem : free_run (with_zeros bs (32 * n)) n ≡ At (slot_of (free_run (with_zeros bs (32 * n)) n))
+  place_at_lem =
       run_zeros n ∙ some_at free (N + n) n N (omega arith) (λ k a b. past k a) ∙ ap (λ (r : Found). At (slot_of r)) (sym (run_zeros n))
 
   -- what a scan knows that ends, or that finds n entries: no start below base works
@@ -280,7 +280,7 @@ module _ (size per : ℕ) (e : size ≡ 32 * per) (pos : 1 ≤ per) (bs : List �
 
   grown_found : free_run grown n ≡ At (slot_of (free_run grown n))
   unfolding slot_of
-  grown_found = let q = grown_at bs n whole base (place_at bs n whole) size per e pos in q ∙ ap At (ap slot_of (sym q))
+  grown_found = let q = grown_at bs n whole base (place_at_lem bs n whole) size per e pos in q ∙ ap At (ap slot_of (sym q))
 
   -- it has n entries in a row that are not in use: the set's slot begins them ..
   pub growth_fits : Row (with_zeros bs (growth size bs n * size)) n (slot_of (free_run (with_zeros bs (growth size bs n * size)) n))
@@ -294,5 +294,5 @@ module _ (size per : ℕ) (e : size ≡ 32 * per) (pos : 1 ≤ per) (bs : List �
   pub growth-fewest : (g : ℕ) → g < growth size bs n → (i : ℕ) → Row (with_zeros bs (g * size)) n i → ⊥
   growth-fewest g l =
       row_none (with_zeros bs (g * size)) n
-      (less_none bs n whole base (place_at bs n whole) size per e pos g
-      (omega (arith, growth_is bs n whole base (place_at bs n whole) size per e pos)))
+      (less_none bs n whole base (place_at_lem bs n whole) size per e pos g
+      (omega (arith, growth_is bs n whole base (place_at_lem bs n whole) size per e pos)))

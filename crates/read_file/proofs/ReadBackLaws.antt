@@ -81,8 +81,8 @@ module _ (g : Geometry) (d m z : List ℕ) (slot : ℕ) where
   cause_is = refl
 
   -- nothing refuses it where none of its causes is met
-  pub read_number : admit_cause g d m ≡ 0 → zero_cause z ≡ 0 → directory_cause y d a ≡ 0 → file_cause y d m a slot ≡ 0 → read_number g d m z slot ≡ 0
-  read_number p q r f =
+  pub read_number_lem : admit_cause g d m ≡ 0 → zero_cause z ≡ 0 → directory_cause y d a ≡ 0 → file_cause y d m a slot ≡ 0 → read_number g d m z slot ≡ 0
+  read_number_lem p q r f =
       number_is ∙ cause_skip (admit_cause g d m) (read_cause y d m a z slot ∷ []) p ∙ cause_last (read_cause y d m a z slot)
       ∙ cause_is ∙ cause_skip (zero_cause z) (directory_cause y d a ∷ file_cause y d m a slot ∷ []) q
       ∙ cause_skip (directory_cause y d a) (file_cause y d m a slot ∷ []) r ∙ cause_last (file_cause y d m a slot) ∙ f

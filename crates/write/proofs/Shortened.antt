@@ -223,9 +223,9 @@ module _ (g : Geometry) (m d : List ℕ) (c : Consistent g m d) (i len : ℕ) (t
   same : contents_of y d₂ (some x) ≡ onto (λ l. resize l len) (contents g d i)
   same = after ∙ sym (ap (onto (λ l. resize l len)) before ∙ (unfold onto in refl))
 
-  set_after : set_after g m d (SetLength i len t hint) ≡ some x
+  set_after_lem : set_after g m d (SetLength i len t hint) ≡ some x
   unfolding set_after stream_at file_clusters
-  set_after = rw (lt-ltb len (data_length s) less) refl
+  set_after_lem = rw (lt-ltb len (data_length s) less) refl
 
   hinted : hint ≡ hint_answered g d d₂ (SetLength i len t hint)
   unfolding hint_of must_add beyond
@@ -234,5 +234,5 @@ module _ (g : Geometry) (m d : List ℕ) (c : Consistent g m d) (i len : ℕ) (t
   pub shorter-step : Step g m d (SetLength i len t hint)
   unfolding call_slot accepted finds has_list root_adds slot_answered
   shorter-step =
-      carried_step g m d (SetLength i len t hint) 0 hint d₂ 0 (some x) c done set_after refl refl hinted change
+      carried_step g m d (SetLength i len t hint) 0 hint d₂ 0 (some x) c done set_after_lem refl refl hinted change
       (same ∙ sym (upd_same (contents g d) i (onto (λ l. resize l len) (contents g d i)))) (ap has_list before)

@@ -1,0 +1,4 @@
+use Rattle.directory.proofs.entries.in_use.Goals as goal
+
+pub returns : goal.returns
+returns c = cc
