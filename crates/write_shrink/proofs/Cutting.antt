@@ -47,6 +47,7 @@ distinct_right (x ∷ xs) ys (more o d) = distinct_right xs ys d
 pub distinct_apart : (xs ys : List ℕ) → Distinct (xs ++ ys) → (k : ℕ) → Mem k xs → Mem k ys → ⊥
 distinct_apart (x ∷ xs) ys (more o d) k (here e) q = o (mem_right xs (subst (λ (z : ℕ). Mem z ys) e q))
 distinct_apart (x ∷ xs) ys (more o d) k (there p) q = distinct_apart xs ys d k p q
+distinct_apart [] ys _ k x4 q = elim x4 [ ]
 
 -- ---- the kept part
 

@@ -1,0 +1,15 @@
+use mathlib.Core.Bool.{true}
+use mathlib.Core.Path.{◌≡◌}
+use lib.ListN.{length}
+use Rattle.tables.specs.Lists.{every, Distinct}
+use Rattle.boot.specs.Layout.{in_heap}
+use Rattle.metadata.specs.Fat.{fat_entry}
+use Rattle.stream.specs.Internal.{along}
+use Rattle.write_shrink.specs.Shrink.{free_all}
+use Rattle.write_shrink.proofs.shrink.free_from.Given as goal
+
+abbrev pub invariant-loop-left : goal.invariant-loop-left
+invariant-loop-left l = (length l.vol ≡ length l.initial.vol) × ((every (in_heap l.y.count) (along (fat_entry l.y l.vol) l.run l.k l.left) ≡ true) × (Distinct (along (fat_entry l.y l.vol) l.run l.k l.left) × (free_all l.y l.vol (along (fat_entry l.y l.vol) l.run l.k l.left) ≡ free_all l.y l.initial.vol (along (fat_entry l.y l.initial.vol) l.run l.first l.n))))
+
+abbrev pub decreases-loop-left : goal.decreases-loop-left
+decreases-loop-left l = l.left

@@ -1,0 +1,35 @@
+use mathlib.Core.Path.{sym, ◌∙◌}
+use native.Mathlib.Omega.{arith}
+use borrow.Author.Rules.{rules}
+use Rattle.boot.proofs.Apart.{in_heap_lem}
+use Rattle.stream.proofs.StreamLaws.{along_head, along_rest}
+use Rattle.write_shrink.proofs.Cutting.{walk_none, walk_step, kept_none, kept_some}
+use Rattle.write_shrink.proofs.shrink.kept_part.Goals as goal
+
+pub returns-then-n-eq0 : goal.returns-then-n-eq0
+returns-then-n-eq0 c = sym (kept_none _ _ _ _ (omega arith))
+
+pub next_cluster-next-requires : goal.next_cluster-next-requires
+next_cluster-next-requires c =
+    let h = in_heap_lem _ _ (along_head _ _ _ _ _ (omega arith) c.requires.1.1) in
+    search rules
+
+pub loop-left-init : goal.loop-left-init
+loop-left-init c =
+    let p = c.requires.1.1 in
+    let h = in_heap_lem _ _ (along_head _ _ _ _ _ (omega arith) p) in
+    (h.1, (c.next_cluster-next.ensures, (rw c.next_cluster-next.ensures (along_rest _ _ _ _ _ (omega arith) p), sym (kept_some _ _ _ _ (λ z. omega arith)))))
+
+pub next_cluster-next-requires-in-loop-left : goal.next_cluster-next-requires-in-loop-left
+next_cluster-next-requires-in-loop-left c =
+    let h = in_heap_lem _ _ (along_head _ _ _ _ _ (omega arith) c.loop-left.invariant.1.1.0) in
+    search rules
+
+pub loop-left-preserved : goal.loop-left-preserved
+loop-left-preserved c =
+    let i = c.loop-left.invariant in
+    let h = in_heap_lem _ _ (along_head _ _ _ _ _ (omega arith) i.1.1.0) in
+    (h.1, (c.next_cluster-next-in-loop-left.ensures, (rw c.next_cluster-next-in-loop-left.ensures (along_rest _ _ _ _ _ (omega arith) i.1.1.0), (cc) ∙ (sym (walk_step _ _ _ _ _ (omega arith)) ∙ i.1.1.1))))
+
+pub returns : goal.returns
+returns c = (cc) ∙ (sym (walk_none _ _ _ _ _ (omega arith)) ∙ c.loop-left.invariant.1.1.1)
