@@ -1,7 +1,6 @@
 -- A read as the code meets its causes, and the file that it opens. Assumes nothing.
 use mathlib.Core.Path.{◌≡◌, refl, sym, ◌∙◌, ap}
-use mathlib.Core.Logic.{◌≢◌}
-use mathlib.Core.Bool.{Bool, true, false, not, ◌&&◌, cond}
+use mathlib.Core.Bool.{Bool, true, false, ◌&&◌, cond}
 use mathlib.Core.List.{List, [], ◌∷◌}
 use Prim.Native.Nat.{ℕ, suc, ◌+◌, ◌*◌, ◌/◌, ◌≤◌, ◌<◌}
 use native.Mathlib.Nat.{div-lt_iff_lt-mul}
@@ -15,7 +14,6 @@ use Rattle.tables.proofs.Cases.{and_assoc, and-true}
 use Rattle.boot.specs.declared.geometry.Geometry.{Geometry}
 use Rattle.boot.specs.declared.layout.Layout.{Layout}
 use Rattle.boot.specs.Geometry.{root_cluster}
-use Rattle.boot.specs.Layout.{layout_of}
 use Rattle.boot.specs.Causes.{first_cause, admit_cause}
 use Rattle.boot.proofs.CauseLaws.{cause_skip, cause_met, cause_last, cause_none}
 use Rattle.boot.proofs.Admission.{Admits}

@@ -1,5 +1,5 @@
 -- What only contracts of inner functions, and proofs, speak of: no promise of a public call and no clause of the claim needs it.
-use Rattle.std.specs.Prelude.{◌≡◌, true, false, cond, List, [], ◌∷◌, ℕ, ◌+◌, ◌≤◌, ◌<◌, ◌/◌, eqb, length, get_or, replicate}
+use Rattle.std.specs.Prelude.{◌≡◌, true, cond, List, [], ◌∷◌, ℕ, ◌<◌, ◌/◌, eqb, length, get_or, replicate}
 use Rattle.boot.specs.declared.layout.Layout.{Layout}
 use Rattle.boot.specs.Internal.{Laid}
 use Rattle.boot.specs.Causes.{first_cause}
@@ -12,7 +12,6 @@ use Rattle.directory.specs.declared.open_file.OpenFile.{OpenFile}
 use Rattle.directory.specs.Directory.{directory_cause}
 use Rattle.directory.specs.Open.{file_record, file_cause}
 use Rattle.directory.specs.Internal.{set_read, found_file, no_file}
-use Rattle.read_file.specs.declared.part.Part.{Part}
 
 -- the file of set s with stream b, which is not refused, and its cluster k at an offset below the valid length
 pub record Readable (y : Layout) (d s : List ℕ) (b : Allocation) (k offset : ℕ) : Type 0 where

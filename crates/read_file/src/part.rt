@@ -85,7 +85,7 @@ pub fn file_part(
 // A part lent, of the volume or of the zeros as its offset lies (01's form). The contract says which bytes it holds and where it lies.
 pub fn lend<'a>(vol: &'a [u8], zeros: &'a [u8], z: bool, start: u32, len: u32) -> &'a [u8]
     requires { Inside (length vol.now) (length zeros.now) (record { zeros = z; start = start; len = len }) }
-    ensures { (result.now ≡ part_bytes vol.now zeros.entry.now (record { zeros = z; start = start; len = len })) × (result.ptr ≡ part_place vol.entry.ref_ptr zeros.entry.ref_ptr (record { zeros = z; start = start; len = len })) }
+    ensures { (result.now ≡ part_bytes vol.now zeros.entry.now (record { zeros = z; start = start; len = len })) × (result.ref_ptr ≡ part_place vol.entry.ref_ptr zeros.entry.ref_ptr (record { zeros = z; start = start; len = len })) }
 {
     let a = start as usize;
     let n = len as usize;

@@ -1,0 +1,45 @@
+use mathlib.Core.Path.{◌∙◌}
+use Prim.Native.Nat.{◌<◌}
+use native.Mathlib.Omega.{arith}
+use Rattle.entry_set.specs.Fields.{valid_length}
+use Rattle.read_file.proofs.PartSteps.{valid_room, length_high, file-stored, file_zeros, file_past}
+use Rattle.read_file.proofs.part.file_part.Goals as goal
+
+pub stored_part-requires : goal.stored_part-requires
+stored_part-requires c =
+    let p = c.requires in
+    let a = c.args in
+    let v = c.valid_length-valid.ensures in
+    let h : a.offset < valid_length a.set.now = omega (arith, v) in
+    (p.laid, (p.long, (p.reads, (omega arith, (omega (arith, v, valid_room a.y a.vol.now a.set.now a.b a.k a.offset p), p.seen h)))))
+
+pub returns-then-offset-valid : goal.returns-then-offset-valid
+returns-then-offset-valid c =
+    let p = c.requires in
+    let a = c.args in
+    let v = c.valid_length-valid.ensures in
+    let h : a.offset < valid_length a.set.now = omega (arith, v) in
+    (cc) ∙ file-stored a.y a.vol.now a.set.now a.b a.k a.offset p a.zeros h
+
+pub zero_part-requires : goal.zero_part-requires
+zero_part-requires c =
+    let p = c.requires in
+    let a = c.args in
+    let e = c.data_length-len.ensures in
+    (omega arith, omega (arith, e, length_high a.y a.vol.now a.set.now a.b a.k a.offset p, p.laid.len_high))
+
+pub returns-then-offset-len : goal.returns-then-offset-len
+returns-then-offset-len c =
+    let p = c.requires in
+    let a = c.args in
+    let v = c.valid_length-valid.ensures in
+    let e = c.data_length-len.ensures in
+    (cc) ∙ file_zeros a.y a.vol.now a.set.now a.b a.k a.offset p a.zeros (omega (arith, v)) (omega (arith, e))
+
+pub returns : goal.returns
+returns c =
+    let p = c.requires in
+    let a = c.args in
+    let v = c.valid_length-valid.ensures in
+    let e = c.data_length-len.ensures in
+    (cc) ∙ file_past a.y a.vol.now a.set.now a.b a.k a.offset p a.zeros (omega (arith, v)) (omega (arith, e))
