@@ -40,6 +40,7 @@ use Rattle.write_extend.proofs.LongerLaws.{length_more, longer_grown, longer_num
 mem_some : {k : ℕ} (ks : List ℕ) → Mem k ks → 1 ≤ length ks
 mem_some (x ∷ xs) (here e) = omega arith
 mem_some (x ∷ xs) (there m) = omega arith
+mem_some {k = k} [] x' = elim x' [ ]
 
 -- whether a number stands in a list
 mem_dec : (k : ℕ) (ks : List ℕ) → Dec (Mem k ks)
