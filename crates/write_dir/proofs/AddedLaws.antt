@@ -60,6 +60,7 @@ nothing_in {k} m = none [] m refl
     none : (l : List ℕ) → Mem k l → length l ≡ 0 → ⊥
     none (x ∷ xs) (here e) q = omega arith
     none (x ∷ xs) (there n) q = omega arith
+    none [] x'' q = elim x'' [ ]
 
 splice_whole : (c s : List ℕ) → length s ≡ length c → splice c 0 s ≡ s
 unfolding splice

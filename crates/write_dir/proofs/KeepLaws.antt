@@ -3,7 +3,7 @@ use mathlib.Core.Path.{◌≡◌, refl, sym, ◌∙◌, ap, subst}
 use mathlib.Core.Bool.{true, false, false≢true}
 use mathlib.Core.List.{List, [], ◌∷◌, ◌++◌}
 use mathlib.Core.Logic.{⊎_elim}
-use Prim.Native.Nat.{ℕ, zero, suc, ◌+◌, ◌≤◌}
+use Prim.Native.Nat.{ℕ, zero, suc, ◌≤◌}
 use native.Mathlib.Omega.{arith}
 use lib.ListN.{length, replicate, length-append, length-replicate}
 use Rattle.tables.specs.Lists.{Mem, here, every, last_or}
@@ -98,3 +98,4 @@ module _ (y : Layout) (P : ℕ → Type 0) (K : List ℕ → List ℕ → Type 0
     where
       only : {k : ℕ} (j : ℕ) → P k → Mem j (k ∷ []) → P j
       only j p (here q) = subst P (sym q) p
+      only {k = k} j p (Rattle.tables.specs.Lists.there x10) = elim x10 [ ]
