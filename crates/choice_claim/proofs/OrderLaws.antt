@@ -41,12 +41,15 @@ rises_take (suc n) lo (k ∷ ks) (step h r) = step {lo = lo} {k = k} {ks = take 
 rises_above : (lo : ℕ) (ks : List ℕ) → Rises lo ks → (k : ℕ) → Mem k ks → lo ≤ k
 rises_above lo (x ∷ ks) (step h r) k (here e) = omega arith
 rises_above lo (x ∷ ks) (step h r) k (there m) = omega (arith, rises_above (suc x) ks r k m)
+rises_above lo [] _ k x3 = elim x3 [ ]
 
 -- what is left behind the first n stands above them
 behind : (n lo : ℕ) (ks : List ℕ) → Rises lo ks → (k : ℕ) → Mem k ks → (Mem k (take n ks) → ⊥) → (j : ℕ) → Mem j (take n ks) → j < k
 behind (suc n) lo (x ∷ ks) (step h r) k (here e) o j m = absurd (o (here e))
 behind (suc n) lo (x ∷ ks) (step h r) k (there i) o j (here e) = omega (arith, rises_above (suc x) ks r k i)
 behind (suc n) lo (x ∷ ks) (step h r) k (there i) o j (there m) = behind n (suc x) ks r k i (λ q. o (there q)) j m
+behind zero lo ks _ k _ o j m = elim m [ ]
+behind (suc n) lo [] _ k x10 o j m = elim x10 [ ]
 
 -- clusters ks of a search from start: those from the start on, then those before it, both rising, and a usable cluster that is not among
 -- them comes behind them all
