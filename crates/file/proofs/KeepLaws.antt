@@ -1,6 +1,6 @@
 -- What the calls on files share keeps what each store keeps: nothing is stored but in usable clusters, the directory's and the file's.
 -- Assumes nothing.
-use Rattle.std.proofs.Common.{◌≡◌, ℕ, ◌-◌, ◌≤◌, true, false, not, List, sym, ap, ◌∙◌, subst, ⊎_elim}
+use Rattle.std.proofs.Common.{◌≡◌, ℕ, ◌≤◌, true, false, not, List, sym, ap, ◌∙◌, subst, ⊎_elim}
 use mathlib.Core.Bool.{false≢true}
 use Rattle.tables.specs.Lists.{Mem, every}
 use Rattle.tables.specs.Count.{count}

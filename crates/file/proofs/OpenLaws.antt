@@ -1,5 +1,5 @@
 -- What is known of a file that opens, and what refuses one. Assumes nothing.
-use Rattle.std.proofs.Common.{◌≡◌, ℕ, ◌+◌, ◌-◌, ◌*◌, ◌/◌, ◌<◌, ◌≤◌, min, Bool, true, false, cond, not, eqb, List, [], ◌∷◌, length, take, drop, replicate, sym, refl, ap, ◌∙◌, subst, mul-le-mul_right, arith, ne_eqb, eqb-true}
+use Rattle.std.proofs.Common.{◌≡◌, ℕ, ◌+◌, ◌*◌, ◌/◌, ◌<◌, ◌≤◌, min, Bool, true, false, cond, not, eqb, List, [], ◌∷◌, length, take, drop, replicate, sym, refl, ap, ◌∙◌, subst, mul-le-mul_right, arith, ne_eqb, eqb-true}
 use Rattle.tables.specs.Lists.{every}
 use Rattle.boot.specs.declared.layout.Layout.{Layout}
 use Rattle.boot.specs.Limits.{in_map}
@@ -24,12 +24,11 @@ use Rattle.entry_set.proofs.LengthLaws.{clusters_hold}
 use Rattle.entry_set.proofs.SetLaws.{formed_lengths}
 use Rattle.file.specs.declared.answer.FileAnswer.{FileAnswer}
 use Rattle.file.specs.Outcome.{Outcome, refuse, carried}
-use Rattle.directory.specs.declared.directory.Directory.{Directory}
-use Rattle.directory.specs.Directory.{root_record, bitmap_cause, directory_cause}
-use Rattle.directory.specs.Internal.{open_root, spot_of, spot_clusters, Reaches, no_file, start_place, found_file, open_file, set_read}
+use Rattle.directory.specs.Directory.{bitmap_cause, directory_cause}
+use Rattle.directory.specs.Internal.{spot_of, spot_clusters, Reaches, no_file, start_place, found_file, open_file, set_read}
 use Rattle.directory.proofs.DirectoryLaws.{clusters_length}
 use Rattle.directory.specs.Entries.{entry_count, entries_at, set_at, is_sound}
-use Rattle.directory.proofs.EntryLaws.{sound_file, sound_few, sound_room, sound_formed, set-count}
+use Rattle.directory.proofs.EntryLaws.{sound_few, sound_room, sound_formed, set-count}
 use Rattle.directory.proofs.FileLaws.{record_count, file_sound, file-read}
 use Rattle.directory.proofs.StartLaws.{start_known}
 use Rattle.directory.specs.declared.open_file.OpenFile.{OpenFile}
