@@ -5,14 +5,13 @@ use mathlib.Core.Logic.{◌≢◌, ◌⊎◌, inl, inr, ⊎_elim}
 use mathlib.Core.Bool.{true, false, not}
 use mathlib.Core.List.{[], List, ◌∷◌}
 use mathlib.Core.Option.{Option, none, some}
-use Prim.Native.Nat.{ℕ, ◌+◌, ◌-◌, ◌*◌, ◌≤◌}
+use Prim.Native.Nat.{ℕ, ◌+◌, ◌*◌, ◌≤◌}
 use native.Mathlib.Decide.{ℕ_discrete}
 use native.Mathlib.Omega.{arith}
 use lib.ListN.{length}
 use Rattle.primitives.specs.Splice.{splice}
 use Rattle.tables.specs.Table.{upd}
 use Rattle.tables.specs.Lists.{Mem, every}
-use Rattle.tables.specs.Count.{count}
 use Rattle.tables.proofs.Cases.{clash, and_both}
 use Rattle.tables.proofs.TableLaws.{upd_same, upd_other}
 use Rattle.tables.proofs.ListLaws.{every_mem}
@@ -135,6 +134,7 @@ family_put y d S i a reads plains apart own own-plain own-apart = record {
 -- no cluster stands in the empty list
 pub out_of_empty : {k : ℕ} (l : List ℕ) → l ≡ [] → Mem k l → ⊥
 out_of_empty (x ∷ xs) e m = clash (cc)
+out_of_empty {k = k} [] e m = elim m [ ]
 
 -- an empty record has no clusters and no bytes
 module _ (y : Layout) (d : List ℕ) (a : Allocation) (z : a.count ≡ 0) where

@@ -68,7 +68,7 @@ module _ (y : Layout) (d : List ℕ) (w : Fits y d) (b : Allocation) (ks : List 
       empty = λ z.
           let r : b ≡ empty = bare (sym all ∙ clusters_none y.size big len z) in
           (ap (λ (x : Allocation). x.first) r, ap (λ (x : Allocation). x.no_fat_chain) r);
-      in_heap_lem = λ n. first_heap y d b ks e (some-count n);
+      in-heap = λ n. first_heap y d b ks e (some-count n);
       room = λ n. omega (arith, all, few);
       end = λ n r. omega (arith, all, run_ends y d b ks e (some-count n) r);
     }

@@ -1,6 +1,6 @@
 -- A member of a family made longer or shorter. Assumes nothing.
 use mathlib.Core.Path.{◌≡◌, refl, sym, ◌∙◌, ap, subst}
-use mathlib.Core.Logic.{◌≢◌, ◌⊎◌, ⊎_elim}
+use mathlib.Core.Logic.{◌≢◌, ⊎_elim}
 use mathlib.Core.Bool.{Bool, true, false, not, cond, false≢true}
 use mathlib.Core.List.{[], List, ◌∷◌, ◌++◌, append-nil}
 use mathlib.Core.Option.{Option, some}

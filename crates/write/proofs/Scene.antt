@@ -4,7 +4,7 @@ use mathlib.Core.Logic.{◌≢◌}
 use mathlib.Core.Bool.{Bool, true, false, not, cond, false≢true}
 use mathlib.Core.List.{[], List, ◌∷◌}
 use mathlib.Core.Option.{Option, none, some, some-injective}
-use Prim.Native.Nat.{ℕ, zero, suc, ◌-◌, ◌*◌, ◌/◌, ◌≤◌}
+use Prim.Native.Nat.{ℕ, zero, suc, ◌*◌, ◌/◌, ◌≤◌}
 use native.Mathlib.Nat.{mul_left_comm}
 use native.Mathlib.Omega.{arith}
 use lib.ListN.{length}
@@ -15,7 +15,7 @@ use Rattle.tables.proofs.ListLaws.{every_mem, mem_every}
 use Rattle.boot.specs.declared.geometry.Geometry.{Geometry}
 use Rattle.boot.specs.declared.layout.Layout.{Layout}
 use Rattle.boot.specs.Geometry.{root_cluster}
-use Rattle.boot.specs.Limits.{in_map, apart, limits}
+use Rattle.boot.specs.Limits.{in_map, limits}
 use Rattle.boot.specs.Layout.{layout_of, in_heap, is_bitmap_cluster}
 use Rattle.boot.specs.Causes.{first_cause}
 use Rattle.boot.proofs.Admission.{limits_admits}
