@@ -264,7 +264,7 @@ module _ (bs : List ℕ) (n : ℕ) where
   unfolding free_run
   row_lowest i e =
       let v = run_at (λ j. not (in_use bs j)) (entry_count bs) n 0 i e in
-      (record { inside = v.inside; unused = λ j a b. not-true (in_use bs j) (v.whole j a b) }, λ j l w. v.least j (omega arith) l (row_whole j w))
+      (record { inside = omega (arith, v.inside); unused = λ j a b. not-true (in_use bs j) (v.whole j a b) }, λ j l w. v.least j (omega arith) l (row_whole j w))
 
   row_none : free_run bs n ≡ Nothing → (i : ℕ) → Row bs n i → ⊥
   unfolding free_run
