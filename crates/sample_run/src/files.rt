@@ -7,9 +7,11 @@ use crate::row::{of_file, stamps};
 use boot::geometry::Geometry;
 use carry_out::carry_out::Kind;
 use entry_set::stamp::Stamps;
+use std::io;
 
 // A call by carry_out, with all arguments.
 fn carried(
+    to: &impl Print,
     kind: Kind,
     map: &[u8],
     g: Geometry,
@@ -19,7 +21,7 @@ fn carried(
     vol: [u8; 65792],
     want: &[u8; 65792],
     e: usize,
-)
+) -> io::Result<()>
     requires { (128 ≤ e) × (e ≤ 41088) }
 {
     let mut left = vol;
@@ -39,11 +41,19 @@ fn carried(
         t,
         x.hint,
     );
-    out::file(b" by carry_out: ", r, left, want, e);
+    out::file(to, b" by carry_out: ", r, left, want, e)
 }
 
 // New file.
-fn new_file(map: &[u8], g: Geometry, name: &[u16], vol: [u8; 65792], want: &[u8; 65792], e: usize)
+fn new_file(
+    to: &impl Print,
+    map: &[u8],
+    g: Geometry,
+    name: &[u16],
+    vol: [u8; 65792],
+    want: &[u8; 65792],
+    e: usize,
+) -> io::Result<()>
     requires { (128 ≤ e) × (e ≤ 41088) }
 {
     let mut left = vol;
@@ -60,26 +70,51 @@ fn new_file(map: &[u8], g: Geometry, name: &[u16], vol: [u8; 65792], want: &[u8;
         t,
         x.hint,
     );
-    out::file(b": ", r, left, want, e);
-    carried(Kind::NewFile, map, g, name, b"not read", t, vol, want, e);
+    out::file(to, b": ", r, left, want, e)?;
+    carried(
+        to,
+        Kind::NewFile,
+        map,
+        g,
+        name,
+        b"not read",
+        t,
+        vol,
+        want,
+        e,
+    )
 }
 
 // New file, with its name: as many units from byte 41240 on.
-pub fn named(map: &[u8], g: Geometry, units: usize, vol: [u8; 65792], want: &[u8; 65792], e: usize)
+pub fn named(
+    to: &impl Print,
+    map: &[u8],
+    g: Geometry,
+    units: usize,
+    vol: [u8; 65792],
+    want: &[u8; 65792],
+    e: usize,
+) -> io::Result<()>
     requires { (units ≤ 300) × ((128 ≤ e) × (e ≤ 41088)) }
 {
     let mut name = [0u16; 300];
     let a = 0;
-    let mut i = 0;
-    while i < units {
+    for i in 0..units {
         name[i] = primitives::words::u16_at(want, 41240 + 2 * i);
-        i += 1;
     }
-    new_file(map, g, &name[a..units], vol, want, e);
+    new_file(to, map, g, &name[a..units], vol, want, e)
 }
 
 // Write.
-pub fn write(map: &[u8], g: Geometry, data: &[u8], vol: [u8; 65792], want: &[u8; 65792], e: usize)
+pub fn write(
+    to: &impl Print,
+    map: &[u8],
+    g: Geometry,
+    data: &[u8],
+    vol: [u8; 65792],
+    want: &[u8; 65792],
+    e: usize,
+) -> io::Result<()>
     requires { (128 ≤ e) × (e ≤ 41088) }
 {
     let mut left = vol;
@@ -96,13 +131,20 @@ pub fn write(map: &[u8], g: Geometry, data: &[u8], vol: [u8; 65792], want: &[u8;
         t.modified,
         x.hint,
     );
-    out::file(b": ", r, left, want, e);
+    out::file(to, b": ", r, left, want, e)?;
     let name = [88u16; 3];
-    carried(Kind::Write, map, g, &name, data, t, vol, want, e);
+    carried(to, Kind::Write, map, g, &name, data, t, vol, want, e)
 }
 
 // Set length.
-pub fn set_length(map: &[u8], g: Geometry, vol: [u8; 65792], want: &[u8; 65792], e: usize)
+pub fn set_length(
+    to: &impl Print,
+    map: &[u8],
+    g: Geometry,
+    vol: [u8; 65792],
+    want: &[u8; 65792],
+    e: usize,
+) -> io::Result<()>
     requires { (128 ≤ e) × (e ≤ 41088) }
 {
     let mut left = vol;
@@ -118,13 +160,31 @@ pub fn set_length(map: &[u8], g: Geometry, vol: [u8; 65792], want: &[u8; 65792],
         t.modified,
         x.hint,
     );
-    out::file(b": ", r, left, want, e);
+    out::file(to, b": ", r, left, want, e)?;
     let name = [88u16; 3];
-    carried(Kind::SetLength, map, g, &name, b"not read", t, vol, want, e);
+    carried(
+        to,
+        Kind::SetLength,
+        map,
+        g,
+        &name,
+        b"not read",
+        t,
+        vol,
+        want,
+        e,
+    )
 }
 
 // Remove.
-pub fn remove(map: &[u8], g: Geometry, vol: [u8; 65792], want: &[u8; 65792], e: usize)
+pub fn remove(
+    to: &impl Print,
+    map: &[u8],
+    g: Geometry,
+    vol: [u8; 65792],
+    want: &[u8; 65792],
+    e: usize,
+) -> io::Result<()>
     requires { (128 ≤ e) × (e ≤ 41088) }
 {
     let mut left = vol;
@@ -132,7 +192,18 @@ pub fn remove(map: &[u8], g: Geometry, vol: [u8; 65792], want: &[u8; 65792], e: 
     let t = stamps(want);
     let x = of_file(want);
     let r = write_remove::remove::remove(&mut left[a..e], map, g, x.slot, x.hint);
-    out::file(b": ", r, left, want, e);
+    out::file(to, b": ", r, left, want, e)?;
     let name = [88u16; 3];
-    carried(Kind::Remove, map, g, &name, b"not read", t, vol, want, e);
+    carried(
+        to,
+        Kind::Remove,
+        map,
+        g,
+        &name,
+        b"not read",
+        t,
+        vol,
+        want,
+        e,
+    )
 }

@@ -2,12 +2,14 @@
 // it was made; the file stdout has a line for each call, as the Rust answered it.
 #![tactic(auto)]
 
+use std::io;
+
 mod files;
 mod out;
 mod row;
 mod streams;
 mod tape;
 
-fn main() {
-    tape::all();
+fn main(rt: HostRuntime) -> io::Result<()> {
+    tape::all(&rt)
 }

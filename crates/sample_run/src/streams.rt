@@ -4,10 +4,18 @@ ghost use Rattle.std.specs.Prelude.{◌≤◌};
 use crate::out;
 use boot::geometry::Geometry;
 use primitives::words::put_u32;
+use std::io;
 use stream::allocation::Allocation;
 
 // Free count.
-pub fn free_count(map: &[u8], g: Geometry, vol: [u8; 65792], want: &[u8; 65792], e: usize)
+pub fn free_count(
+    to: &impl Print,
+    map: &[u8],
+    g: Geometry,
+    vol: [u8; 65792],
+    want: &[u8; 65792],
+    e: usize,
+) -> io::Result<()>
     requires { (128 ≤ e) × (e ≤ 41088) }
 {
     let mut got = vol;
@@ -15,35 +23,55 @@ pub fn free_count(map: &[u8], g: Geometry, vol: [u8; 65792], want: &[u8; 65792],
     let f = metadata::free::free_clusters(&got[a..e], map, g);
     put_u32(&mut got, 0, f.number);
     put_u32(&mut got, 4, f.count);
-    out::line(b": ", &got, want, e);
+    out::line(to, b": ", &got, want, e)
 }
 
 // The line of a listing.
-fn listed(number: u32, list: [u32; 24], vol: [u8; 65792], want: &[u8; 65792], e: usize)
+fn listed(
+    to: &impl Print,
+    number: u32,
+    list: [u32; 24],
+    vol: [u8; 65792],
+    want: &[u8; 65792],
+    e: usize,
+) -> io::Result<()>
     requires { e ≤ 41088 }
 {
     let mut got = vol;
-    let mut i = 0;
-    while i < 24 {
+    for i in 0..24 {
         put_u32(&mut got, 4 + 4 * i, list[i]);
-        i += 1;
     }
     put_u32(&mut got, 0, number);
-    out::line(b": ", &got, want, e);
+    out::line(to, b": ", &got, want, e)
 }
 
 // Clusters, into 24 places that hold 99 each; the places past the stream's end must keep it.
-fn clusters(map: &[u8], g: Geometry, s: Allocation, vol: [u8; 65792], want: &[u8; 65792], e: usize)
+fn clusters(
+    to: &impl Print,
+    map: &[u8],
+    g: Geometry,
+    s: Allocation,
+    vol: [u8; 65792],
+    want: &[u8; 65792],
+    e: usize,
+) -> io::Result<()>
     requires { (128 ≤ e) × (e ≤ 41088) }
 {
     let mut list = [99u32; 24];
     let a = 128;
     let number = stream::list::clusters(&vol[a..e], map, g, s, &mut list);
-    listed(number, list, vol, want, e);
+    listed(to, number, list, vol, want, e)
 }
 
 // Allocate.
-pub fn allocate(map: &[u8], g: Geometry, vol: [u8; 65792], want: &[u8; 65792], e: usize)
+pub fn allocate(
+    to: &impl Print,
+    map: &[u8],
+    g: Geometry,
+    vol: [u8; 65792],
+    want: &[u8; 65792],
+    e: usize,
+) -> io::Result<()>
     requires { (128 ≤ e) × (e ≤ 41088) }
 {
     let mut left = vol;
@@ -59,11 +87,12 @@ pub fn allocate(map: &[u8], g: Geometry, vol: [u8; 65792], want: &[u8; 65792], e
         x.first,
         x.hint,
     );
-    out::stream(r, left, want, e);
+    out::stream(to, r, left, want, e)
 }
 
 // Extend.
 fn extend(
+    to: &impl Print,
     map: &[u8],
     g: Geometry,
     s: Allocation,
@@ -72,17 +101,18 @@ fn extend(
     vol: [u8; 65792],
     want: &[u8; 65792],
     e: usize,
-)
+) -> io::Result<()>
     requires { (128 ≤ e) × (e ≤ 41088) }
 {
     let mut left = vol;
     let a = 128;
     let r = write_extend::extend::extend_clusters(&mut left[a..e], map, g, s, more, hint);
-    out::stream(r, left, want, e);
+    out::stream(to, r, left, want, e)
 }
 
 // Shrink.
 fn shrink(
+    to: &impl Print,
     map: &[u8],
     g: Geometry,
     s: Allocation,
@@ -91,17 +121,25 @@ fn shrink(
     vol: [u8; 65792],
     want: &[u8; 65792],
     e: usize,
-)
+) -> io::Result<()>
     requires { (128 ≤ e) × (e ≤ 41088) }
 {
     let mut left = vol;
     let a = 128;
     let r = write_shrink::shrink::shrink_clusters(&mut left[a..e], map, g, s, keep, hint);
-    out::stream(r, left, want, e);
+    out::stream(to, r, left, want, e)
 }
 
 // A call on a stream that has a record.
-pub fn on_record(kind: u32, map: &[u8], g: Geometry, vol: [u8; 65792], want: &[u8; 65792], e: usize)
+pub fn on_record(
+    to: &impl Print,
+    kind: u32,
+    map: &[u8],
+    g: Geometry,
+    vol: [u8; 65792],
+    want: &[u8; 65792],
+    e: usize,
+) -> io::Result<()>
     requires { (128 ≤ e) × (e ≤ 41088) }
 {
     let x = crate::row::of_stream(want);
@@ -112,8 +150,9 @@ pub fn on_record(kind: u32, map: &[u8], g: Geometry, vol: [u8; 65792], want: &[u
         no_fat_chain: x.flag == 1,
     };
     match kind {
-        1 => clusters(map, g, s, vol, want, e),
-        3 => extend(map, g, s, x.number, x.hint, vol, want, e),
-        _ => shrink(map, g, s, x.number, x.hint, vol, want, e),
+        1 => clusters(to, map, g, s, vol, want, e)?,
+        3 => extend(to, map, g, s, x.number, x.hint, vol, want, e)?,
+        _ => shrink(to, map, g, s, x.number, x.hint, vol, want, e)?,
     }
+    Ok(())
 }

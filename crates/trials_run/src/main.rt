@@ -2,11 +2,13 @@
 // them, written by tests/trials.py.
 #![tactic(auto)]
 
+use std::io;
+
 mod out;
 mod reads;
 mod trial;
 
-fn main() {
-    trial::all();
-    reads::all();
+fn main(rt: HostRuntime) -> io::Result<()> {
+    trial::all(&rt)?;
+    reads::all(&rt)
 }

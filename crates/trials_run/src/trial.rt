@@ -5,6 +5,7 @@ ghost use Rattle.trials.specs.Volume.{geometry};
 use crate::out;
 use boot::geometry::Geometry;
 use entry_set::stamp::Stamp;
+use std::io;
 use stream::allocation::Allocation;
 use write_alloc::answer::Answer;
 
@@ -54,48 +55,48 @@ fn chain(first: u32, last: u32, count: u32) -> Allocation
 }
 
 // Lists a record into 16 places that hold 99.
-fn listing(vol: &[u8], a: Allocation) {
+fn listing(to: &impl Print, vol: &[u8], a: Allocation) -> io::Result<()> {
     let mut list = [99u32; 16];
     let n = stream::list::clusters(vol, b"\x03\x00", volume(), a, &mut list);
-    out::list(n, &list);
+    out::list(to, n, &list)
 }
 
 // What the volume holds: the free count, the bitmap's bytes, the FAT, a checksum.
-fn state(vol: &[u8]) {
+fn state(to: &impl Print, vol: &[u8]) -> io::Result<()> {
     let r = metadata::free::free_clusters(vol, b"\x03\x00", volume());
-    out::text(b"  free");
-    out::number(r.number as u64);
-    out::number(r.count as u64);
-    out::end();
-    out::marks(vol);
-    out::fat(vol);
-    out::sum(vol);
+    out::text(to, b"  free")?;
+    out::number(to, r.number as u64)?;
+    out::number(to, r.count as u64)?;
+    out::end(to)?;
+    out::marks(to, vol)?;
+    out::fat(to, vol)?;
+    out::sum(to, vol)
 }
 
 // A record listed, and the volume.
-fn reading(vol: &[u8], a: Allocation) {
-    listing(vol, a);
-    state(vol);
+fn reading(to: &impl Print, vol: &[u8], a: Allocation) -> io::Result<()> {
+    listing(to, vol, a)?;
+    state(to, vol)
 }
 
 // An answer, the record that it gives, listed on the volume after the call, and that volume.
-fn report(vol: &[u8], r: Answer) {
-    out::answer(r);
-    reading(vol, r.allocation);
+fn report(to: &impl Print, vol: &[u8], r: Answer) -> io::Result<()> {
+    out::answer(to, r)?;
+    reading(to, vol, r.allocation)
 }
 
 // One trial: the bitmap's bytes are m0 and m1, the FAT's from entry 4 on begin with those of fat, entry 3 is the end, the rest is 0.
-fn trial(name: &[u8], m0: u8, m1: u8, fat: &[u8], call: Call) {
+fn trial(to: &impl Print, name: &[u8], m0: u8, m1: u8, fat: &[u8], call: Call) -> io::Result<()> {
     if 56 < fat.len() {
-        return;
+        return Ok(());
     }
     let mut vol = [0u8; 24576];
     vol[16384] = m0;
     vol[16385] = m1;
     primitives::words::put_u32(&mut vol, 12300, 0xFFFF_FFFF);
     primitives::slices::copy_in(&mut vol, 12304, fat, 0, fat.len());
-    out::text(name);
-    out::end();
+    out::text(to, name)?;
+    out::end(to)?;
     match call {
         Call::Allocate(n, hint) => {
             let r = write_alloc::allocate::allocate_clusters(
@@ -107,7 +108,7 @@ fn trial(name: &[u8], m0: u8, m1: u8, fat: &[u8], call: Call) {
                 0,
                 hint,
             );
-            report(&vol, r);
+            report(to, &vol, r)?;
         }
         Call::Extend(a, n, hint) => {
             let r = write_extend::extend::extend_clusters(
@@ -118,7 +119,7 @@ fn trial(name: &[u8], m0: u8, m1: u8, fat: &[u8], call: Call) {
                 n,
                 hint,
             );
-            report(&vol, r);
+            report(to, &vol, r)?;
         }
         Call::Shrink(a, keep, hint) => {
             let r = write_shrink::shrink::shrink_clusters(
@@ -129,103 +130,123 @@ fn trial(name: &[u8], m0: u8, m1: u8, fat: &[u8], call: Call) {
                 keep,
                 hint,
             );
-            report(&vol, r);
+            report(to, &vol, r)?;
         }
         Call::Read(a) => {
-            reading(&vol, a);
+            reading(to, &vol, a)?;
         }
     }
+    Ok(())
 }
 
 // T1 to T4: an empty volume.
-fn empty() {
-    trial(b"T1", 0x03, 0x00, b"", Call::Allocate(0, 4));
-    trial(b"T2", 0x03, 0x00, b"", Call::Allocate(3, 4));
-    trial(b"T3", 0x03, 0x00, b"", Call::Allocate(14, 4));
-    trial(b"T4", 0x03, 0x00, b"", Call::Allocate(15, 4));
+fn empty(to: &impl Print) -> io::Result<()> {
+    trial(to, b"T1", 0x03, 0x00, b"", Call::Allocate(0, 4))?;
+    trial(to, b"T2", 0x03, 0x00, b"", Call::Allocate(3, 4))?;
+    trial(to, b"T3", 0x03, 0x00, b"", Call::Allocate(14, 4))?;
+    trial(to, b"T4", 0x03, 0x00, b"", Call::Allocate(15, 4))
 }
 
 // T5 to T7: cluster 6 is bad.
-fn bad() {
+fn bad(to: &impl Print) -> io::Result<()> {
     let fat = b"\x00\x00\x00\x00\x00\x00\x00\x00\xF7\xFF\xFF\xFF";
-    trial(b"T5", 0x03, 0x00, fat, Call::Allocate(3, 4));
-    trial(b"T6", 0x03, 0x00, fat, Call::Allocate(13, 10));
-    trial(b"T7", 0x03, 0x00, fat, Call::Allocate(14, 10));
+    trial(to, b"T5", 0x03, 0x00, fat, Call::Allocate(3, 4))?;
+    trial(to, b"T6", 0x03, 0x00, fat, Call::Allocate(13, 10))?;
+    trial(to, b"T7", 0x03, 0x00, fat, Call::Allocate(14, 10))
 }
 
 // T8 and T9: a run that becomes a chain, and back.
-fn changes() {
-    trial(b"T8", 0x3F, 0x00, b"", Call::Extend(run(4, 6, 3), 1, 4));
+fn changes(to: &impl Print) -> io::Result<()> {
+    trial(to, b"T8", 0x3F, 0x00, b"", Call::Extend(run(4, 6, 3), 1, 4))?;
     let fat = b"\x05\x00\x00\x00\x06\x00\x00\x00\x08\x00\x00\x00\x00\x00\x00\x00\xFF\xFF\xFF\xFF";
-    trial(b"T9", 0x7F, 0x00, fat, Call::Shrink(chain(4, 8, 4), 3, 9));
+    trial(
+        to,
+        b"T9",
+        0x7F,
+        0x00,
+        fat,
+        Call::Shrink(chain(4, 8, 4), 3, 9),
+    )
 }
 
 // T10: FAT 4 to 5 to 4.
-fn loops() {
+fn loops(to: &impl Print) -> io::Result<()> {
     let fat = b"\x05\x00\x00\x00\x04\x00\x00\x00";
-    trial(b"T10", 0x0F, 0x00, fat, Call::Read(chain(4, 5, 2)));
+    trial(to, b"T10", 0x0F, 0x00, fat, Call::Read(chain(4, 5, 2)))?;
     trial(
+        to,
         b"T10 extend",
         0x0F,
         0x00,
         fat,
         Call::Extend(chain(4, 5, 2), 1, 4),
-    );
+    )?;
     trial(
+        to,
         b"T10 shrink",
         0x0F,
         0x00,
         fat,
         Call::Shrink(chain(4, 5, 2), 1, 4),
-    );
+    )
 }
 
 // A run's old FAT entries, 9, the end and 0x12345678, stay.
-fn old() {
+fn old(to: &impl Print) -> io::Result<()> {
     let fat = b"\x09\x00\x00\x00\xFF\xFF\xFF\xFF\x78\x56\x34\x12";
-    trial(b"old entries stay", 0x03, 0x00, fat, Call::Allocate(3, 4));
+    trial(
+        to,
+        b"old entries stay",
+        0x03,
+        0x00,
+        fat,
+        Call::Allocate(3, 4),
+    )
 }
 
 // 0xFFFFFFF8 in a chain is no end.
-fn eight() {
+fn eight(to: &impl Print) -> io::Result<()> {
     let fat = b"\x05\x00\x00\x00\xF8\xFF\xFF\xFF";
     trial(
+        to,
         b"FFFFFFF8 is no end",
         0x0F,
         0x00,
         fat,
         Call::Read(chain(4, 5, 2)),
-    );
+    )?;
     trial(
+        to,
         b"FFFFFFF8 extend",
         0x0F,
         0x00,
         fat,
         Call::Extend(chain(4, 5, 2), 1, 4),
-    );
+    )?;
     trial(
+        to,
         b"FFFFFFF8 shrink",
         0x0F,
         0x00,
         fat,
         Call::Shrink(chain(4, 5, 2), 1, 4),
-    );
+    )
 }
 
 // The file's set, and its bytes around 700, 900 and 1,024.
-fn stretches(vol: &[u8]) {
+fn stretches(to: &impl Print, vol: &[u8]) -> io::Result<()> {
     if vol.len() < 24576 {
-        return;
+        return Ok(());
     }
-    out::bytes(b"  set", &vol[16896..16992]);
-    out::bytes(b"  from 696", &vol[18104..18112]);
-    out::bytes(b"  from 896", &vol[18304..18312]);
-    out::bytes(b"  from 1020", &vol[18428..18436]);
+    out::bytes(to, b"  set", &vol[16896..16992])?;
+    out::bytes(to, b"  from 696", &vol[18104..18112])?;
+    out::bytes(to, b"  from 896", &vol[18304..18312])?;
+    out::bytes(to, b"  from 1020", &vol[18428..18436])
 }
 
 // A new length for a file "a" on the run 4..5, length and valid 700, its set at slot 0 of the root: its bytes are 0xA5, those
 // behind them in 5 and 6, old contents, 0xB5.
-fn new_length(name: &[u8], len: u64) {
+fn new_length(to: &impl Print, name: &[u8], len: u64) -> io::Result<()> {
     let set =
         b"\x85\x02\xEC\x16\x01\x00\x00\x00\x00\x00\x21\x5A\x00\x00\x21\x5A\x00\x00\x21\x5A\x0A\x0A\x84\x84\x84\x00\x00\x00\x00\x00\x00\x00\xC0\x03\x00\x01\x34\x12\x00\x00\xBC\x02\x00\x00\x00\x00\x00\x00\x00\x00\x00\x00\x04\x00\x00\x00\xBC\x02\x00\x00\x00\x00\x00\x00\xC1\x00a";
     let own = [0xA5u8; 700];
@@ -242,25 +263,25 @@ fn new_length(name: &[u8], len: u64) {
         offset: 0xA0,
     };
     let r = write_length::set_length::set_length(&mut vol, b"\x03\x00", volume(), 0, len, given, 4);
-    out::text(name);
-    out::end();
-    out::file_answer(r);
-    state(&vol);
-    stretches(&vol);
+    out::text(to, name)?;
+    out::end(to)?;
+    out::file_answer(to, r)?;
+    state(to, &vol)?;
+    stretches(to, &vol)
 }
 
 // T11 and T12: length and valid 700, set 1,300 and 900.
-fn lengths() {
-    new_length(b"T11", 1300);
-    new_length(b"T12", 900);
+fn lengths(to: &impl Print) -> io::Result<()> {
+    new_length(to, b"T11", 1300)?;
+    new_length(to, b"T12", 900)
 }
 
-pub fn all() {
-    empty();
-    bad();
-    changes();
-    loops();
-    lengths();
-    old();
-    eight();
+pub fn all(to: &impl Print) -> io::Result<()> {
+    empty(to)?;
+    bad(to)?;
+    changes(to)?;
+    loops(to)?;
+    lengths(to)?;
+    old(to)?;
+    eight(to)
 }

@@ -1,106 +1,111 @@
 // Checksums of file entry sets of 3, 4 and 19 entries. The sets are read from standard input, 608 bytes each, with zeros after the set.
 use crate::out;
-use libc::STDIN_FILENO;
+use std::io;
+use std::io::Read;
 
 // One line: the 32 bytes of entry i.
-fn entry(name: &[u8], set: &[u8], i: usize) {
+fn entry(to: &impl Print, name: &[u8], set: &[u8], i: usize) -> io::Result<()> {
     if i < 19 {
         let a = i * 32;
         let e = a + 32;
         if e <= set.len() {
-            out::text(b"entry ");
-            out::text(name);
-            out::number(i as u64);
-            out::bytes(&set[a..e]);
-            out::end();
+            out::text(to, b"entry ")?;
+            out::text(to, name)?;
+            out::number(to, i as u64)?;
+            out::bytes(to, &set[a..e])?;
+            out::end(to)?;
         }
     }
+    Ok(())
 }
 
 // A line for each of the first n entries.
-fn entries(name: &[u8], set: &[u8], n: usize) {
-    let mut i = 0;
-    while i < n {
-        entry(name, set, i);
-        i += 1;
+fn entries(to: &impl Print, name: &[u8], set: &[u8], n: usize) -> io::Result<()> {
+    for i in 0..n {
+        entry(to, name, set, i)?;
     }
+    Ok(())
 }
 
 // Writes the checksum of the first n bytes of a slice.
-fn of_slice(set: &[u8], n: usize) {
+fn of_slice(to: &impl Print, set: &[u8], n: usize) -> io::Result<()> {
     if n <= set.len() {
         let a = 0;
         let sum = primitives::checksum::entry_set_checksum(&set[a..n]);
-        out::word(sum as u64, 4);
+        out::word(to, sum as u64, 4)?;
     }
+    Ok(())
 }
 
 // Writes the checksum of the first n bytes of an array.
-fn of_array(set: &[u8; 608], n: usize) {
+fn of_array(to: &impl Print, set: &[u8; 608], n: usize) -> io::Result<()> {
     if n <= 608 {
         let sum = primitives::checksum::array_checksum(set, n);
-        out::word(sum as u64, 4);
+        out::word(to, sum as u64, 4)?;
     }
+    Ok(())
 }
 
 // One line: the checksum of the first n bytes, of a slice and of the array.
-fn sum(name: &[u8], set: &[u8; 608], n: usize) {
-    out::text(b"checksum ");
-    out::text(name);
-    out::number(n as u64);
-    of_slice(set, n);
-    of_array(set, n);
-    out::end();
+fn sum(to: &impl Print, name: &[u8], set: &[u8; 608], n: usize) -> io::Result<()> {
+    out::text(to, b"checksum ")?;
+    out::text(to, name)?;
+    out::number(to, n as u64)?;
+    of_slice(to, set, n)?;
+    of_array(to, set, n)?;
+    out::end(to)
 }
 
 // One line: the checksum that the set stores.
-fn stored(name: &[u8], set: &[u8]) {
+fn stored(to: &impl Print, name: &[u8], set: &[u8]) -> io::Result<()> {
     if 4 <= set.len() {
-        out::text(b"stored ");
-        out::text(name);
-        out::word(primitives::words::u16_at(set, 2) as u64, 4);
-        out::end();
+        out::text(to, b"stored ")?;
+        out::text(to, name)?;
+        out::word(to, primitives::words::u16_at(set, 2) as u64, 4)?;
+        out::end(to)?;
     }
+    Ok(())
 }
 
 // The lines of a set of n entries.
-fn whole(name: &[u8], n: usize) {
+fn whole(to: &impl Print, from: &mut impl Read, name: &[u8], n: usize) -> io::Result<()> {
     let mut set = [0u8; 608];
-    io::read_full(STDIN_FILENO, &mut set);
-    entries(name, &set, n);
+    from.read_exact(&mut set)?;
+    entries(to, name, &set, n)?;
     if n < 20 {
-        sum(name, &set, 32 * n);
+        sum(to, name, &set, 32 * n)?;
     }
-    stored(name, &set);
+    stored(to, name, &set)
 }
 
 // The first bytes of a set, with those that hold the checksum left out.
-fn starts(name: &[u8], set: &[u8; 608]) {
-    sum(name, set, 0);
-    sum(name, set, 1);
-    sum(name, set, 2);
-    sum(name, set, 3);
-    sum(name, set, 4);
-    sum(name, set, 5);
-    sum(name, set, 32);
-    sum(name, set, 607);
+fn starts(to: &impl Print, name: &[u8], set: &[u8; 608]) -> io::Result<()> {
+    sum(to, name, set, 0)?;
+    sum(to, name, set, 1)?;
+    sum(to, name, set, 2)?;
+    sum(to, name, set, 3)?;
+    sum(to, name, set, 4)?;
+    sum(to, name, set, 5)?;
+    sum(to, name, set, 32)?;
+    sum(to, name, set, 607)
 }
 
 // A whole set once more, with the bytes of its checksum changed, and then another one.
-fn changed() {
+fn changed(to: &impl Print, from: &mut impl Read) -> io::Result<()> {
     let mut set = [0u8; 608];
-    io::read_full(STDIN_FILENO, &mut set);
-    starts(b"long", &set);
+    from.read_exact(&mut set)?;
+    starts(to, b"long", &set)?;
     set[2] = 0xFF;
     set[3] = 0x01;
-    sum(b"changed-2-3", &set, 608);
+    sum(to, b"changed-2-3", &set, 608)?;
     set[1] = 0x11;
-    sum(b"changed-1", &set, 608);
+    sum(to, b"changed-1", &set, 608)
 }
 
-pub fn all() {
-    whole(b"short", 3);
-    whole(b"two", 4);
-    whole(b"long", 19);
-    changed();
+pub fn all(rt: &(impl Input + Print)) -> io::Result<()> {
+    let mut from = rt.reader();
+    whole(rt, &mut from, b"short", 3)?;
+    whole(rt, &mut from, b"two", 4)?;
+    whole(rt, &mut from, b"long", 19)?;
+    changed(rt, &mut from)
 }

@@ -1,6 +1,8 @@
 // Prints vectors of the proved functions, one to a line. The file stdout beside src/ holds the lines that tests/vectors.py makes by other means.
 #![tactic(auto)]
 
+use std::io;
+
 mod bits;
 mod checksums;
 mod counts;
@@ -10,12 +12,12 @@ mod out;
 mod slices;
 mod words;
 
-fn main() {
-    bits::all();
-    counts::all();
-    words::all();
-    slices::all();
-    checksums::all();
-    limits::all();
-    free::all();
+fn main(rt: HostRuntime) -> io::Result<()> {
+    bits::all(&rt)?;
+    counts::all(&rt)?;
+    words::all(&rt)?;
+    slices::all(&rt)?;
+    checksums::all(&rt)?;
+    limits::all(&rt)?;
+    free::all(&rt)
 }
