@@ -25,9 +25,9 @@ APART = ["Internal", "Example"]
 TEST_CRATES = ["trials"]
 
 ORDER = "## The order in which to read the definitions"
-USE = re.compile(r"^(?:ghost )?use Rattle·(\w+?)(?:·specs)?\.specs\.(\w+)(?:\.\{([^}]*)\}| as (\w+));?$", re.M)
+USE = re.compile(r"^(?:ghost )?use Rattle\.(\w+)\.specs\.(\w+)(?:\.\{([^}]*)\}| as (\w+));?$", re.M)
 HEAD = re.compile(r"^ *(?:unfoldable |abbrev )?(?:pub )?(?:record |data )?([^\s:({]+)(?: \{[^}]*\})*(?= :| \()")
-WORD = re.compile(r"[^\s(){};,λ⌜⌝]+")
+WORD = re.compile(r"[^\s(){};,λ]+")
 
 
 def bare(text):

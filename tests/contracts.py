@@ -1,10 +1,11 @@
 #!/usr/bin/env python3
 """Every function says its result, and no public call asks anything of its caller.
 
-Reads crates/*/src/*.rt. A function that returns something or takes a `&mut` has an `ensures` that settles it: the result, or every
-field of it, and each `&mut` afterwards stand in an equation whose other side names only what went in, or what another equation
-settles. So `r ≡ r` and `r ≡ f r` say nothing, and an equation behind an arrow does not count. A result that is lent is settled by two:
-its bytes and where they lie. `main` is left out. A public call (one of the calls of 01 and 02, listed here, or a function that is exported
+Reads crates/*/src/*.rt. A function that returns something or takes a `&mut` has one `ensures` or several that settle it: the result, or
+every field of it, and each `&mut` afterwards stand in an equation whose other side names only what went in, or what another equation
+settles. So `result ≡ result` and `result ≡ f result` say nothing, and an equation behind an arrow does not count. A result that is lent
+is settled by two: its bytes and where they lie. `main` is left out. In a program a reader (READER) and whether it could be read or
+written (WRITTEN) are nothing that a function gives: no contract can say what the system answers. A public call (one of the calls of 01 and 02, listed here, or a function that is exported
 to C) has no `requires`, and each of its equations cites the definition that is named for it here, applied to every argument of the
 call. Contracts that are wrong on purpose are tried first.
 """
@@ -19,17 +20,17 @@ import verdict  # noqa: E402, beside this file
 # Each public call, and the definition that its promise cites for the result and for each `&mut`; where they differ, for each by name.
 PUBLIC_CALLS = {
     "boot::geometry::validate": "boot.specs.Limits.limits",
-    "metadata::free::free_clusters": "metadata.specs.Free.freeClusters",
-    "read_file::read::read_number": "read_file.specs.Read.readNumber",
-    "read_file::read::read_part": "read_file.specs.Read.readPart",
-    "read_file::read::read": "read_file.specs.Read.readPart",
-    "stream::list::clusters": {"result": "stream.specs.Listing.listingNumber", "list": "stream.specs.Listing.listingList"},
-    "write_alloc::allocate::allocate_clusters": "write_alloc.specs.Allocate.allocateClusters",
-    "write_extend::extend::extend_clusters": "write_extend.specs.Extend.extendClusters",
-    "write_shrink::shrink::shrink_clusters": "write_shrink.specs.Shrink.shrinkClusters",
-    "write_file::new_file::make_in": "write_file.specs.NewFile.newFile",
-    "write_file::write::write_into": "write_file.specs.Write.writeInto",
-    "write_length::set_length::set_length": "write_length.specs.SetLength.setLength",
+    "metadata::free::free_clusters": "metadata.specs.Free.free_clusters",
+    "read_file::read::read_number": "read_file.specs.Read.read_number",
+    "read_file::read::read_part": "read_file.specs.Read.read_part",
+    "read_file::read::read": "read_file.specs.Read.read_part",
+    "stream::list::clusters": {"result": "stream.specs.Listing.listing_number", "list": "stream.specs.Listing.listing_list"},
+    "write_alloc::allocate::allocate_clusters": "write_alloc.specs.Allocate.allocate_clusters",
+    "write_extend::extend::extend_clusters": "write_extend.specs.Extend.extend_clusters",
+    "write_shrink::shrink::shrink_clusters": "write_shrink.specs.Shrink.shrink_clusters",
+    "write_file::new_file::make_in": "write_file.specs.NewFile.new_file",
+    "write_file::write::write_into": "write_file.specs.Write.write_into",
+    "write_length::set_length::set_length": "write_length.specs.SetLength.set_length",
     "write_remove::remove::remove": "write_remove.specs.Remove.remove",
     "carry_out::carry_out::carry_out": "write.specs.Calls.step",
 }
@@ -50,7 +51,11 @@ EXPORTED = {
 }
 
 # what settles a result that is lent: its bytes, and where they lie
-LENT = (("now",), (".ptr",))
+LENT = ((".now",), (".ref_ptr",))
+
+# of a function of a program: standard input, and whether the system read and wrote
+READER = re.compile(r"\w+: &mut impl Read\b")
+WRITTEN = re.compile(r"\)\s*->\s*io::Result<\(\)>\s*\Z")
 
 # an argument that is only written to, so that no definition takes what it holds before
 ONLY_WRITTEN = "out"
@@ -96,9 +101,10 @@ def module_of(path):
 
 
 def term_of(text):
-    """A text as nested lists, by its parentheses. A name in quotes is the name."""
+    """A text as nested lists, by its parentheses. A name in quotes is the name; a projection is a word of its own, with its point."""
     stack = [[]]
-    for word in re.findall(r"[()]|[^\s()]+", text.replace("«", "").replace("»", "")):
+    text = re.sub(r"(?<=[\w'])\.(?=[A-Za-z_])", " .", text.replace("«", "").replace("»", ""))
+    for word in re.findall(r"[()]|[^\s()]+", text):
         if word == "(":
             stack.append([])
         elif word == ")":
@@ -188,14 +194,12 @@ def words_of(term):
 
 def path_of(term, result):
     """What an equation's side is, if it is something that the function gives: ("result", field, ..), of a result that is lent
-    ("result", "now") and ("result", ".ptr"), or (lent,)."""
+    ("result", ".now") and ("result", ".ref_ptr"), or (lent,)."""
     words = words_of(term)
-    if words == ["now", result]:
-        return ("result", "now")
     if words and words[0] == result and all(w.startswith(".") for w in words[1:]):
         return ("result",) + tuple(words[1:])
-    if len(words) == 3 and words[0] == "now" and words[2] == ".exit":
-        return (words[1],)
+    if len(words) == 2 and words[1] == ".new":
+        return (words[0],)
     return None
 
 
@@ -207,9 +211,8 @@ def gives(term, result):
             j = i + 1
             while j < len(words) and words[j].startswith("."):
                 j += 1
-            bytes_ = i and words[i - 1] == "now" and j == i + 1
-            found.append(("result", "now") if bytes_ else ("result",) + tuple(words[i + 1 : j]))
-        if i + 1 < len(words) and words[i + 1] == ".exit":
+            found.append(("result",) + tuple(words[i + 1 : j]))
+        if i + 1 < len(words) and words[i + 1] in (".new", ".exit"):
             found.append((w,))
     return found
 
@@ -265,9 +268,9 @@ def structs_of(texts):
 def uses_of(text):
     """The full name of each definition that a file's proofs may name, by its short name."""
     uses = {}
-    for module, names in re.findall(r"ghost use Rattle·(\S+)\.\{([^}]*)\};", text):
+    for module, names in re.findall(r"ghost use Rattle\.(\S+)\.\{([^}]*)\};", text):
         for name in names.split(","):
-            uses[name.strip()] = module.replace("·specs", "", 1) + "." + name.strip()
+            uses[name.strip()] = module + "." + name.strip()
     return uses
 
 
@@ -303,21 +306,18 @@ def cite_faults(head, claims, result, parts, lent, names, uses, cited):
     return faults
 
 
-def promise_faults(signature, promise, structs, uses, cited):
-    """The faults of one `ensures`; `cited` is the table's entry of a public call, or None."""
-    m = re.fullmatch(r"\{\s*λ (\w+)\.\s*⌜(.*)⌝\s*\}", promise.strip(), re.S)
-    if not m:
-        return ["has an `ensures` that is not of the form { λ r. ⌜ .. ⌝ }"]
+def promise_faults(signature, promises, structs, uses, cited):
+    """The faults of a function's `ensures`; `cited` is the table's entry of a public call, or None."""
     gives_back = re.search(r"\)\s*->\s*([^{]+?)\s*$", signature.strip())
     lent = re.findall(r"(\w+): &(?:'\w+ )?mut ", signature)
     names = re.findall(r"(\w+):", signature[signature.index("(") :])
-    result = m[1] if gives_back else None
+    result = "result" if gives_back else None
     try:
-        whole = with_let(term_of(m[2]))
-        claims = claims_of(whole)
+        whole = [with_let(term_of(promise.strip()[1:-1])) for promise in promises]
+        claims = [claim for one in whole for claim in claims_of(one)]
     except ValueError as e:
         return ["has an `ensures` that cannot be read: %s" % e]
-    faults = ["has an equation with the same text on both sides"] if same_sides(whole) else []
+    faults = ["has an equation with the same text on both sides"] if any(map(same_sides, whole)) else []
     told = told_by(claims, result, structs)
     if result and not settled(("result",), told, gives_back[1], structs):
         if gives_back[1].startswith("&"):
@@ -333,7 +333,7 @@ def promise_faults(signature, promise, structs, uses, cited):
     return faults
 
 
-def text_faults(path, text, structs, calls):
+def text_faults(path, text, structs, calls, of_program=False):
     """The faults of a file, with where each is; how many functions it has, how many give something, and its public calls."""
     faults, seen, giving, public = [], 0, 0, set()
     uses = uses_of(text)
@@ -347,17 +347,19 @@ def text_faults(path, text, structs, calls):
         head = head_of(text, m.end(1))
         signature = re.split(r"\b(?:requires|ensures)\b", head)[0]
         asks = re.search(r"\brequires\b", head)
-        promises = re.findall(r"\bensures\b\s*(\{.*?\})\s*(?=\bensures\b|\brequires\b|\Z)", head, re.S)
+        promises = re.findall(r"\bensures\b(?:\s+\w+)?\s*(\{.*?\})\s*(?=\bensures\b|\brequires\b|\Z)", head, re.S)
         exported = 'extern "C"' in visibility
         cited = calls.get(full)
         if exported and not cited:
             faults.append(where + "is exported, and the table has no public call for it")
+        if of_program:
+            signature = WRITTEN.sub(")", READER.sub("", signature))
         if re.search(r"\)\s*->", signature) or "&mut " in signature:
             giving += 1
-            if len(promises) != 1:
-                faults.append(where + "does not say its result (it has %d `ensures`)" % len(promises))
+            if not promises or len(promises) != len(re.findall(r"\bensures\b", head)):
+                faults.append(where + "does not say its result (%d of its `ensures` can be read)" % len(promises))
             else:
-                faults += [where + f for f in promise_faults(signature, promises[0], structs, uses, cited)]
+                faults += [where + f for f in promise_faults(signature, promises, structs, uses, cited)]
         if cited:
             public.add(full)
             if asks:
@@ -371,39 +373,42 @@ def text_faults(path, text, structs, calls):
 
 # ---- contracts that are wrong on purpose: what each must be reported for
 
-USES = "ghost use Rattle·c.specs.D.{right};\nghost use Rattle·c.specs.E.{other};\npub struct Pair {\n    pub a: u32,\n    pub b: u32,\n}\n"
+USES = "ghost use Rattle.c.specs.D.{right};\nghost use Rattle.c.specs.E.{other};\npub struct Pair {\n    pub a: u32,\n    pub b: u32,\n}\n"
 CALLS = {"c::f": "c.specs.D.right"}
 BAD = [
-    ("fn h(x: u32) -> u32 ensures { λ r. ⌜ r ≡ r ⌝ } {", "same text on both sides"),
-    ("fn h(x: u32) -> u32 ensures { λ r. ⌜ (r ≡ right x) × ((right (x)) ≡ (right x)) ⌝ } {", "same text on both sides"),
-    ("fn h(x: u32) -> u32 ensures { λ r. ⌜ (let o = r in r ≡ o) ⌝ } {", "same text on both sides"),
-    ("fn h(x: u32) -> u32 ensures { λ r. ⌜ (r ≡ right x) × ((y : T) → other y ≡ other y) ⌝ } {", "same text on both sides"),
-    ("fn h(x: u32) -> u32 ensures { λ r. ⌜ r ≡ right r ⌝ } {", "what its result equals"),
-    ("fn h(x: u32) -> u32 ensures { λ r. ⌜ r ≤ x ⌝ } {", "what its result equals"),
-    ("fn h(x: u32) -> u32 ensures { λ r. ⌜ x ≡ 1 → r ≡ right x ⌝ } {", "what its result equals"),
-    ("fn h(x: u32) -> Pair ensures { λ r. ⌜ r .a ≡ right x ⌝ } {", "every field of it"),
-    ("fn h(x: u32) -> Pair ensures { λ r. ⌜ (r .a ≡ right (r .b)) × (r .b ≡ right (r .a)) ⌝ } {", "every field of it"),
-    ("fn h(v: &mut [u8], x: u32) ensures { λ _. ⌜ now (v .exit) ≡ right (now (v .exit)) ⌝ } {", "what `v` equals afterwards"),
+    ("fn h(x: u32) -> u32 ensures { result ≡ result } {", "same text on both sides"),
+    ("fn h(x: u32) -> u32 ensures { (result ≡ right x) × ((right (x)) ≡ (right x)) } {", "same text on both sides"),
+    ("fn h(x: u32) -> u32 ensures { (let o = result in result ≡ o) } {", "same text on both sides"),
+    ("fn h(x: u32) -> u32 ensures { (result ≡ right x) × ((y : T) → other y ≡ other y) } {", "same text on both sides"),
+    ("fn h(x: u32) -> u32 ensures { result ≡ right result } {", "what its result equals"),
+    ("fn h(x: u32) -> u32 ensures { result ≤ x } {", "what its result equals"),
+    ("fn h(x: u32) -> u32 ensures { x ≡ 1 → result ≡ right x } {", "what its result equals"),
+    ("fn h(x: u32) -> Pair ensures { result.a ≡ right x } {", "every field of it"),
+    ("fn h(x: u32) -> Pair ensures { (result.a ≡ right result.b) × (result.b ≡ right result.a) } {", "every field of it"),
+    ("fn h(x: u32) -> Pair ensures a { result.a ≡ right result.b } ensures b { result.b ≡ right result.a } {", "every field of it"),
+    ("fn h(v: &mut [u8], x: u32) ensures { v.new ≡ right (v.new) } {", "what `v` equals afterwards"),
     ("fn h(x: u32) -> u32 {", "does not say its result"),
-    ("fn h<'a>(v: &'a [u8]) -> &'a [u8] ensures { λ r. ⌜ now r ≡ right (now (v .entry)) ⌝ } {", "where they lie"),
-    ("fn h<'a>(v: &'a [u8]) -> &'a [u8] ensures { λ r. ⌜ r .ptr ≡ right (v .entry .ptr) ⌝ } {", "where they lie"),
-    ("fn h<'a>(v: &'a [u8]) -> &'a [u8] ensures { λ r. ⌜ (now r ≡ right (now r)) × (r .ptr ≡ v .entry .ptr) ⌝ } {", "where they lie"),
+    ("fn h(from: &mut impl Read) -> io::Result<()> {", "does not say its result"),
+    ("fn h<'a>(v: &'a [u8]) -> &'a [u8] ensures { result.now ≡ right v.now } {", "where they lie"),
+    ("fn h<'a>(v: &'a [u8]) -> &'a [u8] ensures { result.ref_ptr ≡ right v.entry.ref_ptr } {", "where they lie"),
+    ("fn h<'a>(v: &'a [u8]) -> &'a [u8] ensures { (result.now ≡ right result.now) × (result.ref_ptr ≡ v.entry.ref_ptr) } {", "where they lie"),
     (
-        "pub fn f<'a>(v: &'a [u8]) -> &'a [u8] ensures { λ r. ⌜ (now r ≡ right (now (v .entry))) × (r .ptr ≡ v .entry .ptr) ⌝ } {",
+        "pub fn f<'a>(v: &'a [u8]) -> &'a [u8] ensures { (result.now ≡ right v.now) × (result.ref_ptr ≡ v.entry.ref_ptr) } {",
         "does not cite `right`",
     ),
-    ("pub fn f(x: u32) -> u32 ensures { λ r. ⌜ r ≡ other x ⌝ } {", "does not cite `right`"),
-    ("pub fn f(x: u32, y: u32) -> u32 ensures { λ r. ⌜ r ≡ right x 0 ⌝ } {", "does not cite `right`"),
-    ("pub fn f(x: u32) -> u32 ensures { λ r. ⌜ (r ≡ other x) × (right x ≡ right 0) ⌝ } {", "does not cite `right`"),
-    ("pub fn f(v: &mut [u8]) -> u32 ensures { λ r. ⌜ (r ≡ right (now (v .entry))) × (now (v .exit) ≡ now (v .entry)) ⌝ } {", "for `v`"),
-    ("pub fn f(x: u32) -> u32 requires { ⌜ x ≤ 1 ⌝ } ensures { λ r. ⌜ r ≡ right x ⌝ } {", "has a `requires`"),
-    ("fn f(x: u32) -> u32 ensures { λ r. ⌜ r ≡ right x ⌝ } {", "is not `pub`"),
-    ('pub extern "C" fn e(x: u32) -> u32 ensures { λ r. ⌜ r ≡ right x ⌝ } {', "no public call for it"),
+    ("pub fn f(x: u32) -> u32 ensures { result ≡ other x } {", "does not cite `right`"),
+    ("pub fn f(x: u32, y: u32) -> u32 ensures { result ≡ right x 0 } {", "does not cite `right`"),
+    ("pub fn f(x: u32) -> u32 ensures { (result ≡ other x) × (right x ≡ right 0) } {", "does not cite `right`"),
+    ("pub fn f(v: &mut [u8]) -> u32 ensures { (result ≡ right v.old) × (v.new ≡ v.old) } {", "for `v`"),
+    ("pub fn f(x: u32) -> u32 requires { x ≤ 1 } ensures { result ≡ right x } {", "has a `requires`"),
+    ("fn f(x: u32) -> u32 ensures { result ≡ right x } {", "is not `pub`"),
+    ('pub extern "C" fn e(x: u32) -> u32 ensures { result ≡ right x } {', "no public call for it"),
 ]
 GOOD = [
-    "fn h(x: u32) -> Pair ensures { λ r. ⌜ (other x (r .a) ≡ r .b) × (r .a ≡ right x) ⌝ } {",
-    "pub fn f(v: &mut [u8]) -> u32 ensures { λ r. ⌜ (let o = right (now (v .entry)) in (r ≡ o .a) × (now (v .exit) ≡ o .b)) ⌝ } {",
-    "pub fn f<'a>(v: &'a [u8]) -> &'a [u8] ensures { λ r. ⌜ (let o = right (now (v .entry)) in (now r ≡ o .a) × (r .ptr ≡ other o)) ⌝ } {",
+    "fn h(x: u32) -> Pair ensures a { result.a ≡ right x } ensures b { other x result.a ≡ result.b } {",
+    "fn h(x: u32) -> Pair ensures { (other x result.a ≡ result.b) × (result.a ≡ right x) } {",
+    "pub fn f(v: &mut [u8]) -> u32 ensures { (let o = right v.old in (result ≡ o.a) × (v.new ≡ o.b)) } {",
+    "pub fn f<'a>(v: &'a [u8]) -> &'a [u8] ensures { (let o = right v.now in (result.now ≡ o.a) × (result.ref_ptr ≡ other o)) } {",
 ]
 
 
@@ -424,7 +429,8 @@ def main():
     texts = {p: plain(p.read_text(encoding="utf-8")) for p in sorted(pathlib.Path("crates").glob("*/src/**/*.rt"))}
     structs = structs_of(texts.values())
     for path, text in texts.items():
-        more, n, g, names = text_faults(path, text, structs, calls)
+        of_program = (path.parents[len(path.parts) - 1 - path.parts.index("src") - 1] / "main.rt").is_file()
+        more, n, g, names = text_faults(path, text, structs, calls, of_program)
         faults += more
         seen, giving, public = seen + n, giving + g, public | names
     for name in sorted(set(calls) - public):

@@ -39,7 +39,7 @@ def array(*words):
 TOLD = (
     ("crates/boot/src/geometry.rt", r"pub struct Geometry \{(.*?)\n\}", r"pub (\w+): u32"),
     ("crates/boot/src/geometry.rt", r"fn geometry_of(.*?)\n\}", r"(\w+): w\[(\d+)\]"),
-    ("crates/boot/specs/Geometry.antt", r"\ngeometryOf ws =(.*?)\}", r"«(\w+)» = getD ws (\d+) 0"),
+    ("crates/boot/specs/Geometry.antt", r"\ngeometry_of ws =(.*?)\}", r"(\w+) = get_or ws (\d+) 0"),
     ("binding/src/geometry.rs", r"pub struct Geometry \{(.*?)\n\}", r"pub (\w+): u32"),
     ("binding/src/geometry.rs", r"fn words\(.*?\[\n(.*?)\]", r"self\.(\w+),"),
     ("binding/src/geometry.rs", r"fn of\((.*?)\n    \}", r"(\w+): words\[(\d+)\]"),

@@ -183,7 +183,7 @@ def check_claim():
         for clause, row in zip(there, rows):
             edits = [crate or "write/" + name for crate, name in re.findall(r"\b([a-z]+/\w+)|\b([a-z]+(?:_[a-z]+)+)\b", row[-1])]
             told.update(edits)
-            if not edits and clause != "each-call":
+            if not edits and clause != "each_call":
                 faults.append("CLAIM.md names no edit for %s.%s" % (record, clause))
     there = {"%s/%s" % (edit.parts[1], edit.stem) for edit in pathlib.Path("crates").glob("*/must-fail/*.edit")}
     for edit in sorted(told - there) + sorted(edit for edit in there - told if edit.startswith("write/")):
