@@ -11,5 +11,5 @@ mod streams;
 mod tape;
 
 fn main(rt: HostRuntime) -> io::Result<()> {
-    tape::all(&rt)
+    tape::all(&rt, &mut rt.stdin())
 }

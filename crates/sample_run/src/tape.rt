@@ -82,12 +82,11 @@ fn act(to: &impl Print, what: u8, vol: [u8; 65792], want: &[u8; 65792]) -> io::R
 }
 
 // Every record, and the last line. After a call, and at the start of a volume, the volume is the one before the next call.
-pub fn all(rt: &(impl Input + Print)) -> io::Result<()> {
+pub fn all(to: &impl Print, from: &mut impl Read) -> io::Result<()> {
     let mut row = [0u8; 65792];
     let mut before = [0u8; 65792];
     let mut head = [0u8; 4];
     let mut counts = [0u8; 12];
-    let mut from = rt.reader();
     from.read_exact(&mut counts)?;
     for _ in 0..u32_at(&counts, 0) {
         from.read_exact(&mut head)?;
@@ -95,10 +94,10 @@ pub fn all(rt: &(impl Input + Print)) -> io::Result<()> {
         let at = u16_at(&head, 2) as usize;
         let e = at + primitives::words::wide(head[1]) as usize;
         from.read_exact(&mut row[at..e])?;
-        act(rt, what, before, &row)?;
+        act(to, what, before, &row)?;
         if 0 < what {
             before = row;
         }
     }
-    crate::out::last(rt, u32_at(&counts, 4), u32_at(&counts, 8))
+    crate::out::last(to, u32_at(&counts, 4), u32_at(&counts, 8))
 }

@@ -102,10 +102,9 @@ fn changed(to: &impl Print, from: &mut impl Read) -> io::Result<()> {
     sum(to, b"changed-1", &set, 608)
 }
 
-pub fn all(rt: &(impl Input + Print)) -> io::Result<()> {
-    let mut from = rt.reader();
-    whole(rt, &mut from, b"short", 3)?;
-    whole(rt, &mut from, b"two", 4)?;
-    whole(rt, &mut from, b"long", 19)?;
-    changed(rt, &mut from)
+pub fn all(to: &impl Print, from: &mut impl Read) -> io::Result<()> {
+    whole(to, from, b"short", 3)?;
+    whole(to, from, b"two", 4)?;
+    whole(to, from, b"long", 19)?;
+    changed(to, from)
 }

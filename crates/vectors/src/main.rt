@@ -17,7 +17,7 @@ fn main(rt: HostRuntime) -> io::Result<()> {
     counts::all(&rt)?;
     words::all(&rt)?;
     slices::all(&rt)?;
-    checksums::all(&rt)?;
+    checksums::all(&rt, &mut rt.stdin())?;
     limits::all(&rt)?;
     free::all(&rt)
 }
