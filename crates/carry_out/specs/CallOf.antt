@@ -3,7 +3,6 @@ use Rattle.std.specs.Prelude.{List, ℕ}
 use Rattle.entry_set.specs.declared.stamp.Stamps.{Stamps}
 use Rattle.write.specs.Calls.{Call, New, Write, SetLength, Remove}
 use Rattle.carry_out.specs.declared.carry_out.Kind.{Kind}
-use Rattle.carry_out.specs.declared.carry_out.Kind.TheVariants as Kind
 
 -- name, attributes, hash, slot, offset or length, data, stamps, hint: each kind takes its own
 unfoldable pub call_of : Kind → List ℕ → ℕ → ℕ → ℕ → ℕ → List ℕ → Stamps → ℕ → Call
