@@ -36,9 +36,9 @@ count_out p lo n k b (inl o) = count_cong p (upd p k b) lo n (λ j l h. upd_othe
 count_out p lo n k b (inr o) = count_cong p (upd p k b) lo n (λ j l h. upd_other p k b j (omega arith))
 
 -- the first entry changed
-count_first : (p : ℕ → Bool) (lo n : ℕ) (b : Bool) → count (upd p lo b) lo (suc n) + one (p lo) ≡ count p lo (suc n) + one b
+upd_first : (p : ℕ → Bool) (lo n : ℕ) (b : Bool) → count (upd p lo b) lo (suc n) + one (p lo) ≡ count p lo (suc n) + one b
 unfolding count
-count_first p lo n b = rw (upd_same p lo b, count_out p (suc lo) n lo b (inl (omega arith))) (omega arith)
+upd_first p lo n b = rw (upd_same p lo b, count_out p (suc lo) n lo b (inl (omega arith))) (omega arith)
 
 -- one entry changed: the count changes by it
 pub count_upd : (p : ℕ → Bool) (lo n k : ℕ) (b : Bool) → lo ≤ k → k < lo + n → count (upd p k b) lo n + one (p k) ≡ count p lo n + one b
@@ -46,7 +46,7 @@ unfolding count
 count_upd p lo zero k b l h = absurd (omega arith)
 count_upd p lo (suc n) k b l h =
     elim (ℕ_discrete k lo) [
-      | yes e ↦ subst (λ x. count (upd p x b) lo (suc n) + one (p x) ≡ count p lo (suc n) + one b) (sym e) (count_first p lo n b)
+      | yes e ↦ subst (λ x. count (upd p x b) lo (suc n) + one (p x) ≡ count p lo (suc n) + one b) (sym e) (upd_first p lo n b)
       | no d ↦ rw (upd_other p k b lo (λ e. d (sym e))) (omega (arith, count_upd p (suc lo) n k b (omega arith) (omega arith)))
     ]
 
