@@ -75,7 +75,9 @@ fn either(first: bool, a: u32, b: u32) -> u32
 }
 
 // The chain from first, a cluster of the heap, walked once, as the root directory's or as another stream's (Rust: `fat_chain`); the
-// cluster `goal` steps from the first is noted on the way.
+// cluster `goal` steps from the first is noted on the way. A function by itself in the machine code too: inside its callers the loop
+// would not have what it reads in registers.
+#[inline(never)]
 pub fn fat_chain(vol: &[u8], map: &[u8], y: Layout, root: bool, first: u32, goal: u32) -> Walked
     requires { Laid y × ((length vol.now ≡ y.len) × ((y.count ≤ 8 * length map.now) × ((2 ≤ first) × (first < y.count + 2)))) }
     ensures { result ≡ walked (marked y vol.now) (λ k. not (barred y map.now root k)) goal (read_chain y.count (fat_entry y vol.now) first) }
