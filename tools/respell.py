@@ -1,7 +1,9 @@
 #!/usr/bin/env python3
 """Brings this repository's own definitions and lemmas to today's spelling, once, after port.py of the kit.
 
-usage: python3 tools/respell.py        at the top of the repository, with port.py's work committed
+usage: python3 tools/respell.py            at the top of the repository, with port.py's work committed
+       python3 tools/respell.py --again    where a run of this script stands already
+       python3 tools/respell.py --table    the names, old and new; nothing is written
 
 Definitions, fields and constructors in mixed case get snake case. Of a lemma's dashes one stays where it joins the names of two
 definitions ('count-upd'); else it becomes an underscore ('one_le'), as in a field. Functions of src/, exported C names, strings, inputs
@@ -100,7 +102,7 @@ def table():
                 # a lemma that would have its definition's name
                 rows[n] = new + "_lem" if new in taken else new
     rows.update(OWN)
-    return rows, inner
+    return rows
 
 
 def imported(text):
@@ -111,7 +113,7 @@ def imported(text):
     return names
 
 
-def turned(path, text, rows, inner):
+def turned(path, text, rows):
     mixed = {k: v for k, v in rows.items() if "-" not in k and k not in LEMMAS}
     if path.endswith(".rt") or path.endswith(".edit"):
         use = dict(mixed)
@@ -145,7 +147,7 @@ def met(path, text, rows):
 
 
 def main():
-    rows, inner = table()
+    rows = table()
     if "--again" in sys.argv:  # in a tree where a run of this script stands
         rows = {k: v for k, v in rows.items() if k not in LEMMAS}
     back = collections.defaultdict(set)
@@ -159,13 +161,13 @@ def main():
     for p in antt():
         for k, v in met(p, read(p), rows):
             bad.append(f"{p}: {k} and {v}")
-    if bad and "--force" not in sys.argv:
+    if bad:
         print("\n".join(bad))
         return 1
     n = 0
     for p in files:
         old = read(p)
-        new = turned(p, old, rows, inner)
+        new = turned(p, old, rows)
         if new != old:
             n += 1
             with open(p, "w", encoding="utf-8") as f:
