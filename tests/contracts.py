@@ -4,10 +4,9 @@
 Reads crates/*/src/*.rt. A function that returns something or takes a `&mut` has one `ensures` or several that settle it: the result, or
 every field of it, and each `&mut` afterwards stand in an equation whose other side names only what went in, or what another equation
 settles. So `result ≡ result` and `result ≡ f result` say nothing, and an equation behind an arrow does not count. A result that is lent
-is settled by two: its bytes and where they lie. `main` is left out. In a program a reader (READER) and whether it could be read or
-written (WRITTEN) are nothing that a function gives: no contract can say what the system answers. A public call (one of the calls of 01 and 02, listed here, or a function that is exported
-to C) has no `requires`, and each of its equations cites the definition that is named for it here, applied to every argument of the
-call. Contracts that are wrong on purpose are tried first.
+is settled by two: its bytes and where they lie. `main` is left out. A public call (one of the calls of 01 and 02, listed here, or a
+function that is exported to C) has no `requires`, and each of its equations cites the definition that is named for it here, applied to
+every argument of the call. Contracts that are wrong on purpose are tried first.
 """
 
 import pathlib
@@ -52,10 +51,6 @@ EXPORTED = {
 
 # what settles a result that is lent: its bytes, and where they lie
 LENT = ((".now",), (".ref_ptr",))
-
-# of a function of a program: standard input, and whether the system read and wrote
-READER = re.compile(r"\w+: &mut impl Read\b")
-WRITTEN = re.compile(r"\)\s*->\s*io::Result<\(\)>\s*\Z")
 
 # an argument that is only written to, so that no definition takes what it holds before
 ONLY_WRITTEN = "out"
@@ -333,7 +328,7 @@ def promise_faults(signature, promises, structs, uses, cited):
     return faults
 
 
-def text_faults(path, text, structs, calls, of_program=False):
+def text_faults(path, text, structs, calls):
     """The faults of a file, with where each is; how many functions it has, how many give something, and its public calls."""
     faults, seen, giving, public = [], 0, 0, set()
     uses = uses_of(text)
@@ -352,8 +347,6 @@ def text_faults(path, text, structs, calls, of_program=False):
         cited = calls.get(full)
         if exported and not cited:
             faults.append(where + "is exported, and the table has no public call for it")
-        if of_program:
-            signature = WRITTEN.sub(")", READER.sub("", signature))
         if re.search(r"\)\s*->", signature) or "&mut " in signature:
             giving += 1
             if not promises or len(promises) != len(re.findall(r"\bensures\b", head)):
@@ -429,8 +422,7 @@ def main():
     texts = {p: plain(p.read_text(encoding="utf-8")) for p in sorted(pathlib.Path("crates").glob("*/src/**/*.rt"))}
     structs = structs_of(texts.values())
     for path, text in texts.items():
-        of_program = (path.parents[len(path.parts) - 1 - path.parts.index("src") - 1] / "main.rt").is_file()
-        more, n, g, names = text_faults(path, text, structs, calls, of_program)
+        more, n, g, names = text_faults(path, text, structs, calls)
         faults += more
         seen, giving, public = seen + n, giving + g, public | names
     for name in sorted(set(calls) - public):

@@ -7,7 +7,6 @@ use crate::row::{of_file, stamps};
 use boot::geometry::Geometry;
 use carry_out::carry_out::Kind;
 use entry_set::stamp::Stamps;
-use std::io;
 
 // A call by carry_out, with all arguments.
 fn carried(
@@ -21,7 +20,7 @@ fn carried(
     vol: [u8; 65792],
     want: &[u8; 65792],
     e: usize,
-) -> io::Result<()>
+)
     requires { (128 ≤ e) × (e ≤ 41088) }
 {
     let mut left = vol;
@@ -41,7 +40,7 @@ fn carried(
         t,
         x.hint,
     );
-    out::file(to, b" by carry_out: ", r, left, want, e)
+    out::file(to, b" by carry_out: ", r, left, want, e);
 }
 
 // New file.
@@ -53,7 +52,7 @@ fn new_file(
     vol: [u8; 65792],
     want: &[u8; 65792],
     e: usize,
-) -> io::Result<()>
+)
     requires { (128 ≤ e) × (e ≤ 41088) }
 {
     let mut left = vol;
@@ -70,7 +69,7 @@ fn new_file(
         t,
         x.hint,
     );
-    out::file(to, b": ", r, left, want, e)?;
+    out::file(to, b": ", r, left, want, e);
     carried(
         to,
         Kind::NewFile,
@@ -82,7 +81,7 @@ fn new_file(
         vol,
         want,
         e,
-    )
+    );
 }
 
 // New file, with its name: as many units from byte 41240 on.
@@ -94,7 +93,7 @@ pub fn named(
     vol: [u8; 65792],
     want: &[u8; 65792],
     e: usize,
-) -> io::Result<()>
+)
     requires { (units ≤ 300) × ((128 ≤ e) × (e ≤ 41088)) }
 {
     let mut name = [0u16; 300];
@@ -102,7 +101,7 @@ pub fn named(
     for i in 0..units {
         name[i] = primitives::words::u16_at(want, 41240 + 2 * i);
     }
-    new_file(to, map, g, &name[a..units], vol, want, e)
+    new_file(to, map, g, &name[a..units], vol, want, e);
 }
 
 // Write.
@@ -114,7 +113,7 @@ pub fn write(
     vol: [u8; 65792],
     want: &[u8; 65792],
     e: usize,
-) -> io::Result<()>
+)
     requires { (128 ≤ e) × (e ≤ 41088) }
 {
     let mut left = vol;
@@ -131,9 +130,9 @@ pub fn write(
         t.modified,
         x.hint,
     );
-    out::file(to, b": ", r, left, want, e)?;
+    out::file(to, b": ", r, left, want, e);
     let name = [88u16; 3];
-    carried(to, Kind::Write, map, g, &name, data, t, vol, want, e)
+    carried(to, Kind::Write, map, g, &name, data, t, vol, want, e);
 }
 
 // Set length.
@@ -144,7 +143,7 @@ pub fn set_length(
     vol: [u8; 65792],
     want: &[u8; 65792],
     e: usize,
-) -> io::Result<()>
+)
     requires { (128 ≤ e) × (e ≤ 41088) }
 {
     let mut left = vol;
@@ -160,7 +159,7 @@ pub fn set_length(
         t.modified,
         x.hint,
     );
-    out::file(to, b": ", r, left, want, e)?;
+    out::file(to, b": ", r, left, want, e);
     let name = [88u16; 3];
     carried(
         to,
@@ -173,7 +172,7 @@ pub fn set_length(
         vol,
         want,
         e,
-    )
+    );
 }
 
 // Remove.
@@ -184,7 +183,7 @@ pub fn remove(
     vol: [u8; 65792],
     want: &[u8; 65792],
     e: usize,
-) -> io::Result<()>
+)
     requires { (128 ≤ e) × (e ≤ 41088) }
 {
     let mut left = vol;
@@ -192,7 +191,7 @@ pub fn remove(
     let t = stamps(want);
     let x = of_file(want);
     let r = write_remove::remove::remove(&mut left[a..e], map, g, x.slot, x.hint);
-    out::file(to, b": ", r, left, want, e)?;
+    out::file(to, b": ", r, left, want, e);
     let name = [88u16; 3];
     carried(
         to,
@@ -205,5 +204,5 @@ pub fn remove(
         vol,
         want,
         e,
-    )
+    );
 }

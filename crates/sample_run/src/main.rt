@@ -2,14 +2,12 @@
 // it was made; the file stdout has a line for each call, as the Rust answered it.
 #![tactic(auto)]
 
-use std::io;
-
 mod files;
 mod out;
 mod row;
 mod streams;
 mod tape;
 
-fn main(rt: HostRuntime) -> io::Result<()> {
-    tape::all(&rt, &mut rt.stdin())
+fn main(rt: HostRuntime) {
+    tape::all(&rt);
 }

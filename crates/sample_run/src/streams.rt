@@ -4,7 +4,6 @@ ghost use Rattle.std.specs.Prelude.{◌≤◌};
 use crate::out;
 use boot::geometry::Geometry;
 use primitives::words::put_u32;
-use std::io;
 use stream::allocation::Allocation;
 
 // Free count.
@@ -15,7 +14,7 @@ pub fn free_count(
     vol: [u8; 65792],
     want: &[u8; 65792],
     e: usize,
-) -> io::Result<()>
+)
     requires { (128 ≤ e) × (e ≤ 41088) }
 {
     let mut got = vol;
@@ -23,7 +22,7 @@ pub fn free_count(
     let f = metadata::free::free_clusters(&got[a..e], map, g);
     put_u32(&mut got, 0, f.number);
     put_u32(&mut got, 4, f.count);
-    out::line(to, b": ", &got, want, e)
+    out::line(to, b": ", &got, want, e);
 }
 
 // The line of a listing.
@@ -34,7 +33,7 @@ fn listed(
     vol: [u8; 65792],
     want: &[u8; 65792],
     e: usize,
-) -> io::Result<()>
+)
     requires { e ≤ 41088 }
 {
     let mut got = vol;
@@ -42,7 +41,7 @@ fn listed(
         put_u32(&mut got, 4 + 4 * i, list[i]);
     }
     put_u32(&mut got, 0, number);
-    out::line(to, b": ", &got, want, e)
+    out::line(to, b": ", &got, want, e);
 }
 
 // Clusters, into 24 places that hold 99 each; the places past the stream's end must keep it.
@@ -54,13 +53,13 @@ fn clusters(
     vol: [u8; 65792],
     want: &[u8; 65792],
     e: usize,
-) -> io::Result<()>
+)
     requires { (128 ≤ e) × (e ≤ 41088) }
 {
     let mut list = [99u32; 24];
     let a = 128;
     let number = stream::list::clusters(&vol[a..e], map, g, s, &mut list);
-    listed(to, number, list, vol, want, e)
+    listed(to, number, list, vol, want, e);
 }
 
 // Allocate.
@@ -71,7 +70,7 @@ pub fn allocate(
     vol: [u8; 65792],
     want: &[u8; 65792],
     e: usize,
-) -> io::Result<()>
+)
     requires { (128 ≤ e) × (e ≤ 41088) }
 {
     let mut left = vol;
@@ -87,7 +86,7 @@ pub fn allocate(
         x.first,
         x.hint,
     );
-    out::stream(to, r, left, want, e)
+    out::stream(to, r, left, want, e);
 }
 
 // Extend.
@@ -101,13 +100,13 @@ fn extend(
     vol: [u8; 65792],
     want: &[u8; 65792],
     e: usize,
-) -> io::Result<()>
+)
     requires { (128 ≤ e) × (e ≤ 41088) }
 {
     let mut left = vol;
     let a = 128;
     let r = write_extend::extend::extend_clusters(&mut left[a..e], map, g, s, more, hint);
-    out::stream(to, r, left, want, e)
+    out::stream(to, r, left, want, e);
 }
 
 // Shrink.
@@ -121,13 +120,13 @@ fn shrink(
     vol: [u8; 65792],
     want: &[u8; 65792],
     e: usize,
-) -> io::Result<()>
+)
     requires { (128 ≤ e) × (e ≤ 41088) }
 {
     let mut left = vol;
     let a = 128;
     let r = write_shrink::shrink::shrink_clusters(&mut left[a..e], map, g, s, keep, hint);
-    out::stream(to, r, left, want, e)
+    out::stream(to, r, left, want, e);
 }
 
 // A call on a stream that has a record.
@@ -139,7 +138,7 @@ pub fn on_record(
     vol: [u8; 65792],
     want: &[u8; 65792],
     e: usize,
-) -> io::Result<()>
+)
     requires { (128 ≤ e) × (e ≤ 41088) }
 {
     let x = crate::row::of_stream(want);
@@ -150,9 +149,8 @@ pub fn on_record(
         no_fat_chain: x.flag == 1,
     };
     match kind {
-        1 => clusters(to, map, g, s, vol, want, e)?,
-        3 => extend(to, map, g, s, x.number, x.hint, vol, want, e)?,
-        _ => shrink(to, map, g, s, x.number, x.hint, vol, want, e)?,
+        1 => clusters(to, map, g, s, vol, want, e),
+        3 => extend(to, map, g, s, x.number, x.hint, vol, want, e),
+        _ => shrink(to, map, g, s, x.number, x.hint, vol, want, e),
     }
-    Ok(())
 }

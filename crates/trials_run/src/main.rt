@@ -2,13 +2,11 @@
 // them, written by tests/trials.py.
 #![tactic(auto)]
 
-use std::io;
-
 mod out;
 mod reads;
 mod trial;
 
-fn main(rt: HostRuntime) -> io::Result<()> {
-    trial::all(&rt)?;
-    reads::all(&rt)
+fn main(rt: HostRuntime) {
+    trial::all(&rt);
+    reads::all(&rt);
 }

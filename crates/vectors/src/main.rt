@@ -1,8 +1,6 @@
 // Prints vectors of the proved functions, one to a line. The file stdout beside src/ holds the lines that tests/vectors.py makes by other means.
 #![tactic(auto)]
 
-use std::io;
-
 mod bits;
 mod checksums;
 mod counts;
@@ -12,12 +10,12 @@ mod out;
 mod slices;
 mod words;
 
-fn main(rt: HostRuntime) -> io::Result<()> {
-    bits::all(&rt)?;
-    counts::all(&rt)?;
-    words::all(&rt)?;
-    slices::all(&rt)?;
-    checksums::all(&rt, &mut rt.stdin())?;
-    limits::all(&rt)?;
-    free::all(&rt)
+fn main(rt: HostRuntime) {
+    bits::all(&rt);
+    counts::all(&rt);
+    words::all(&rt);
+    slices::all(&rt);
+    checksums::all(&rt);
+    limits::all(&rt);
+    free::all(&rt);
 }
