@@ -1,9 +1,8 @@
 -- Bits of a bitmap that are passed by the byte. Assumes nothing.
-use Rattle.std.proofs.Common.{◌≡◌, ℕ, ◌+◌, ◌-◌, ◌*◌, ◌/◌, ◌%◌, ◌^◌, ◌<◌, ◌≤◌, min, Bool, true, false, not, ◌&&◌, eqb, ◌≢◌, List, get_or, sym, refl, ap, ◌∙◌, arith, eqb→eq, eq-eqb, ne_eqb, eqb-true}
+use Rattle.std.proofs.Common.{◌≡◌, ℕ, ◌+◌, ◌-◌, ◌*◌, ◌/◌, ◌%◌, ◌^◌, ◌<◌, ◌≤◌, min, Bool, true, false, not, eqb, ◌≢◌, List, get_or, sym, refl, ap, ◌∙◌, arith, eqb→eq, eq-eqb, ne_eqb, eqb-true}
 use native.Mathlib.Decide.{dec_lt, ℕ_discrete}
 use borrow.Author.Tests.{not-false}
 use Rattle.search.specs.Search.{all_from, fewest}
-use Rattle.search.proofs.Runs.{all_more}
 use Rattle.search.proofs.Lowest.{all_whole, fewest_is, fewest_bounds, fewest_before, fewest_skip}
 use Rattle.primitives.specs.Bits.{bit_of, bit_at}
 use Rattle.primitives.specs.Internal.{byte_is, bit_is}
@@ -49,10 +48,6 @@ module _ (l : List ℕ) (b : ℕ) where
   unfolding byte_is
   to_byte k end t e =
       to_skip k (8 * (k / 8) + 8) end (omega arith) t (λ j x z. let q : j / 8 ≡ k / 8 = omega arith in rw q (eq-eqb _ _ e))
-
-  pub same_next : (i n : ℕ) → all_from (byte_is l b) i (n + 1) ≡ all_from (byte_is l b) i n && eqb (get_or l (i + n) 0) b
-  unfolding byte_is
-  same_next i n = all_more (byte_is l b) i n
 
   pub to_bytes : (m k end : ℕ) → 1 ≤ m → k ≤ end → all_from (byte_is l b) (k / 8) m ≡ true → past_to k end ≡ past_to (8 * (k / 8) + 8 * m) end
   to_bytes m k end h t e =

@@ -1,48 +1,48 @@
 -- The laws of a set's checksum. Assumes nothing.
-use Rattle.std.proofs.Common.{◌≡◌, ℕ, zero, suc, ◌+◌, ◌<◌, ◌≤◌, Bool, true, false, cond, eqb, List, length, get_or, sym, refl, ap, ◌∙◌, ap₂, ⊎_elim, mod-eq_of_lt, add-one, arith, eq-eqb, ne_eqb}
+use Rattle.std.proofs.Common.{◌≡◌, ℕ, zero, suc, ◌+◌, ◌-◌, ◌<◌, ◌≤◌, Bool, true, false, cond, eqb, List, [], ◌∷◌, min, length, get_or, take, drop, get_or-take, get_or-drop, length-drop, sym, refl, ap, ◌∙◌, ⊎_elim, mod-eq_of_lt, add-one, arith, eq-eqb, ne_eqb, ap₂}
+use Rattle.std.specs.List.{fold}
+use Rattle.std.proofs.lemmas.List.Sums.{fold_more}
+use Rattle.std.proofs.lemmas.List.{take_all}
 use Rattle.primitives.specs.Checksum.{add_byte, checksum, checksum_step}
-use Rattle.primitives.specs.Internal.{add_bytes}
 use Rattle.primitives.specs.Words.{get_le, put_le}
 use Rattle.primitives.proofs.Cases.{eq_or_ne}
 use Rattle.primitives.proofs.WordLaws.{get_put, put_below, put_above}
 
 -- ---- as the code adds the bytes: 0 and 1, then from 4 on
 
-module _ (l : List ℕ) where
-  pub bytes_none : (i sum : ℕ) → add_bytes l i sum 0 ≡ sum
-  unfolding add_bytes
-  bytes_none i sum = refl
+checksum-rest : (l : List ℕ) (m : ℕ) → m + 4 ≤ length l → checksum l (m + 4) ≡ fold add_byte (checksum l 2) (take m (drop 4 l))
+unfolding checksum
+checksum-rest l zero h = refl
+checksum-rest l (suc m) h =
+    let e : suc m + 4 ≡ suc (m + 4) = omega arith in
+    let p : 4 + m ≡ m + 4 = omega arith in
+    rw e
+    (simp (ne_eqb (m + 4) 2 (omega arith), ne_eqb (m + 4) 3 (omega arith))
+    (ap₂ add_byte (checksum-rest l m (omega arith)) (ap (λ (x : ℕ). get_or l x 0) (sym p) ∙ sym (get_or-drop 4 l m 0))
+    ∙ sym (fold_more add_byte (checksum l 2) (drop 4 l) m 0 (omega (arith, length-drop 4 l)))
+    ∙ ap (λ (x : ℕ). fold add_byte (checksum l 2) (take x (drop 4 l))) (add-one m)))
 
-  pub bytes_next : (i sum n : ℕ) → add_bytes l i sum (n + 1) ≡ add_byte (add_bytes l i sum n) (get_or l (i + n) 0)
-  unfolding add_bytes
-  bytes_next i sum n = rw add-one refl
+checksum-parts : (l : List ℕ) → checksum l (length l) ≡ fold add_byte (fold add_byte 0 (take (min (length l) 2) l)) (drop (min (length l) 4) l)
+unfolding checksum
+checksum-parts [] = refl
+checksum-parts (a ∷ []) = refl
+checksum-parts (a ∷ b ∷ []) = refl
+checksum-parts (a ∷ b ∷ c ∷ []) = refl
+checksum-parts (a ∷ b ∷ c ∷ d ∷ r) =
+    let l = a ∷ b ∷ c ∷ d ∷ r in
+    let n = length r in
+    let e : n + 4 ≡ length l = omega arith in
+    let p : min (length l) 2 ≡ 2 = omega arith in
+    let q : min (length l) 4 ≡ 4 = omega arith in
+    ap (checksum l) (sym e) ∙ checksum-rest l n (omega arith)
+    ∙ ap (fold add_byte (checksum l 2)) (take_all n r (omega arith))
+    ∙ ap₂ (λ (x y : ℕ). fold add_byte (fold add_byte 0 (take x l)) (drop y l)) (sym p) (sym q)
 
-  pub checksum_start : (n : ℕ) → n < 3 → checksum l n ≡ add_bytes l 0 0 n
-  unfolding checksum add_bytes
-  checksum_start zero h = refl
-  checksum_start (suc zero) h = refl
-  checksum_start (suc (suc zero)) h = refl
-  checksum_start (suc (suc (suc n))) h = absurd (omega arith)
-
-  pub checksum_gap : (n : ℕ) → 2 ≤ n → n < 5 → checksum l n ≡ add_bytes l 0 0 2
-  unfolding checksum add_bytes
-  checksum_gap zero h t = absurd (omega arith)
-  checksum_gap (suc zero) h t = absurd (omega arith)
-  checksum_gap (suc (suc zero)) h t = refl
-  checksum_gap (suc (suc (suc zero))) h t = refl
-  checksum_gap (suc (suc (suc (suc zero)))) h t = refl
-  checksum_gap (suc (suc (suc (suc (suc n))))) h t = absurd (omega arith)
-
-  checksum_on : (k : ℕ) → 4 ≤ k → checksum l (suc k) ≡ add_byte (checksum l k) (get_or l k 0)
-  unfolding checksum
-  checksum_on k h = simp (ne_eqb k 2 (omega arith), ne_eqb k 3 (omega arith))
-
-  pub checksum_rest : (n : ℕ) → checksum l (n + 4) ≡ add_bytes l 4 (add_bytes l 0 0 2) n
-  unfolding add_bytes
-  checksum_rest zero = checksum_gap (zero + 4) (omega arith) (omega arith)
-  checksum_rest (suc n) =
-      ap (checksum l) (omega arith) ∙ checksum_on (n + 4) (omega arith)
-      ∙ ap₂ add_byte (checksum_rest n) (ap (λ (x : ℕ). get_or l x 0) (omega arith))
+pub checksum-added : (l : List ℕ) (i j s r : ℕ) → i ≡ min (length l) 2 → j ≡ min (length l) 4 → s ≡ fold add_byte 0 (take i l)
+    → r ≡ fold add_byte s (take (length l - j) (drop j l)) → r ≡ checksum l (length l)
+checksum-added l i j s r p q e f =
+    f ∙ ap (fold add_byte s) (take_all (length l - j) (drop j l) (omega (arith, length-drop j l)))
+    ∙ ap₂ (λ (x y : ℕ). fold add_byte x (drop y l)) (e ∙ ap (λ (x : ℕ). fold add_byte 0 (take x l)) p) q ∙ sym (checksum-parts l)
 
 -- it is a number of 16 bits
 cond_lt : {a b m : ℕ} (t : Bool) → a < m → b < m → cond t a b < m
@@ -67,6 +67,9 @@ checksum_same l m zero h = refl
 checksum_same l m (suc n) h =
     ap (λ (x : ℕ). checksum_step x n (get_or l n 0)) (checksum_same l m n (λ k b. h k (omega arith)))
     ∙ step_same (checksum m n) n (get_or l n 0) (get_or m n 0) (h n (omega arith))
+
+pub checksum-take : (l : List ℕ) (n : ℕ) → checksum (take n l) n ≡ checksum l n
+checksum-take l n = checksum_same (take n l) l n (λ k b n2 n3. get_or-take n l k 0 b)
 
 -- a store into bytes 2 and 3 leaves the checksum
 pub checksum_kept : (l : List ℕ) (v n : ℕ) → checksum (put_le 2 l 2 v) n ≡ checksum l n

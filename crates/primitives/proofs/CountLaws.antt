@@ -1,5 +1,18 @@
 -- The set bits of a bitmap, counted by the byte. Assumes nothing.
-use Rattle.std.proofs.Common.{◌≡◌, ℕ, zero, suc, ◌+◌, ◌-◌, ◌*◌, ◌/◌, ◌%◌, ◌^◌, ◌<◌, ◌≤◌, eqb, leb, List, get_or, take, sym, refl, ap, ◌∙◌, ap₂, add-zero, add_assoc, add-suc, arith, eqb→eq, leb→le, get_or-take}
+use Rattle.std.proofs.Common.{Bor, ◌≡◌, ℕ, zero, suc, ◌+◌, ◌-◌, ◌*◌, ◌/◌, ◌%◌, ◌^◌, ◌<◌, ◌≤◌, eqb, List, length, get_or, take, sym, refl, ap, ◌∙◌, ap₂, add-zero, add_assoc, add-suc, arith, eqb→eq, get_or-take}
+use Rattle.std.specs.Bool.{⊤}
+use Rattle.std.specs.Fn.{Called}
+use Rattle.std.specs.Iterator.{Drains}
+use Rattle.std.specs.Iterator.Adapters.{map_source, map_callee}
+use Rattle.std.specs.List.{fold, sum_by}
+use Rattle.std.specs.Slice.Iter.{iter_rest}
+use Rattle.std.specs.declared.iter.Map.{Map}
+use Rattle.std.specs.declared.slice.Iter.{Iter}
+use Rattle.std.proofs.lemmas.Fn.{fronts}
+use Rattle.std.proofs.lemmas.Iterator.{YieldsList-from_slice, YieldsList-from_map, maps}
+use Rattle.std.proofs.lemmas.Iterator.Consumers.{sum_by_from_yields_List}
+use denote.Param.Members.{Mut}
+use Rattle.std.proofs.lemmas.List.Sums.{sum_by_more}
 use lib.Bits.{bit_and}
 use lib.Count.{ones, ones_in}
 use Rattle.primitives.specs.Bits.{bit_of, bit_at, count_bits}
@@ -40,15 +53,28 @@ byte l i (suc r) h =
     rw add-suc
     (ap₂ ◌+◌ (byte l i r (omega arith)) (bit l i r h) ∙ add_assoc (count_bits l (i * 8)) (ones_below (get_or l i 0) r) (bit_of (get_or l i 0) r))
 
--- ---- what the loop's steps ask, of a bitmap whose byte i fits
+-- ---- whole bytes, and the last one that is cut
 
-pub mask_pos : (r : ℕ) → r < 8 → 1 ≤ (1 * 2 ^ r) % 256
-mask_pos r hr = leb→le _ _ (at 8 (λ r. leb 1 ((1 * 2 ^ r) % 256)) tt r hr)
-
-pub more_byte : (l : List ℕ) (i : ℕ) → get_or l i 0 < 256 → count_bits l ((i + 1) * 8) ≡ count_bits l (i * 8) + ones (get_or l i 0)
+more_byte : (l : List ℕ) (i : ℕ) → get_or l i 0 < 256 → count_bits l ((i + 1) * 8) ≡ count_bits l (i * 8) + ones (get_or l i 0)
 more_byte l i h =
     let e : (i + 1) * 8 ≡ i * 8 + 8 = omega arith in
     ap (count_bits l) e ∙ byte l i 8 (omega arith) ∙ ap (λ (x : ℕ). count_bits l (i * 8) + x) (sym (whole_byte_lem (get_or l i 0) h))
+
+pub whole_bytes : (l : List ℕ) (i : ℕ) → ((k : ℕ) → get_or l k 0 < 256) → i ≤ length l → sum_by ones (take i l) ≡ count_bits l (i * 8)
+unfolding count_bits
+whole_bytes l zero f h = refl
+whole_bytes l (suc i) f h =
+    let e : suc i ≡ i + 1 = omega arith in
+    ap (λ (n : ℕ). sum_by ones (take n l)) e ∙ sum_by_more ones l i 0 (omega arith)
+    ∙ (omega (arith, whole_bytes l i f (omega arith), more_byte l i (f i))) ∙ ap (λ (n : ℕ). count_bits l (n * 8)) (sym e)
+
+-- what a sum over the bytes before byte i returns, where the closure counts the bits of a byte
+pub ones_from_sum : {F : Type 0} {g : Mut F (Bor ℕ × Unit {0}) ℕ} {s : Map (Iter ℕ) F} {f : F} (l : List ℕ) (i r : ℕ) → ((k : ℕ) → get_or l k 0 < 256) → i ≤ length l
+    → (xs : List ℕ) × (⊤ → Drains (maps fronts g) s xs) × (r ≡ fold (λ a x. a + x) 0 xs)
+    → iter_rest (map_source s) ≡ take i l → map_callee s ≡ f → ((x : Bor ℕ) (r : ℕ) (q : F) → Called g f (x, tt) r q → (q ≡ f) × (r ≡ ones x.now))
+    → r ≡ count_bits l (i * 8)
+ones_from_sum {g = g} {s = s} l i r b h ran e q t =
+    sum_by_from_yields_List ones (take i l) s r ran (YieldsList-from_map g ones (YieldsList-from_slice (take i l) e) q t) ∙ whole_bytes l i b h
 
 pub last_byte : (l : List ℕ) (n i : ℕ) → i ≡ n / 8 → get_or l (n / 8) 0 < 256
     → count_bits l n ≡ count_bits l (i * 8) + ones (bit_and (get_or l (n / 8) 0) ((1 * 2 ^ (n % 8)) % 256 - 1))

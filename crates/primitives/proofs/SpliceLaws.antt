@@ -1,8 +1,9 @@
 -- The laws of a part that is replaced. Assumes nothing.
-use Rattle.std.proofs.Common.{◌≡◌, ℕ, suc, ◌+◌, ◌-◌, ◌<◌, ◌≤◌, List, [], ◌∷◌, ◌++◌, length, get_or, take, drop, set, sym, refl, ap, ◌∙◌, ap₂, append_assoc, append-nil, add-zero, add-suc, add-one, arith, length-append, length-drop, take-append-drop, length-take-le, get_or-drop, drop-cons, get_or-take, take-suc, drop-drop, take_at, get_or-append-add, drop_at}
+use Rattle.std.proofs.Common.{◌≡◌, ℕ, suc, ◌+◌, ◌-◌, ◌<◌, ◌≤◌, List, [], ◌∷◌, ◌++◌, length, get_or, take, drop, set, sym, ap, ◌∙◌, ap₂, append_assoc, append-nil, add-zero, add-suc, add-one, arith, length-append, length-drop, take-append-drop, length-take-le, get_or-drop, drop-cons, get_or-take, drop-drop, take_at, get_or-append-add, drop_at}
 use native.Mathlib.Decide.{dec_lt}
 use lib.ListN.{get_or-append}
 use lib.Seq.{set_at, append_snoc}
+use borrow.Rule.Slice.PartMut.{put_mid}
 use Rattle.primitives.specs.Splice.{splice}
 
 -- a part that fits: nothing past its end, the part, what is before it
@@ -83,29 +84,10 @@ splice_join d p s t q h e =
     ap₂ (λ (u v : List ℕ). u ++ t ++ v) (take_at f r q n) z
     ∙ ap (λ (u : List ℕ). u ++ drop (p + length (s ++ t)) d) (append_assoc (take p d) s t)
 
--- k bytes of a source from `from`
-module _ (src : List ℕ) (from k : ℕ) (h : from + k < length src) where
-  pub length_part : length (take k (drop from src)) ≡ k
-  length_part = length-take-le k (drop from src) (omega (arith, length-drop from src))
-
-  pub part_more : take k (drop from src) ++ (get_or src (from + k) 0 ∷ []) ≡ take (k + 1) (drop from src)
-  part_more =
-      ap (λ (x : ℕ). take k (drop from src) ++ (x ∷ [])) (sym (get_or-drop from src k 0))
-      ∙ sym (take-suc (drop from src) k 0 (omega (arith, length-drop from src))) ∙ ap (λ (n : ℕ). take n (drop from src)) (sym (add-one k))
-
 -- ---- a part that is lent and comes back
 
--- what the language gives back for a part `&mut d[a..e]` that holds s last
-pub back : (d : List ℕ) (a k : ℕ) (s : List ℕ) → length s ≡ k → take a d ++ (s ++ drop k (drop a d)) ≡ splice d a s
+-- what the language gives back for a part `&mut d[a..e]` of n bytes that holds s last
+pub put_mid-splice : (d : List ℕ) (a e n : ℕ) (s t : List ℕ) → e - a ≡ n → length t ≡ n → s ≡ t → put_mid a (e - a) d s ≡ splice d a t
 unfolding splice
-back d a k s e = rw (← e, drop-drop (length s) a d) (sym (append_assoc (take a d) s (drop (a + length s) d)))
-
--- the front of a list
-take_front : (s t : List ℕ) → take (length s) (s ++ t) ≡ s
-take_front [] t = refl
-take_front (x ∷ s) t = ap {B = List ℕ} (λ (r : List ℕ). x ∷ r) (take_front s t)
-
--- what was stored at the front is read back
-pub splice_front : (d s : List ℕ) (n : ℕ) → length s ≡ n → take n (drop 0 (splice d 0 s)) ≡ s
-unfolding splice
-splice_front d s n e = rw (← e) (take_front s (drop (0 + length s) d))
+put_mid-splice d a e n s t q h r =
+    rw (q, r, ← h, drop-drop (length t) a d) (sym (append_assoc (take a d) t (drop (a + length t) d)))

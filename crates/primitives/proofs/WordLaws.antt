@@ -1,8 +1,11 @@
 -- The laws of words of n bytes, for every width n. Assumes nothing.
-use Rattle.std.proofs.Common.{◌≡◌, ℕ, zero, suc, ◌+◌, ◌*◌, ◌/◌, ◌%◌, ◌^◌, ◌<◌, ◌≤◌, List, length, get_or, take, drop, set, sym, refl, ap, ◌∙◌, ap₂, add-zero, add_assoc, add-suc, zero-lt-suc, mul_assoc, mul_comm, add-mul, add_comm, div-add-mod', arith, length-set, get_or-drop, get_or-set_other, get_or-take, get_or-set_same, pow-add}
-use native.Mathlib.Nat.{pow-succ', div-div-eq-div-mul, add-mul-div_right, add-mul-mod_self_right}
+use Rattle.std.proofs.Common.{◌≡◌, ℕ, zero, suc, ◌+◌, ◌*◌, ◌/◌, ◌%◌, ◌^◌, ◌<◌, ◌≤◌, List, [], ◌∷◌, ◌++◌, length, get_or, take, drop, set, sym, refl, ap, ◌∙◌, ap₂, add_assoc, zero-lt-suc, arith, length-set, get_or-drop, get_or-set_other, get_or-take, get_or-set_same}
+use native.Mathlib.Nat.{pow-succ'}
 use lib.Arith.{mod-mul}
+use Rattle.std.specs.Int.{byte_at, byte_worth, bytes_low_first, sum_through}
+use Rattle.primitives.specs.Splice.{splice}
 use Rattle.primitives.specs.Words.{get_le, put_le}
+use Rattle.primitives.proofs.SpliceLaws.{splice-nil, splice_turn}
 
 pow_pos' : (n : ℕ) → zero < 256 ^ n
 pow_pos' zero = zero-lt-suc 0
@@ -55,29 +58,39 @@ get_put (suc n) l at v h =
     (get_or-set_same p (at + n) b 0 in-range)
     ∙ rw pow-succ' (omega (arith, mod-mul v {m = 256} {c = 256 ^ n} (zero-lt-suc 255) (pow_pos' n)))
 
--- ---- a word of n + m bytes is one of n bytes and one of m bytes after it
+-- ---- as the library reads and writes a word
 
-pub get_split : (n m : ℕ) (l : List ℕ) (at : ℕ) → get_le (n + m) l at ≡ get_le n l at + get_le m l (at + n) * 256 ^ n
+bytes-get : (n : ℕ) (l : List ℕ) → sum_through (λ i. byte_worth i (get_or l i 0)) n ≡ get_le (suc n) l 0
 unfolding get_le
-get_split n zero l at = rw add-zero (omega arith)
-get_split n (suc m) l at =
-    rw (add-suc, get_split n m l at, pow-add 256 n m, ← add_assoc at n m)
-    (let g = get_or l (at + n + m) 0 in
-    ap (λ (x : ℕ). get_le n l at + get_le m l (at + n) * 256 ^ n + x) (ap (λ (x : ℕ). g * x) (mul_comm (256 ^ n) (256 ^ m)) ∙ sym (mul_assoc g (256 ^ m) (256 ^ n)))
-    ∙ add_assoc (get_le n l at) (get_le m l (at + n) * 256 ^ n) (g * 256 ^ m * 256 ^ n)
-    ∙ ap (λ (x : ℕ). get_le n l at + x) (sym (add-mul (get_le m l (at + n)) (g * 256 ^ m) (256 ^ n))))
+bytes-get zero l = omega arith
+bytes-get (suc n) l =
+    let e : 0 + suc n ≡ suc n = omega arith in
+    rw e (ap (λ (x : ℕ). x + get_or l (suc n) 0 * 256 ^ suc n) (bytes-get n l))
 
-pub put_split : (n m : ℕ) (l : List ℕ) (at v : ℕ) → put_le (n + m) l at v ≡ put_le m (put_le n l at v) (at + n) (v / 256 ^ n)
+-- the bytes of a part, put together
+pub part-get : (n : ℕ) (l : List ℕ) (at : ℕ) → sum_through (λ i. byte_worth i (get_or (take (suc n) (drop at l)) i 0)) n ≡ get_le (suc n) l at
+part-get n l at =
+    bytes-get n (take (suc n) (drop at l)) ∙ get_part (suc n) l at (suc n) 0 (omega arith) ∙ ap (get_le (suc n) l) (omega arith)
+
+byte-at : (i v : ℕ) → byte_at i v ≡ v / 256 ^ i % 256
+byte-at zero v = omega arith
+byte-at (suc i) v = refl
+
+pub length-bytes : (i n v : ℕ) → length (bytes_low_first i n v) ≡ n
+length-bytes i zero v = refl
+length-bytes i (suc n) v = ap suc (length-bytes (suc i) n v)
+
+bytes-snoc : (i n v : ℕ) → bytes_low_first i n v ++ (byte_at (i + n) v ∷ []) ≡ bytes_low_first i (suc n) v
+bytes-snoc i zero v = ap (λ (k : ℕ). byte_at k v ∷ []) (omega arith)
+bytes-snoc i (suc n) v =
+    let e : i + suc n ≡ suc i + n = omega arith in
+    ap (λ (r : List ℕ). byte_at i v ∷ r) (ap (λ (k : ℕ). bytes_low_first (suc i) n v ++ (byte_at k v ∷ [])) e ∙ bytes-snoc (suc i) n v)
+
+-- the bytes of a number, put in place
+pub splice-put : (n : ℕ) (l : List ℕ) (at v : ℕ) → at + n ≤ length l → splice l at (bytes_low_first 0 n v) ≡ put_le n l at v
 unfolding put_le
-put_split n zero l at v = rw add-zero
-put_split n (suc m) l at v = rw (add-suc, put_split n m l at v, pow-add 256 n m, ← div-div-eq-div-mul, ← add_assoc at n m)
-
--- only the n low bytes of a number are put
-pub put_more : (n : ℕ) (l : List ℕ) (at r q : ℕ) → put_le n l at (r + q * 256 ^ n) ≡ put_le n l at r
-unfolding put_le
-put_more zero l at r q = refl
-put_more (suc n) l at r q =
-    rw (pow-succ', ← mul_assoc q 256 (256 ^ n), put_more n l at r (q * 256), add-mul-div_right r (q * 256) (pow_pos' n), add-mul-mod_self_right)
-
-pub put_mod : (n : ℕ) (l : List ℕ) (at v : ℕ) → put_le n l at (v % 256 ^ n) ≡ put_le n l at v
-put_mod n l at v = sym (put_more n l at (v % 256 ^ n) (v / 256 ^ n)) ∙ ap (put_le n l at) (add_comm (v % 256 ^ n) (v / 256 ^ n * 256 ^ n) ∙ div-add-mod' v (256 ^ n))
+splice-put zero l at v h = splice-nil l at
+splice-put (suc n) l at v h =
+    sym (splice_turn l at (bytes_low_first 0 n v) (bytes_low_first 0 (suc n) v) n (byte_at n v) (length-bytes 0 n v) (omega arith)
+    (ap (λ (k : ℕ). bytes_low_first 0 n v ++ (byte_at k v ∷ [])) (omega arith) ∙ bytes-snoc 0 n v))
+    ∙ ap₂ (λ (r : List ℕ) (x : ℕ). set r (at + n) x) (splice-put n l at v (omega arith)) (byte-at n v)

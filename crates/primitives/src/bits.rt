@@ -33,34 +33,17 @@ pub fn bit_put(b: u8, j: u8, on: bool) -> u8
     requires { j < 8 }
     ensures { result ≡ put_bit b j on }
 {
-    if on {
-        return bit_set(b, j);
-    }
-    bit_clear(b, j)
+    if on { bit_set(b, j) } else { bit_clear(b, j) }
 }
 
-// Whether both are true.
-pub fn both(a: bool, b: bool) -> bool
-    ensures { result ≡ a && b }
-{
-    if a {
-        return b;
-    }
-    false
-}
-
-// Whether the 64 bytes from i are all b. With no way out of the loop, the compiler compares 16 bytes at a time.
+// Whether the 64 bytes from i are all b. With no way out before the end, the compiler compares 16 bytes at a time.
 fn same_block(bitmap: &[u8], i: usize, b: u8) -> bool
     requires { i + 64 ≤ length bitmap.now }
     ensures { result ≡ all_from (byte_is bitmap.now b) i 64 }
 {
-    let mut same = true;
-    let mut j: usize = 0;
-    while j < 64 {
-        same = both(same, bitmap[i + j] == b);
-        j += 1;
-    }
-    same
+    bitmap[i..i + 64]
+        .iter()
+        .fold(true, |same, x| same & (*x == b))
 }
 
 // The first of the n bit numbers from k whose byte is not b; k + n where there is none. One test for each byte.
@@ -87,13 +70,8 @@ fn past_bytes(bitmap: &[u8], b: u8, k: u32, n: u32) -> u32
 {
     let end = k + n;
     let mut at = k;
-    while 520 <= end - at {
-        let i = (at / 8) as usize;
-        if same_block(bitmap, i, b) {
-            at = 8 * (at / 8) + 512;
-        } else {
-            return past_each_byte(bitmap, b, at, end - at);
-        }
+    while 520 <= end - at && same_block(bitmap, (at / 8) as usize, b) {
+        at = 8 * (at / 8) + 512;
     }
     past_each_byte(bitmap, b, at, end - at)
 }

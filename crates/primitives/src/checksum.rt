@@ -1,62 +1,42 @@
 // The checksum of an entry set (Rust: `entry_set_checksum`).
-ghost use Rattle.std.specs.Prelude.{◌≡◌, ◌+◌, ◌≤◌, length};
+ghost use Rattle.std.specs.Prelude.{◌≡◌, ◌≤◌, length, fold};
 ghost use Rattle.primitives.specs.Checksum.{rotate_right, add_byte, checksum};
-ghost use Rattle.primitives.specs.Internal.{add_bytes};
 
 // x rotated right by one bit.
 fn rotate_right_1(x: u16) -> u16
     ensures { result ≡ rotate_right x }
 {
-    (x >> 1) | (x << 15)
+    x.rotate_right(1)
 }
 
 // The sum after one more byte.
 fn checksum_step(sum: u16, b: u8) -> u16
     ensures { result ≡ add_byte sum b }
 {
-    std::num::wrapping_add_u16(rotate_right_1(sum), b as u16)
+    rotate_right_1(sum).wrapping_add(u16::from(b))
 }
 
-// The sum after the n bytes from `from`.
-fn add_bytes(set: &[u8], from: usize, n: usize, start: u16) -> u16
-    requires { from + n ≤ length set.now }
-    ensures { result ≡ add_bytes set.now from start n }
+// The sum after each of the bytes.
+fn add_bytes(bytes: &[u8], start: u16) -> u16
+    ensures { result ≡ fold add_byte start bytes.now }
 {
-    let mut sum = start;
-    let mut i = 0;
-    while i < n {
-        sum = checksum_step(sum, set[from + i]);
-        i += 1;
-    }
-    sum
+    bytes.iter().fold(start, |sum, b| checksum_step(sum, *b))
 }
 
-// The checksum of the first n bytes. Bytes 2 and 3 hold the checksum itself and are left out.
-fn checksum_of(set: &[u8], n: usize) -> u16
-    requires { n ≤ length set.now }
-    ensures { result ≡ checksum set.now n }
-{
-    if n < 2 {
-        return add_bytes(set, 0, n, 0);
-    }
-    let start = add_bytes(set, 0, 2, 0);
-    if n < 4 {
-        return start;
-    }
-    add_bytes(set, 4, n - 4, start)
-}
-
-// The checksum of a whole set.
+// The checksum of a whole set. Bytes 2 and 3 hold the checksum itself and are left out.
 pub fn entry_set_checksum(set: &[u8]) -> u16
     ensures { result ≡ checksum set.now (length set.now) }
 {
-    checksum_of(set, set.len())
+    let n = set.len();
+    let start = add_bytes(&set[..n.min(2)], 0);
+    add_bytes(&set[n.min(4)..], start)
 }
 
 // The checksum of the first n bytes of a set that is held in an array.
+// Kept: the definition takes the bytes and n, as callers have them; each would else prove that a part's checksum is that one.
 pub fn array_checksum(set: &[u8; 608], n: usize) -> u16
     requires { n ≤ 608 }
     ensures { result ≡ checksum set.now n }
 {
-    checksum_of(set, n)
+    entry_set_checksum(&set[..n])
 }

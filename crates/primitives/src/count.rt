@@ -9,14 +9,9 @@ pub fn bitmap_count(bitmap: &[u8], count: u32) -> u32
 {
     let whole = (count / 8) as usize;
     let rest = count % 8;
-    let mut sum: u32 = 0;
-    let mut i = 0;
-    while i < whole {
-        sum += u8::count_ones(bitmap[i]);
-        i += 1;
-    }
+    let mut sum: u32 = bitmap[..whole].iter().map(|b| b.count_ones()).sum();
     if rest != 0 {
-        sum += u8::count_ones(bitmap[whole] & ((1 << rest) - 1));
+        sum += (bitmap[whole] & ((1 << rest) - 1)).count_ones();
     }
     sum
 }

@@ -7,7 +7,7 @@ use native.Mathlib.Omega.{arith}
 use lib.Dec.{eqb}
 use borrow.Author.Tests.{eq-eqb, ne_eqb}
 use Rattle.tables.proofs.Cases.{clash, cond_case, and_left, and_right, and_both}
-use Rattle.search.specs.declared.found.Found.TheVariants.{At, Nothing}
+use Rattle.std.specs.Prelude.{Some, None}
 use Rattle.search.specs.Search.{all_from, first_run, run_from, fewest}
 use Rattle.search.proofs.Runs.{all-not, run_none}
 
@@ -56,28 +56,28 @@ module _ (u : ℕ → Bool) where
     ];
   }
 
-  first_at : (end n tries s a : ℕ) → s + n + tries ≡ end + 1 → first_run u n tries s ≡ At a → Lowest u end n s a
+  first_at : (end n tries s a : ℕ) → s + n + tries ≡ end + 1 → first_run u n tries s ≡ Some a → Lowest u end n s a
   unfolding first_run
   first_at end n zero s a h e = clash (cc)
   first_at end n (suc tries) s a h e =
-      cond_case (λ f. f ≡ At a → Lowest u end n s a) (all_from u s n) (At s) (first_run u n tries (s + 1))
+      cond_case (λ f. f ≡ Some a → Lowest u end n s a) (all_from u s n) (Some s) (first_run u n tries (s + 1))
       (λ t q. let r : s ≡ a = cc in subst (Lowest u end n s) r
       (record { after = omega arith; inside = omega arith; whole = all_whole s n t; least = λ b l m g. omega arith }))
       (λ t q. lowest_later end n s a t (first_at end n tries (s + 1) a (omega arith) q)) e
 
   -- a start that was found
-  pub run_at : (end n s a : ℕ) → run_from u end n s ≡ At a → Lowest u end n s a
+  pub run_at : (end n s a : ℕ) → run_from u end n s ≡ Some a → Lowest u end n s a
   run_at end n s a e =
       elim (dec_lt end (s + n)) [
         | yes w ↦ (let q = run_none u end n s w in clash (cc))
         | no w ↦ first_at end n (end + 1 - (n + s)) s a (omega arith) (unfold run_from in e)
       ]
 
-  first_nothing : (n tries s : ℕ) → first_run u n tries s ≡ Nothing → (b : ℕ) → s ≤ b → b < s + tries → Whole u b n → ⊥
+  first_nothing : (n tries s : ℕ) → first_run u n tries s ≡ None → (b : ℕ) → s ≤ b → b < s + tries → Whole u b n → ⊥
   unfolding first_run
   first_nothing n zero s e b l h g = omega arith
   first_nothing n (suc tries) s e b l h g =
-      cond_case (λ f. f ≡ Nothing → ⊥) (all_from u s n) (At s) (first_run u n tries (s + 1))
+      cond_case (λ f. f ≡ None → ⊥) (all_from u s n) (Some s) (first_run u n tries (s + 1))
       (λ t q. clash (cc))
       (λ t q. elim (dec_lt s b) [
         | yes w ↦ first_nothing n tries (s + 1) q b (omega arith) (omega arith) g
@@ -85,7 +85,7 @@ module _ (u : ℕ → Bool) where
       ]) e
 
   -- none was found: no start at or after s has n numbers below end that pass
-  pub run_nothing : (end n s : ℕ) → run_from u end n s ≡ Nothing → (b : ℕ) → s ≤ b → b + n ≤ end → Whole u b n → ⊥
+  pub run_nothing : (end n s : ℕ) → run_from u end n s ≡ None → (b : ℕ) → s ≤ b → b + n ≤ end → Whole u b n → ⊥
   unfolding run_from
   run_nothing end n s e b l h g = first_nothing n (end + 1 - (n + s)) s e b l (omega arith) g
 

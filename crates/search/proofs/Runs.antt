@@ -8,7 +8,7 @@ use native.Mathlib.Numerals.{add-one, sub-one}
 use native.Mathlib.Omega.{arith}
 use Rattle.tables.specs.Lists.{every, consec}
 use Rattle.tables.proofs.Cases.{and_left, and_right, and_both}
-use Rattle.search.specs.declared.found.Found.TheVariants.{At, Nothing}
+use Rattle.std.specs.Prelude.{Some, None}
 use Rattle.search.specs.Search.{all_from, first_run, run_from}
 use Rattle.search.specs.Internal.{past_failing}
 
@@ -50,7 +50,7 @@ module _ (u : ℕ → Bool) where
       rw r (and_both (all_from u s (k - s)) (u (s + (k - s))) e (ap u t ∙ f))
 
   -- by the first number
-  all_first : (s n : ℕ) → all_from u s (suc n) ≡ u s && all_from u (s + 1) n
+  pub all_first : (s n : ℕ) → all_from u s (suc n) ≡ u s && all_from u (s + 1) n
   unfolding all_from
   all_first s zero =
       let q : s + zero ≡ s = omega arith in
@@ -154,7 +154,7 @@ module _ (u : ℕ → Bool) where
 
   -- ---- the lowest run
 
-  first_hit : (n tries s : ℕ) → all_from u s n ≡ true → first_run u n (suc tries) s ≡ At s
+  first_hit : (n tries s : ℕ) → all_from u s n ≡ true → first_run u n (suc tries) s ≡ Some s
   unfolding first_run
   first_hit n tries s e = rw e refl
 
@@ -164,7 +164,7 @@ module _ (u : ℕ → Bool) where
   first_step n (suc tries) s e = rw (e, sub-one) refl
 
   -- where no start of the last b tries is found, the first a decide
-  first_cut : (n a b s : ℕ) → first_run u n b (s + a) ≡ Nothing → first_run u n (a + b) s ≡ first_run u n a s
+  first_cut : (n a b s : ℕ) → first_run u n b (s + a) ≡ None → first_run u n (a + b) s ≡ first_run u n a s
   unfolding first_run
   first_cut n zero b s e =
       let p : zero + b ≡ b = omega arith in
@@ -176,17 +176,17 @@ module _ (u : ℕ → Bool) where
       rw (p, first_cut n a b (s + 1) (ap (first_run u n b) q ∙ e)) refl
 
   module _ (end n : ℕ) where
-    pub run_hit : (s : ℕ) → s + n ≤ end → all_from u s n ≡ true → run_from u end n s ≡ At s
+    pub run_hit : (s : ℕ) → s + n ≤ end → all_from u s n ≡ true → run_from u end n s ≡ Some s
     unfolding run_from
     run_hit s h e =
         let q : end + 1 - (n + s) ≡ suc (end - (n + s)) = omega arith in
         rw q (first_hit n (end - (n + s)) s e)
 
-    pub run_none : (s : ℕ) → end < s + n → run_from u end n s ≡ Nothing
+    pub run_none : (s : ℕ) → end < s + n → run_from u end n s ≡ None
     unfolding run_from first_run
     run_none s h = let q : end + 1 - (n + s) ≡ zero = omega arith in rw q refl
 
-    run_low : (s : ℕ) → 2 ≤ s → 1 ≤ n → s + n ≤ end + 1 → run_from u end n s ≡ Nothing → run_from u (s + n - 1) n 2 ≡ run_from u end n 2
+    run_low : (s : ℕ) → 2 ≤ s → 1 ≤ n → s + n ≤ end + 1 → run_from u end n s ≡ None → run_from u (s + n - 1) n 2 ≡ run_from u end n 2
     unfolding run_from
     run_low s l h w e =
         ap (λ (x : ℕ). first_run u n x 2) (starts_below n s l h)
@@ -195,7 +195,7 @@ module _ (u : ℕ → Bool) where
         ∙ first_cut n (s - 2) (end + 1 - (n + s)) 2 (ap (first_run u n (end + 1 - (n + s))) (starts_from s l) ∙ e))
 
     -- no run starts at or after s: the search of the whole may end where one that starts before s does
-    pub run_before : (s : ℕ) → 2 ≤ s → 1 ≤ n → run_from u end n s ≡ Nothing → run_from u (min end (s + n - 1)) n 2 ≡ run_from u end n 2
+    pub run_before : (s : ℕ) → 2 ≤ s → 1 ≤ n → run_from u end n s ≡ None → run_from u (min end (s + n - 1)) n 2 ≡ run_from u end n 2
     run_before s l h e =
         elim (dec_lt end (s + n - 1)) [
           | yes w ↦ ap (λ (x : ℕ). run_from u x n 2) (lesser_left end (s + n - 1) (omega arith))
@@ -226,7 +226,7 @@ module _ (u : ℕ → Bool) where
         ∙ run_skip s s (omega arith) (omega arith) (f s (omega arith) (omega arith))
 
     -- a window from base tested from its end: t is one past the last that fails
-    pub window_hit : (base t : ℕ) → t ≡ past_failing u base n → base + n ≤ end → t ≡ base → run_from u end n base ≡ At base
+    pub window_hit : (base t : ℕ) → t ≡ past_failing u base n → base + n ≤ end → t ≡ base → run_from u end n base ≡ Some base
     window_hit base t q i z =
         run_hit base i (ap₂ (all_from u) (sym (sym q ∙ z)) (omega arith) ∙ tail_rest base n)
 

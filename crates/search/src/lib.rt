@@ -1,4 +1,2 @@
-// Searches over a test of numbers; nothing here knows of clusters or entries.
+// Searches over a test of numbers: definitions and laws, no code; nothing here knows of clusters or entries.
 #![tactic(auto)]
-
-pub mod found;

@@ -5,5 +5,5 @@ use Rattle.primitives.proofs.bits.bit_put.Goals as goal
 pub returns-then-on : goal.returns-then-on
 returns-then-on c = (cc) ∙ sym (put_on _ _ _ (cc))
 
-pub returns : goal.returns
-returns c = (cc) ∙ sym (put_off _ _ _ (cc))
+pub returns-else-on : goal.returns-else-on
+returns-else-on c = (cc) ∙ sym (put_off _ _ _ (cc))

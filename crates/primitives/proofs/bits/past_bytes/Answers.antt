@@ -11,8 +11,5 @@ loop-at-preserved c =
     let l = c.loop-at in
     (omega arith, sym (to_bytes _ _ 64 l.at _ (omega arith) (omega arith) (sym c.same_block.ensures ∙ c.if-same_block.true)) ∙ l.invariant.1)
 
-pub returns-else-same_block : goal.returns-else-same_block
-returns-else-same_block c = fewest_within _ _ _ _ (c.past_each_byte.ensures ∙ sym (to_all _ _ _ _ _ (omega arith)) ∙ c.loop-at.invariant.1)
-
 pub returns : goal.returns
-returns c = fewest_within _ _ _ _ (c.past_each_byte-2.ensures ∙ sym (to_all _ _ _ _ _ (omega arith)) ∙ c.loop-at.invariant.1)
+returns c = fewest_within _ _ _ _ (c.past_each_byte.ensures ∙ sym (to_all _ _ _ _ _ (omega arith)) ∙ c.loop-at.invariant.1)

@@ -1,17 +1,12 @@
-use Rattle.std.proofs.Common.{◌≡◌, sym, refl, ap, ◌∙◌, arith}
-use Rattle.search.specs.Search.{all_from}
-use Rattle.search.proofs.Runs.{all_none}
-use Rattle.primitives.proofs.ByteLaws.{same_next}
+use Rattle.std.proofs.Common.{◌≡◌, ◌+◌, ◌-◌, eqb, ◌∙◌, rules, tests, arith}
+use Rattle.tables.proofs.Chains.{every_from_fold}
+use Rattle.search.proofs.Chains.{every-part}
+use Rattle.primitives.specs.Internal.{byte_is}
 use Rattle.primitives.proofs.bits.same_block.Goals as goal
 
-pub loop-j-init : goal.loop-j-init
-loop-j-init c = (omega arith, sym (all_none _ _ _ refl))
-
-pub loop-j-preserved : goal.loop-j-preserved
-loop-j-preserved c = (omega arith, (cc) ∙ sym (same_next _ _ _ _))
-
 pub returns : goal.returns
+unfolding byte_is
 returns c =
-    let l = c.loop-j in
-    let e : l.j ≡ 64 = omega arith in
-    l.invariant.1 ∙ ap (all_from _ _) e
+    let i = c.args.i in
+    let e : i + 64 - i ≡ 64 = omega arith in
+    every_from_fold (λ x. eqb x c.args.b) _ _ c.fold.ensures.ran (cc) (λ a x b q k. search (rules, tests)) ∙ every-part _ c.args.bitmap.now i 64 (omega arith)

@@ -1,12 +1,9 @@
-use Rattle.std.proofs.Common.{◌/◌, ◌<◌, add-zero, mod-eq_of_lt, div-one, arith, length-set}
-use Rattle.primitives.specs.Words.{put_le}
+use Rattle.std.proofs.Common.{◌∙◌, arith}
+use Rattle.primitives.proofs.SpliceLaws.{put_mid-splice}
+use Rattle.primitives.proofs.WordLaws.{length-bytes, splice-put}
 use Rattle.primitives.proofs.words.put_u16.Goals as goal
 
-pub bounds-s-at-2 : goal.bounds-s-at-2
-bounds-s-at-2 c = simp length-set (omega arith)
-
 pub returns : goal.returns
-unfolding put_le
 returns c =
-    let small : c.args.v / 256 < 256 = omega arith in
-    simp (add-zero, div-one, mod-eq_of_lt small)
+    let a = c.args in
+    put_mid-splice a.s.now a.at _ 2 _ _ (omega arith) (length-bytes 0 2 a.v) (cc) ∙ splice-put 2 a.s.now a.at a.v (omega arith)

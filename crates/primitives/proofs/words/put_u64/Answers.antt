@@ -1,7 +1,9 @@
-use Rattle.primitives.proofs.WordLaws.{put_split, put_mod}
+use Rattle.std.proofs.Common.{◌∙◌, arith}
+use Rattle.primitives.proofs.SpliceLaws.{put_mid-splice}
+use Rattle.primitives.proofs.WordLaws.{length-bytes, splice-put}
 use Rattle.primitives.proofs.words.put_u64.Goals as goal
 
 pub returns : goal.returns
 returns c =
     let a = c.args in
-    cc (put_mod 4 a.s.now a.at a.v, put_split 4 4 a.s.now a.at a.v)
+    put_mid-splice a.s.now a.at _ 8 _ _ (omega arith) (length-bytes 0 8 a.v) (cc) ∙ splice-put 8 a.s.now a.at a.v (omega arith)

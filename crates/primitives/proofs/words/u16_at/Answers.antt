@@ -1,7 +1,6 @@
-use Rattle.std.proofs.Common.{add-zero, arith}
-use Rattle.primitives.specs.Words.{get_le}
+use Rattle.std.proofs.Common.{◌∙◌}
+use Rattle.primitives.proofs.WordLaws.{part-get}
 use Rattle.primitives.proofs.words.u16_at.Goals as goal
 
 pub returns : goal.returns
-unfolding get_le
-returns c = simp add-zero (omega arith)
+returns c = (cc) ∙ part-get 1 c.args.s.now c.args.at

@@ -1,9 +1,0 @@
-use Rattle.std.proofs.Common.{◌≡◌, ◌-◌, ◌≤◌, length, take, drop}
-use Rattle.primitives.specs.Splice.{splice}
-use Rattle.primitives.proofs.slices.copy_bytes.Given as goal
-
-abbrev pub invariant-loop-k : goal.invariant-loop-k
-invariant-loop-k l = (l.k ≤ l.n) × (length l.dst ≡ length l.initial.dst) × (l.dst ≡ splice l.initial.dst l.at (take l.k (drop l.from l.src)))
-
-abbrev pub decreases-loop-k : goal.decreases-loop-k
-decreases-loop-k l = l.n - l.k
