@@ -1,5 +1,5 @@
 -- What admits a call: the cause that is tested before all else, and every fact of a volume that is admitted. Assumes nothing.
-use mathlib.Core.Path.{◌≡◌, refl, sym, ◌∙◌, ap, subst}
+use mathlib.Core.Path.{◌≡◌, refl, sym, ◌∙◌, subst}
 use mathlib.Core.Bool.{Bool, true, false}
 use mathlib.Core.List.{List}
 use Prim.Native.Nat.{ℕ, ◌*◌, ◌≤◌}
@@ -7,12 +7,15 @@ use native.Mathlib.Omega.{arith}
 use lib.ListN.{length}
 use Rattle.boot.specs.declared.geometry.Geometry.{Geometry}
 use Rattle.boot.specs.declared.layout.Layout.{Layout}
-use Rattle.boot.specs.declared.layout.Admitted.{Admitted}
+use Rattle.boot.specs.declared.cause.Cause.{Cause}
+use Rattle.boot.specs.declared.cause.Cause.TheVariants.{Limits}
+use Rattle.std.specs.Prelude.{Result, Ok, Err}
 use Rattle.boot.specs.Geometry.{bitmap_bytes}
 use Rattle.boot.specs.Limits.{in_map, limits}
 use Rattle.boot.specs.Layout.{layout_of, is_bitmap_cluster}
-use Rattle.boot.specs.Causes.{first_cause, limits_cause, admit_cause}
-use Rattle.boot.specs.Internal.{Laid, Apart, no_layout, admitted}
+use Rattle.boot.specs.Causes.{cause_number, first_cause, limits_cause, admit_cause}
+use Rattle.boot.specs.Internal.{Laid, Apart, admitted}
+use Rattle.tables.proofs.Cases.{clash}
 use Rattle.boot.proofs.Accepted.{accepted_of, map-length}
 use Rattle.boot.proofs.Places.{laid_of}
 use Rattle.boot.proofs.Apart.{apart_of}
@@ -35,17 +38,6 @@ module _ (g : Geometry) (d m : List ℕ) where
       by : (b : Bool) → limits g (length d) m ≡ b → limits g (length d) m ≡ true
       by true e = e
       by false e = absurd (omega (arith, limits_refused e))
-
--- ---- the number that a call is told, and the layout that it works on
-
-module _ (g : Geometry) (len : ℕ) (m : List ℕ) where
-  pub admitted_is : limits g len m ≡ true → admitted g len m ≡ record { number = 0; layout = layout_of g len }
-  unfolding admitted
-  admitted_is e = rw e refl
-
-  pub admitted-not : limits g len m ≡ false → admitted g len m ≡ record { number = 1; layout = no_layout }
-  unfolding admitted
-  admitted-not e = rw e refl
 
 -- layout y is that of a volume d with map m that is admitted
 pub record Admits (g : Geometry) (d m : List ℕ) (y : Layout) : Type 0 where
@@ -76,16 +68,26 @@ module _ (g : Geometry) (d m : List ℕ) where
         mapped = mapped g (length d) m e;
       }
 
-  -- the number of an admission is the cause
-  pub admit_number : (a : Admitted) → a ≡ admitted g (length d) m → a.number ≡ admit_cause g d m
-  admit_number a q = by (limits g (length d) m) refl
+  -- an admission that refuses gives the cause
+  pub refuses : (e : Cause) → Err e ≡ admitted g (length d) m → cause_number e ≡ admit_cause g d m
+  unfolding admitted
+  refuses e q = by (limits g (length d) m) refl
     where
-      by : (b : Bool) → limits g (length d) m ≡ b → a.number ≡ admit_cause g d m
-      by true e = ap (λ (x : Admitted). x.number) (q ∙ admitted_is g (length d) m e) ∙ sym (limits-admitted g d m e)
-      by false e = ap (λ (x : Admitted). x.number) (q ∙ admitted-not g (length d) m e) ∙ sym (limits_refused g d m e)
+      by : (b : Bool) → limits g (length d) m ≡ b → cause_number e ≡ admit_cause g d m
+      by true l = let z : ◌≡◌ {A = Result Layout Cause} (Err e) (Ok (layout_of g (length d))) = q ∙ rw l refl in clash (cc)
+      by false l =
+          let z : ◌≡◌ {A = Result Layout Cause} (Err e) (Err Limits) = q ∙ rw l refl in
+          let w : Limits ≡ e = cc in
+          rw (← w) (sym (limits_refused g d m l))
 
-  -- and where it is 0, the layout has every fact above
-  pub admission : (a : Admitted) → a ≡ admitted g (length d) m → a.number ≡ 0 → Admits g d m a.layout
-  admission a q z =
-      let e = admitted-limits g d m (sym (admit_number a q) ∙ z) in
-      subst (Admits g d m) (sym (ap (λ (x : Admitted). x.layout) (q ∙ admitted_is g (length d) m e))) (limits_admits e)
+  -- and one that does not gives a layout that has every fact above
+  pub admits : (y : Layout) → Ok y ≡ admitted g (length d) m → Admits g d m y
+  unfolding admitted
+  admits y q = by (limits g (length d) m) refl
+    where
+      by : (b : Bool) → limits g (length d) m ≡ b → Admits g d m y
+      by true l =
+          let z : ◌≡◌ {A = Result Layout Cause} (Ok y) (Ok (layout_of g (length d))) = q ∙ rw l refl in
+          let w : layout_of g (length d) ≡ y = cc in
+          subst (Admits g d m) w (limits_admits l)
+      by false l = let z : ◌≡◌ {A = Result Layout Cause} (Ok y) (Err Limits) = q ∙ rw l refl in clash (cc)

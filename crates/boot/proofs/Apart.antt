@@ -8,7 +8,7 @@ use native.Mathlib.Nat.{add-mul, mul-le-mul_right}
 use native.Mathlib.Omega.{arith}
 use lib.Dec.{eqb, leb, ltb}
 use borrow.Author.Tests.{eqb-true, leb-true, ltb-true, le-leb, lt-ltb}
-use Rattle.tables.proofs.Cases.{not_so, bool_ext, and_left, and_right, and_both}
+use Rattle.tables.proofs.Cases.{and_left, and_right, and_both}
 use Rattle.boot.specs.declared.geometry.Geometry.{Geometry}
 use Rattle.boot.specs.declared.layout.Layout.{Layout}
 use Rattle.boot.specs.Geometry.{number_of_fats, active_fat, cluster_count, bitmap0, bitmap_bytes, bitmap_clusters}
@@ -68,15 +68,6 @@ run-true : (first n k : ℕ) → first ≤ k → k < first + n → in_run first 
 unfolding in_run
 run-true first n k l h = and_both (leb first k) (ltb k (first + n)) (le-leb first k l) (lt-ltb k (first + n) h)
 
-pub run_low : (first n k : ℕ) → k < first → in_run first n k ≡ false
-run_low first n k h = not_so (in_run first n k) (λ e. let f = run_facts first n k e in omega arith)
-
-pub run_is : (first n k : ℕ) → first ≤ k → ltb (k - first) n ≡ in_run first n k
-run_is first n k h =
-    bool_ext (ltb (k - first) n) (in_run first n k)
-    (λ e. run-true first n k h (omega (arith, ltb-true (k - first) n e)))
-    (λ e. let f = run_facts first n k e in lt-ltb (k - first) n (omega arith))
-
 -- a cluster outside a run is before it or after it
 pub run_out : (first n k : ℕ) → in_run first n k ≡ false → (k < first) ⊎ (first + n ≤ k)
 run_out first n k e =
@@ -97,10 +88,6 @@ unfolding in_heap
 heap_in count k l h = run-true 2 count k l (omega arith)
 
 -- a cluster of either bitmap
-pub bitmap_first_lem : (y : Layout) (k : ℕ) → in_run y.first0 y.span k ≡ true → is_bitmap_cluster y k ≡ true
-unfolding is_bitmap_cluster
-bitmap_first_lem y k e = rw e refl
-
 pub bitmap_second : (y : Layout) (k : ℕ) → in_run y.first0 y.span k ≡ false → is_bitmap_cluster y k ≡ in_run y.first1 y.span k
 unfolding is_bitmap_cluster
 bitmap_second y k e = rw e refl

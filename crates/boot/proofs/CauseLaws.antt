@@ -4,10 +4,31 @@ use mathlib.Core.Bool.{Bool, true, false, cond}
 use mathlib.Core.List.{List, [], ◌∷◌}
 use Prim.Native.Nat.{ℕ}
 use native.Mathlib.Decide.{ℕ_discrete}
+use native.Mathlib.Omega.{arith}
 use lib.Dec.{eqb}
 use borrow.Author.Tests.{eq-eqb, ne_eqb, eqb-true}
 use Rattle.boot.specs.Layout.{in_heap}
-use Rattle.boot.specs.Causes.{first_cause, heap_cause}
+use Rattle.boot.specs.declared.cause.Cause.{Cause}
+use Rattle.boot.specs.declared.cause.Cause.TheVariants.{Limits, OutsideHeap, NoCluster, Endless, OtherChain, Unmarked, NoSpace, PastEnd, SystemCluster, NoFile, IsDirectory, BadName, BadAttributes, ShortList, BadZeros}
+use Rattle.boot.specs.Causes.{cause_number, first_cause, heap_cause}
+
+-- no cause has the number of success
+pub cause-not0 : (e : Cause) → cause_number e ≡ 0 → ⊥
+cause-not0 Limits z = absurd (omega arith)
+cause-not0 OutsideHeap z = absurd (omega arith)
+cause-not0 NoCluster z = absurd (omega arith)
+cause-not0 Endless z = absurd (omega arith)
+cause-not0 OtherChain z = absurd (omega arith)
+cause-not0 Unmarked z = absurd (omega arith)
+cause-not0 NoSpace z = absurd (omega arith)
+cause-not0 PastEnd z = absurd (omega arith)
+cause-not0 SystemCluster z = absurd (omega arith)
+cause-not0 NoFile z = absurd (omega arith)
+cause-not0 IsDirectory z = absurd (omega arith)
+cause-not0 BadName z = absurd (omega arith)
+cause-not0 BadAttributes z = absurd (omega arith)
+cause-not0 ShortList z = absurd (omega arith)
+cause-not0 BadZeros z = absurd (omega arith)
 
 -- a cause that is not met is passed over
 pub cause_skip : (c : ℕ) (cs : List ℕ) → c ≡ 0 → first_cause (c ∷ cs) ≡ first_cause cs

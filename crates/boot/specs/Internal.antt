@@ -1,9 +1,9 @@
 -- What only contracts of inner functions, and proofs, speak of: no promise of a public call and no clause of the claim needs it.
-use Rattle.std.specs.Prelude.{◌≡◌, ◌⊎◌, ℕ, ◌+◌, ◌*◌, ◌≤◌, ◌<◌, ◌/◌, true, false, cond, List}
+use Rattle.std.specs.Prelude.{◌≡◌, ◌⊎◌, ℕ, ◌+◌, ◌*◌, ◌≤◌, ◌<◌, ◌/◌, true, cond, List, Result, Ok, Err}
 use Rattle.boot.specs.declared.geometry.Geometry.{Geometry}
 use Rattle.boot.specs.Geometry.{sector_shift, cluster_shift, fat_offset, fat_length, number_of_fats, active_fat, cluster_heap_offset, cluster_count, bitmap0, bitmap1, sector_size, cluster_size, bitmap_clusters, bitmap_bytes}
 use Rattle.boot.specs.declared.layout.Layout.{Layout}
-use Rattle.boot.specs.declared.layout.Admitted.{Admitted}
+use Rattle.boot.specs.declared.cause.Cause.{Cause}
 use Rattle.boot.specs.Limits.{limits}
 use Rattle.boot.specs.Layout.{cluster_at, layout_of}
 
@@ -73,26 +73,6 @@ pub record Apart (y : Layout) : Type 0 where
   pub holds : bitmap_bytes y.count ≤ y.span * y.size
   pub bitmaps : y.two ≡ true → (y.first0 + y.span ≤ y.first1) ⊎ (y.first1 + y.span ≤ y.first0)
 
--- a layout of zeros: what stands beside a number that refuses
-unfoldable pub no_layout : Layout
-no_layout =
-    record {
-      two = false;
-      fat = 0;
-      fat0 = 0;
-      fat1 = 0;
-      bitmap = 0;
-      bitmap0 = 0;
-      bitmap1 = 0;
-      first0 = 0;
-      first1 = 0;
-      span = 0;
-      heap = 0;
-      size = 0;
-      count = 0;
-      len = 0;
-    }
-
--- the number of admission, and the layout where it is 0
-unfoldable pub admitted : (g : Geometry) (len : ℕ) (m : List ℕ) → Admitted
-admitted g len m = cond (limits g len m) (record { number = 0; layout = layout_of g len }) (record { number = 1; layout = no_layout })
+-- what an admission gives: the layout, or the cause that refuses the call
+unfoldable pub admitted : (g : Geometry) (len : ℕ) (m : List ℕ) → Result Layout Cause
+admitted g len m = cond (limits g len m) (Ok (layout_of g len)) (Err Cause.Limits)

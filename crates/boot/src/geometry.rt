@@ -1,5 +1,5 @@
 // The geometry, by value, and the test of its limits (01: number 1).
-ghost use Rattle.std.specs.Prelude.{◌≡◌, true, false, ◌+◌, ◌-◌, ◌*◌, ◌/◌, ◌^◌, ◌≤◌, ◌<◌, length};
+ghost use Rattle.std.specs.Prelude.{◌≡◌, ◌+◌, ◌-◌, ◌*◌, ◌/◌, ◌^◌, ◌≤◌, ◌<◌, length};
 ghost use Rattle.boot.specs.Geometry.{geometry_of, sector_size, cluster_size, bitmap_bytes, bitmap_clusters};
 ghost use Rattle.boot.specs.Limits.{all, shape_tests, room_tests, map_tests, in_map, all_in_map, run_in_map, apart, second_bitmap, limits};
 ghost use Rattle.boot.specs.Internal.{Shape};
@@ -27,18 +27,31 @@ pub const GEOMETRY_WORDS: usize = 11;
 pub fn geometry_of(w: &[u32; GEOMETRY_WORDS]) -> Geometry
     ensures { result ≡ geometry_of w.now }
 {
+    let [
+        sector_shift,
+        cluster_shift,
+        fat_offset,
+        fat_length,
+        number_of_fats,
+        active_fat,
+        cluster_heap_offset,
+        cluster_count,
+        root_cluster,
+        bitmap_0,
+        bitmap_1,
+    ] = *w;
     Geometry {
-        sector_shift: w[0],
-        cluster_shift: w[1],
-        fat_offset: w[2],
-        fat_length: w[3],
-        number_of_fats: w[4],
-        active_fat: w[5],
-        cluster_heap_offset: w[6],
-        cluster_count: w[7],
-        root_cluster: w[8],
-        bitmap_0: w[9],
-        bitmap_1: w[10],
+        sector_shift,
+        cluster_shift,
+        fat_offset,
+        fat_length,
+        number_of_fats,
+        active_fat,
+        cluster_heap_offset,
+        cluster_count,
+        root_cluster,
+        bitmap_0,
+        bitmap_1,
     }
 }
 
@@ -71,7 +84,7 @@ pub fn in_clusters(g: Geometry, n: u32) -> u64
     requires { Shape g }
     ensures { (result ≡ n * cluster_size g) × (result ≤ 32768 * n) }
 {
-    (n as u64) * cluster_size(g)
+    n as u64 * cluster_size(g)
 }
 
 // Clusters of one bitmap.
@@ -85,57 +98,33 @@ pub fn bitmap_clusters(g: Geometry) -> u32
 }
 
 // The limits of the numbers by themselves.
+#[tactic(auto, unfolding(crate::specs::Limits::shape_tests))]
 fn shape_ok(g: Geometry) -> bool
     ensures { result ≡ all (shape_tests g) }
 {
-    if g.sector_shift < 9 {
-        return false;
-    }
-    if 12 < g.sector_shift {
-        return false;
-    }
-    if 15 - g.sector_shift < g.cluster_shift {
-        return false;
-    }
-    if g.fat_offset < 24 {
-        return false;
-    }
-    if 2 < g.number_of_fats {
-        return false;
-    }
-    if g.number_of_fats <= g.active_fat {
-        return false;
-    }
-    if g.cluster_count < 1 {
-        return false;
-    }
-    if 32768 < g.cluster_count {
-        return false;
-    }
-    true
+    9 <= g.sector_shift
+        && g.sector_shift <= 12
+        && g.cluster_shift <= 15 - g.sector_shift
+        && 24 <= g.fat_offset
+        && 1 <= g.number_of_fats
+        && g.number_of_fats <= 2
+        && g.active_fat < g.number_of_fats
+        && 1 <= g.cluster_count
+        && g.cluster_count <= 32768
 }
 
 // Each FAT holds its entries, the heap stands past the FATs, and the volume holds the heap.
+#[tactic(auto, unfolding(crate::specs::Limits::room_tests))]
 fn room_ok(g: Geometry, len: usize) -> bool
     requires { Shape g }
     ensures { result ≡ all (room_tests g len) }
 {
-    let fats = (g.number_of_fats as u64) * (g.fat_length as u64);
-    if in_sectors(g, g.fat_length as u64) < 4 * (g.cluster_count as u64 + 2) {
-        return false;
-    }
-    if (g.cluster_heap_offset as u64) < g.fat_offset as u64 + fats {
-        return false;
-    }
-    if (len as u64)
-        < in_sectors(g, g.cluster_heap_offset as u64) + in_clusters(g, g.cluster_count)
-    {
-        return false;
-    }
-    if 16777216 < len {
-        return false;
-    }
-    true
+    let fats = g.number_of_fats as u64 * g.fat_length as u64;
+    4 * (g.cluster_count as u64 + 2) <= in_sectors(g, g.fat_length as u64)
+        && g.fat_offset as u64 + fats <= g.cluster_heap_offset as u64
+        && in_sectors(g, g.cluster_heap_offset as u64) + in_clusters(g, g.cluster_count)
+            <= len as u64
+        && len <= 16777216
 }
 
 // Cluster k's bit in a slice laid out like the bitmap.
@@ -152,87 +141,55 @@ fn all_in_map(map: &[u8], first: u32, n: u32) -> bool
     requires { (2 ≤ first) × ((first + n ≤ 2 + 8 * length map.now) × (first + n ≤ 65536)) }
     ensures { result ≡ all_in_map map.now first n }
 {
-    let mut k = first;
-    let mut left = n;
-    while 0 < left {
-        if !in_map(map, k) {
-            return false;
-        }
-        k += 1;
-        left -= 1;
-    }
-    true
+    (first..first + n).all(|k| in_map(map, k))
 }
 
 // Whether the n clusters from first lie in a heap of count clusters and in the system map.
+#[tactic(auto, unfolding(crate::specs::Limits::run_in_map))]
 fn run_in_map(map: &[u8], count: u32, first: u32, n: u32) -> bool
     requires { (length map.now ≡ bitmap_bytes count) × ((count ≤ 32768) × (n ≤ 65536)) }
     ensures { result ≡ run_in_map map.now count first n }
 {
-    if first < 2 {
-        return false;
-    }
-    if count + 2 < n {
-        return false;
-    }
-    if count + 2 - n < first {
-        return false;
-    }
-    all_in_map(map, first, n)
+    2 <= first && n <= count + 2 && first <= count + 2 - n && all_in_map(map, first, n)
 }
 
 // Whether two runs of n clusters, from a and from b, share none.
+#[tactic(auto, unfolding(crate::specs::Limits::apart))]
 fn runs_apart(a: u32, b: u32, n: u32) -> bool
     requires { n ≤ 65536 }
     ensures { result ≡ apart a b n }
 {
-    if a as u64 + n as u64 <= b as u64 {
-        return true;
-    }
-    if b as u64 + n as u64 <= a as u64 {
-        return true;
-    }
-    false
+    let (a, b, n) = (a as u64, b as u64, n as u64);
+    a + n <= b || b + n <= a
 }
 
 // Whether a second bitmap, where there is one, keeps the limits.
+#[tactic(auto, unfolding(crate::specs::Limits::second_bitmap))]
 fn second_ok(g: Geometry, map: &[u8], n: u32) -> bool
     requires { Shape g × ((length map.now ≡ bitmap_bytes g.cluster_count) × ((n ≡ bitmap_clusters g) × (n ≤ 65536))) }
     ensures { result ≡ second_bitmap g map.now }
 {
-    if g.number_of_fats == 1 {
-        return true;
-    }
-    if run_in_map(map, g.cluster_count, g.bitmap_1, n) {
-        return runs_apart(g.bitmap_0, g.bitmap_1, n);
-    }
-    false
+    g.number_of_fats == 1
+        || (run_in_map(map, g.cluster_count, g.bitmap_1, n)
+            && runs_apart(g.bitmap_0, g.bitmap_1, n))
 }
 
 // Whether the system map's length and the bitmaps keep the limits.
+#[tactic(auto, unfolding(crate::specs::Limits::map_tests))]
 fn maps_ok(g: Geometry, map: &[u8]) -> bool
     requires { Shape g }
     ensures { result ≡ all (map_tests g map.now) }
 {
-    if map.len() != ((g.cluster_count + 7) / 8) as usize {
-        return false;
-    }
     let n = bitmap_clusters(g);
-    if run_in_map(map, g.cluster_count, g.bitmap_0, n) {
-        return second_ok(g, map, n);
-    }
-    false
+    map.len() == ((g.cluster_count + 7) / 8) as usize
+        && run_in_map(map, g.cluster_count, g.bitmap_0, n)
+        && second_ok(g, map, n)
 }
 
 // Whether a geometry, a volume of len bytes and a system map keep the limits: where not, the number is 1.
+#[tactic(auto, unfolding(crate::specs::Limits::limits))]
 pub fn validate(g: Geometry, len: usize, map: &[u8]) -> bool
     ensures { result ≡ limits g len map.now }
 {
-    if shape_ok(g) {
-        if room_ok(g, len) {
-            return maps_ok(g, map);
-        }
-        return false;
-    }
-    false
+    shape_ok(g) && room_ok(g, len) && maps_ok(g, map)
 }

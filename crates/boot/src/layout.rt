@@ -1,8 +1,9 @@
 // Where the parts of a volume lie, in bytes: computed once from a geometry that keeps the limits. And what admits a call: its first tests.
 ghost use Rattle.std.specs.Prelude.{◌≡◌, ◌+◌, ◌-◌, ◌*◌, ◌≤◌, ◌<◌};
-ghost use Rattle.boot.specs.Internal.{Shape, Accepted, Laid, no_layout, admitted};
+ghost use Rattle.boot.specs.Internal.{Shape, Accepted, Laid, admitted};
 ghost use Rattle.boot.specs.Layout.{fat_start, cluster_start, bitmap_first, layout_of, cluster_at, in_heap, in_run, is_bitmap_cluster};
 
+use crate::cause::Cause;
 use crate::geometry;
 use crate::geometry::Geometry;
 
@@ -27,19 +28,12 @@ pub struct Layout {
     pub len: usize,
 }
 
-// The number of admission, and the layout: of zeros where the number is not 0.
-#[derive(Clone, Copy)]
-pub struct Admitted {
-    pub number: u32,
-    pub layout: Layout,
-}
-
 // i FATs of n sectors.
 fn fats(i: u32, n: u32) -> u64
     requires { i < 2 }
     ensures { (result ≡ i * n) × (result ≤ n) }
 {
-    (i as u64) * (n as u64)
+    i as u64 * n as u64
 }
 
 // The first byte of FAT i.
@@ -60,13 +54,11 @@ fn cluster_start(g: Geometry, k: u32) -> usize
 }
 
 // The first cluster of FAT i's bitmap.
+#[tactic(auto, unfolding(crate::specs::Layout::bitmap_first))]
 fn bitmap_first(g: Geometry, i: u32) -> u32
     ensures { result ≡ bitmap_first g i }
 {
-    if i == 0 {
-        return g.bitmap_0;
-    }
-    g.bitmap_1
+    if i == 0 { g.bitmap_0 } else { g.bitmap_1 }
 }
 
 // The layout of a geometry in a volume of len bytes.
@@ -89,45 +81,19 @@ fn layout_of(g: Geometry, len: usize) -> Layout
         heap: cluster_start(g, 2),
         size: geometry::cluster_size(g) as usize,
         count: g.cluster_count,
-        len: len,
+        len,
     }
 }
 
-// A layout of zeros.
-fn no_layout() -> Layout
-    ensures { result ≡ no_layout }
-{
-    Layout {
-        two: false,
-        fat: 0,
-        fat0: 0,
-        fat1: 0,
-        bitmap: 0,
-        bitmap0: 0,
-        bitmap1: 0,
-        first0: 0,
-        first1: 0,
-        span: 0,
-        heap: 0,
-        size: 0,
-        count: 0,
-        len: 0,
-    }
-}
-
-// What every public call begins with: the number that refuses it before all else, or 0 and the layout.
-pub fn admit(g: Geometry, len: usize, map: &[u8]) -> Admitted
+// What every public call begins with: the layout, or the cause that refuses it before all else.
+#[tactic(auto, unfolding(crate::specs::Internal::admitted))]
+pub fn admit(g: Geometry, len: usize, map: &[u8]) -> Result<Layout, Cause>
     ensures { result ≡ admitted g len map.now }
 {
     if geometry::validate(g, len, map) {
-        return Admitted {
-            number: 0,
-            layout: layout_of(g, len),
-        };
-    }
-    Admitted {
-        number: 1,
-        layout: no_layout(),
+        Ok(layout_of(g, len))
+    } else {
+        Err(Cause::Limits)
     }
 }
 
@@ -140,13 +106,11 @@ pub fn cluster_offset(y: Layout, k: u32) -> usize
 }
 
 // Whether k is one of the n clusters from first.
+#[tactic(auto, unfolding(crate::specs::Layout::in_run))]
 fn in_run(first: u32, n: u32, k: u32) -> bool
     ensures { result ≡ in_run first n k }
 {
-    if k < first {
-        return false;
-    }
-    k - first < n
+    first <= k && k - first < n
 }
 
 // Whether k is a cluster of a heap of count clusters.
@@ -157,11 +121,9 @@ pub fn in_heap(count: u32, k: u32) -> bool
 }
 
 // Whether k is a cluster of a bitmap, of the active FAT's or of the other's.
+#[tactic(auto, unfolding(crate::specs::Layout::is_bitmap_cluster))]
 pub fn is_bitmap_cluster(y: Layout, k: u32) -> bool
     ensures { result ≡ is_bitmap_cluster y k }
 {
-    if in_run(y.first0, y.span, k) {
-        return true;
-    }
-    in_run(y.first1, y.span, k)
+    in_run(y.first0, y.span, k) || in_run(y.first1, y.span, k)
 }
