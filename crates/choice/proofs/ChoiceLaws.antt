@@ -3,12 +3,12 @@ use mathlib.Core.Path.{◌≡◌, refl, sym, ◌∙◌, ap, subst}
 use mathlib.Core.Logic.{◌≢◌, ◌⊎◌, inl, inr, ⊎_elim}
 use mathlib.Core.Bool.{Bool, true, false, ◌&&◌, cond}
 use Prim.Native.Nat.{ℕ, ◌+◌, ◌-◌, ◌≤◌, ◌<◌}
-use native.Mathlib.Decide.{dec_lt, ℕ_discrete}
+use native.Mathlib.Decide.{dec_lt}
 use native.Mathlib.Omega.{arith}
-use lib.Dec.{eqb, leb, ltb}
+use lib.Dec.{leb, ltb}
 use lib.ListN.{length, take, length-append}
 use lib.Seq.{length-take-le}
-use borrow.Author.Tests.{leb-true, ltb-true, ltb-false, lt-ltb, le-ltb, le-leb, lt-leb, eq-eqb, ne_eqb}
+use borrow.Author.Tests.{leb-true, ltb-true, ltb-false, lt-ltb, le-ltb, le-leb, lt-leb}
 use Rattle.tables.specs.Lists.{Mem, Distinct, consec}
 use Rattle.tables.specs.Count.{count, keep}
 use Rattle.tables.proofs.Cases.{clash, cond_case, and_left, and_right}
@@ -16,22 +16,14 @@ use Rattle.tables.proofs.ListLaws.{mem_append, mem_take, distinct_append, distin
 use Rattle.tables.proofs.CountLaws.{count-append, count_whole, length-keep, in_keep, keep_distinct, keep_cong, take_whole}
 use Rattle.boot.specs.Layout.{in_heap}
 use Rattle.boot.proofs.Apart.{in_heap_lem, heap_in}
-use Rattle.search.specs.declared.found.Found.{Found}
-use Rattle.search.specs.declared.found.Found.TheVariants.{At, Nothing}
+use Rattle.std.specs.Prelude.{Option}
+use Rattle.std.specs.Prelude.{Some, None}
 use Rattle.choice.specs.declared.choice.Choice.{Choice}
 use Rattle.choice.specs.declared.choice.Choice.TheVariants.{Run, Scattered, TooFew}
 use Rattle.search.specs.Search.{all_from, run_from}
 use Rattle.search.proofs.Lowest.{Whole, Lowest, all_whole, run_at}
 use Rattle.choice.specs.Choice.{or_else, choose, around, begin_of, chosen}
 use Rattle.choice.specs.Internal.{run_fits}
-
--- what is left of n where `found` are found
-pub enough_left : (n left found : ℕ) → left + found ≡ n → eqb left 0 ≡ leb n found
-enough_left n left found e =
-    elim (ℕ_discrete left 0) [
-      | yes z ↦ eq-eqb left 0 z ∙ sym (le-leb n found (omega arith))
-      | no z ↦ ne_eqb left 0 z ∙ sym (lt-leb n found (omega arith))
-    ]
 
 module _ (u : ℕ → Bool) where
   -- ---- a run of n that lies in the heap
@@ -81,10 +73,10 @@ module _ (u : ℕ → Bool) where
   module _ (C n start : ℕ) where
     -- by what the searches and the count say
     pub choose_case {ℓ} : (P : Choice → Type ℓ)
-        → ((k : ℕ) → run_from u (C + 2) n start ≡ At k → P (Run k))
-        → ((k : ℕ) → run_from u (C + 2) n start ≡ Nothing → run_from u (C + 2) n 2 ≡ At k → P (Run k))
-        → (run_from u (C + 2) n start ≡ Nothing → run_from u (C + 2) n 2 ≡ Nothing → count u 2 C < n → P TooFew)
-        → (run_from u (C + 2) n start ≡ Nothing → run_from u (C + 2) n 2 ≡ Nothing → n ≤ count u 2 C → P Scattered)
+        → ((k : ℕ) → run_from u (C + 2) n start ≡ Some k → P (Run k))
+        → ((k : ℕ) → run_from u (C + 2) n start ≡ None → run_from u (C + 2) n 2 ≡ Some k → P (Run k))
+        → (run_from u (C + 2) n start ≡ None → run_from u (C + 2) n 2 ≡ None → count u 2 C < n → P TooFew)
+        → (run_from u (C + 2) n start ≡ None → run_from u (C + 2) n 2 ≡ None → n ≤ count u 2 C → P Scattered)
         → P (choose u C n start)
     unfolding choose
     choose_case P a b f s = first (run_from u (C + 2) n start) refl
@@ -92,21 +84,21 @@ module _ (u : ℕ → Bool) where
         last : Choice
         last = cond (ltb (count u 2 C) n) TooFew Scattered
 
-        second : run_from u (C + 2) n start ≡ Nothing → (t : Found) → run_from u (C + 2) n 2 ≡ t → P (or_else t last)
-        second e (At k) g = b k e g
-        second e Nothing g =
+        second : run_from u (C + 2) n start ≡ None → (t : Option ℕ) → run_from u (C + 2) n 2 ≡ t → P (or_else t last)
+        second e (Some k) g = b k e g
+        second e None g =
             cond_case P (ltb (count u 2 C) n) TooFew Scattered
             (λ t. f e g (ltb-true (count u 2 C) n t)) (λ t. s e g (ltb-false (count u 2 C) n t))
 
-        first : (t : Found) → run_from u (C + 2) n start ≡ t → P (or_else t (or_else (run_from u (C + 2) n 2) last))
-        first (At k) e = a k e
-        first Nothing e = second e (run_from u (C + 2) n 2) refl
+        first : (t : Option ℕ) → run_from u (C + 2) n start ≡ t → P (or_else t (or_else (run_from u (C + 2) n 2) last))
+        first (Some k) e = a k e
+        first None e = second e (run_from u (C + 2) n 2) refl
 
     -- a run is the lowest from the start on, or there is none and it is the lowest of all
     pub choose-run : (k : ℕ) → choose u C n start ≡ Run k
-        → Lowest u (C + 2) n start k ⊎ ((run_from u (C + 2) n start ≡ Nothing) × Lowest u (C + 2) n 2 k)
+        → Lowest u (C + 2) n start k ⊎ ((run_from u (C + 2) n start ≡ None) × Lowest u (C + 2) n 2 k)
     choose-run k =
-        choose_case (λ c. c ≡ Run k → Lowest u (C + 2) n start k ⊎ ((run_from u (C + 2) n start ≡ Nothing) × Lowest u (C + 2) n 2 k))
+        choose_case (λ c. c ≡ Run k → Lowest u (C + 2) n start k ⊎ ((run_from u (C + 2) n start ≡ None) × Lowest u (C + 2) n 2 k))
         (λ j e q. let r : j ≡ k = cc in inl (subst (Lowest u (C + 2) n start) r (run_at u (C + 2) n start j e)))
         (λ j e g q. let r : j ≡ k = cc in inr (e, subst (Lowest u (C + 2) n 2) r (run_at u (C + 2) n 2 j g)))
         (λ e g h q. clash (cc)) (λ e g h q. clash (cc))
@@ -197,19 +189,19 @@ module _ (u : ℕ → Bool) where
   -- ---- the choice, as the code meets it
 
   module _ (C n start : ℕ) where
-    pub choose-after : (k : ℕ) → run_from u (C + 2) n start ≡ At k → choose u C n start ≡ Run k
+    pub choose-after : (k : ℕ) → run_from u (C + 2) n start ≡ Some k → choose u C n start ≡ Run k
     unfolding choose
     choose-after k e = rw e refl
 
-    pub choose_lowest : (k : ℕ) → run_from u (C + 2) n start ≡ Nothing → run_from u (C + 2) n 2 ≡ At k → choose u C n start ≡ Run k
+    pub choose_lowest : (k : ℕ) → run_from u (C + 2) n start ≡ None → run_from u (C + 2) n 2 ≡ Some k → choose u C n start ≡ Run k
     unfolding choose
     choose_lowest k e f = rw (e, f) refl
 
-    pub choose_few : run_from u (C + 2) n start ≡ Nothing → run_from u (C + 2) n 2 ≡ Nothing → count u 2 C < n → choose u C n start ≡ TooFew
+    pub choose_few : run_from u (C + 2) n start ≡ None → run_from u (C + 2) n 2 ≡ None → count u 2 C < n → choose u C n start ≡ TooFew
     unfolding choose
     choose_few e f h = rw (e, f, lt-ltb (count u 2 C) n h) refl
 
-    pub choose_scattered : run_from u (C + 2) n start ≡ Nothing → run_from u (C + 2) n 2 ≡ Nothing → n ≤ count u 2 C → choose u C n start ≡ Scattered
+    pub choose_scattered : run_from u (C + 2) n start ≡ None → run_from u (C + 2) n 2 ≡ None → n ≤ count u 2 C → choose u C n start ≡ Scattered
     unfolding choose
     choose_scattered e f h = rw (e, f, le-ltb (count u 2 C) n h) refl
 

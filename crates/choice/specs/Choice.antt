@@ -1,16 +1,16 @@
 -- Which clusters are taken (01: Allocate). u says which clusters are usable.
 use Rattle.std.specs.Prelude.{Bool, cond, List, ◌++◌, ℕ, ◌+◌, ◌-◌, ltb, take}
 use Rattle.tables.specs.Count.{count, keep}
-use Rattle.search.specs.declared.found.Found.{Found}
-use Rattle.search.specs.declared.found.Found.TheVariants.{At, Nothing}
+use Rattle.std.specs.Prelude.{Option}
+use Rattle.std.specs.Prelude.{Some, None}
 use Rattle.search.specs.Search.{run_from}
 use Rattle.choice.specs.declared.choice.Choice.{Choice}
 use Rattle.choice.specs.declared.choice.Choice.TheVariants.{Run, Scattered, TooFew}
 
 -- a run where one was found, else another choice
-abbrev pub or_else : Found → Choice → Choice
-or_else (At k) c = Run k
-or_else Nothing c = c
+abbrev pub or_else : Option ℕ → Choice → Choice
+or_else (Some k) c = Run k
+or_else None c = c
 
 -- the lowest run starting at or after start, else the lowest of all, else usable clusters one by one; too few
 unfoldable pub choose : (u : ℕ → Bool) (C n start : ℕ) → Choice

@@ -2,7 +2,6 @@
 ghost use Rattle.std.specs.Prelude.{◌≡◌, not, ◌+◌, ◌-◌, ◌*◌, ◌≤◌, ◌<◌, min, leb, length};
 ghost use Rattle.tables.specs.Count.{count};
 ghost use Rattle.boot.specs.Internal.{Laid};
-ghost use Rattle.search.specs.declared.found.Found.TheVariants.{Nothing};
 ghost use Rattle.metadata.specs.Marks.{marked};
 ghost use Rattle.metadata.specs.Usable.{is_usable};
 ghost use Rattle.search.specs.Search.{run_from};
@@ -11,7 +10,6 @@ ghost use Rattle.choice.specs.Choice.{choose};
 ghost use Rattle.choice.specs.Internal.{first_usable, run_fits};
 
 use boot::layout::Layout;
-use search::found::Found;
 
 // A run from a cluster on, usable clusters one by one, or too few.
 #[derive(Clone, Copy)]
@@ -21,35 +19,20 @@ pub enum Choice {
     TooFew,
 }
 
-// One past the last of the n clusters from low that is not usable; low where all are.
+// One past the last of the n clusters from low that is not usable; low where all are. More than one cluster is tested at once first.
 fn usable_tail(vol: &[u8], map: &[u8], y: Layout, low: u32, n: u32) -> u32
     requires { Laid y × ((length vol.now ≡ y.len) × ((y.count ≤ 8 * length map.now) × ((2 ≤ low) × (low + n ≤ y.count + 2)))) }
     ensures { (result ≡ past_failing (is_usable y vol.now map.now) low n) × ((low ≤ result) × (result ≤ low + n)) }
 {
-    let mut k = low + n;
-    while low < k {
-        let last = k - 1;
-        if metadata::usable::usable(vol, map, y, last) {
-            k = last;
-        } else {
-            return k;
+    if 1 < n && metadata::usable::run_is_free(vol, map, y, low, n) {
+        return low;
+    }
+    for last in (low..low + n).rev() {
+        if !metadata::usable::usable(vol, map, y, last) {
+            return last + 1;
         }
     }
     low
-}
-
-// The same. A window of more than one cluster is tested at once first.
-fn window_tail(vol: &[u8], map: &[u8], y: Layout, low: u32, n: u32) -> u32
-    requires { Laid y × ((length vol.now ≡ y.len) × ((y.count ≤ 8 * length map.now) × ((2 ≤ low) × (low + n ≤ y.count + 2)))) }
-    ensures { (result ≡ past_failing (is_usable y vol.now map.now) low n) × ((low ≤ result) × (result ≤ low + n)) }
-{
-    if n < 2 {
-        return usable_tail(vol, map, y, low, n);
-    }
-    if metadata::usable::run_is_free(vol, map, y, low, n) {
-        return low;
-    }
-    usable_tail(vol, map, y, low, n)
 }
 
 // One past the last of the n clusters from low that is marked; low where none is. A byte of none marked is one test.
@@ -77,7 +60,7 @@ fn unmarked_tail(vol: &[u8], y: Layout, low: u32, n: u32) -> u32
 
 // The lowest run of n usable clusters from start to end (Rust: the closure `scan` of `free_run`). A window of n clusters is tested
 // from its end, by its marks first; no run starts before base. Behind a window whose last cluster is marked, the marked ones are passed.
-fn scan(vol: &[u8], map: &[u8], y: Layout, start: u32, end: u32, n: u32) -> Found
+fn scan(vol: &[u8], map: &[u8], y: Layout, start: u32, end: u32, n: u32) -> Option<u32>
     requires { Laid y × ((length vol.now ≡ y.len) × ((y.count ≤ 8 * length map.now) × ((2 ≤ start) × ((start ≤ end) × ((end ≤ y.count + 2) × (1 ≤ n)))))) }
     ensures { result ≡ run_from (is_usable y vol.now map.now) end n start }
 {
@@ -85,20 +68,18 @@ fn scan(vol: &[u8], map: &[u8], y: Layout, start: u32, end: u32, n: u32) -> Foun
     while n <= end - base {
         let next = unmarked_tail(vol, y, base, n);
         if next == base {
-            let last = window_tail(vol, map, y, base, n);
+            let last = usable_tail(vol, map, y, base, n);
             if last == base {
-                return Found::At(base);
+                return Some(base);
             }
             base = last;
+        } else if next == base + n {
+            base = metadata::bitmap::first_unmarked(vol, y, next, end - next);
         } else {
-            if next == base + n {
-                base = metadata::bitmap::first_unmarked(vol, y, next, end - next);
-            } else {
-                base = next;
-            }
+            base = next;
         }
     }
-    Found::Nothing
+    None
 }
 
 // Whether n clusters or more are usable, counted.
@@ -108,19 +89,14 @@ fn counts_to(vol: &[u8], map: &[u8], y: Layout, n: u64) -> bool
 {
     let end = y.count + 2;
     let mut k: u32 = 2;
-    let mut left = n;
-    while k < end {
-        if left == 0 {
-            return true;
-        }
+    for _ in 0..n {
         let next = metadata::usable::next_usable(vol, map, y, k, end - k);
         if next == end {
             return false;
         }
         k = next + 1;
-        left -= 1;
     }
-    left == 0
+    true
 }
 
 // Whether the n clusters from near lie in the heap and are all usable.
@@ -128,13 +104,9 @@ fn run_fits(vol: &[u8], map: &[u8], y: Layout, near: u32, n: u64) -> bool
     requires { Laid y × ((length vol.now ≡ y.len) × (y.count ≤ 8 * length map.now)) }
     ensures { result ≡ run_fits (is_usable y vol.now map.now) y.count near n }
 {
-    if boot::layout::in_heap(y.count, near) {
-        if n <= (y.count + 2 - near) as u64 {
-            return metadata::usable::run_is_free(vol, map, y, near, n as u32);
-        }
-        return false;
-    }
-    false
+    boot::layout::in_heap(y.count, near)
+        && n <= u64::from(y.count + 2 - near)
+        && metadata::usable::run_is_free(vol, map, y, near, n as u32)
 }
 
 // Whether n clusters or more are usable: those from near on are looked at first, and counted only where they do not suffice.
@@ -142,29 +114,15 @@ pub fn enough(vol: &[u8], map: &[u8], y: Layout, near: u32, n: u64) -> bool
     requires { Laid y × ((length vol.now ≡ y.len) × (y.count ≤ 8 * length map.now)) }
     ensures { result ≡ leb n (count (is_usable y vol.now map.now) 2 y.count) }
 {
-    if run_fits(vol, map, y, near, n) {
-        return true;
-    }
-    counts_to(vol, map, y, n)
-}
-
-// Where the search of the whole heap may end: a run that starts at or after start was looked for.
-fn wrap_end(start: u32, end: u32, n: u32) -> u32
-    requires { (start ≤ end) × ((end ≤ 65536) × (1 ≤ n)) }
-    ensures { result ≡ min end (start + n - 1) }
-{
-    if end - start < n {
-        return end;
-    }
-    start + (n - 1)
+    run_fits(vol, map, y, near, n) || counts_to(vol, map, y, n)
 }
 
 // The lowest run of n usable clusters where none starts at or after start: those that start there are not tested again.
-fn scan_before(vol: &[u8], map: &[u8], y: Layout, start: u32, n: u32) -> Found
-    requires { Laid y × ((length vol.now ≡ y.len) × ((y.count ≤ 8 * length map.now) × ((2 ≤ start) × ((start < y.count + 2) × ((1 ≤ n) × (run_from (is_usable y vol.now map.now) (y.count + 2) n start ≡ Nothing)))))) }
+fn scan_before(vol: &[u8], map: &[u8], y: Layout, start: u32, n: u32) -> Option<u32>
+    requires { Laid y × ((length vol.now ≡ y.len) × ((y.count ≤ 8 * length map.now) × ((2 ≤ start) × ((start < y.count + 2) × ((1 ≤ n) × (run_from (is_usable y vol.now map.now) (y.count + 2) n start ≡ None)))))) }
     ensures { result ≡ run_from (is_usable y vol.now map.now) (y.count + 2) n 2 }
 {
-    let end = wrap_end(start, y.count + 2, n);
+    let end = start + (y.count + 2 - start).min(n - 1);
     scan(vol, map, y, 2, end, n)
 }
 
@@ -173,21 +131,13 @@ pub fn choose_clusters(vol: &[u8], map: &[u8], y: Layout, start: u32, n: u32) ->
     requires { Laid y × ((length vol.now ≡ y.len) × ((y.count ≤ 8 * length map.now) × ((2 ≤ start) × ((start < y.count + 2) × (1 ≤ n))))) }
     ensures { result ≡ choose (is_usable y vol.now map.now) y.count n start }
 {
-    let after = scan(vol, map, y, start, y.count + 2, n);
-    match after {
-        Found::At(k) => {
-            return Choice::Run(k);
-        }
-        Found::Nothing => {}
+    if let Some(k) = scan(vol, map, y, start, y.count + 2, n) {
+        return Choice::Run(k);
     }
-    let lowest = scan_before(vol, map, y, start, n);
-    match lowest {
-        Found::At(k) => {
-            return Choice::Run(k);
-        }
-        Found::Nothing => {}
+    if let Some(k) = scan_before(vol, map, y, start, n) {
+        return Choice::Run(k);
     }
-    if counts_to(vol, map, y, n as u64) {
+    if counts_to(vol, map, y, u64::from(n)) {
         return Choice::Scattered;
     }
     Choice::TooFew

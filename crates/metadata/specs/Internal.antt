@@ -2,8 +2,8 @@
 use Rattle.std.specs.Prelude.{Bool, cond, not, ◌&&◌, List, ℕ, ◌+◌, ◌*◌, ◌-◌, ◌%◌, zero, suc, eqb}
 use Rattle.primitives.specs.Words.{get_le}
 use Rattle.boot.specs.declared.layout.Layout.{Layout}
-use Rattle.search.specs.declared.found.Found.{Found}
-use Rattle.search.specs.declared.found.Found.TheVariants.{At, Nothing}
+use Rattle.std.specs.Prelude.{Option}
+use Rattle.std.specs.Prelude.{Some, None}
 use Rattle.search.specs.Search.{all_from, fewest}
 use Rattle.boot.specs.Limits.{in_map}
 use Rattle.metadata.specs.Fat.{BAD, fat_entry}
@@ -22,9 +22,9 @@ unfoldable pub byte_unmarked : (y : Layout) (d : List ℕ) (k : ℕ) → Bool
 byte_unmarked y d k = eqb ((k - 2) % 8) 7 && eqb (mark_byte y d k) 0
 
 -- the first of the n clusters from k whose FAT entry is bad
-unfoldable pub first_bad : (ℕ → ℕ) → ℕ → ℕ → Found
-first_bad fat k zero = Nothing
-first_bad fat k (suc n) = cond (eqb (fat k) BAD) (At k) (first_bad fat (k + 1) n)
+unfoldable pub first_bad : (ℕ → ℕ) → ℕ → ℕ → Option ℕ
+first_bad fat k zero = None
+first_bad fat k (suc n) = cond (eqb (fat k) BAD) (Some k) (first_bad fat (k + 1) n)
 
 -- none of the n clusters from k is in the system map or bad
 unfoldable pub none_refused : (y : Layout) (d m : List ℕ) (k n : ℕ) → Bool

@@ -1,5 +1,5 @@
 // The marks of clusters: read from the active FAT's bitmap, stored to every bitmap.
-ghost use Rattle.std.specs.Prelude.{◌≡◌, not, ◌+◌, ◌-◌, ◌%◌, ◌≤◌, ◌<◌, length};
+ghost use Rattle.std.specs.Prelude.{◌≡◌, not, ◌+◌, ◌-◌, ◌%◌, ◌≤◌, ◌<◌, length, take, drop};
 ghost use Rattle.boot.specs.Geometry.{bitmap_bytes};
 ghost use Rattle.boot.specs.Internal.{Laid, Apart};
 ghost use Rattle.search.specs.Search.{all_from};
@@ -50,14 +50,20 @@ pub fn mark_byte(vol: &mut [u8], y: Layout, k: u32)
     put_byte(vol, y, i, 0xFF);
 }
 
-// How many clusters the active FAT's bitmap marks.
+// The active FAT's bitmap.
+fn bitmap(vol: &[u8], y: Layout) -> &[u8]
+    requires { Laid y × (length vol.now ≡ y.len) }
+    ensures { (result.now ≡ take (bitmap_bytes y.count) (drop y.bitmap vol.now)) × (result.ref_ptr ≡ (vol.entry.ref_ptr.0, vol.entry.ref_ptr.1 + y.bitmap)) }
+{
+    &vol[y.bitmap..y.bitmap + ((y.count + 7) / 8) as usize]
+}
+
+// How many clusters it marks.
 fn allocated_count(vol: &[u8], y: Layout) -> u32
     requires { Laid y × (length vol.now ≡ y.len) }
     ensures { (result ≡ allocated_count y vol.now) × (result ≤ y.count) }
 {
-    let a = y.bitmap;
-    let e = a + ((y.count + 7) / 8) as usize;
-    primitives::count::bitmap_count(&vol[a..e], y.count)
+    primitives::count::bitmap_count(bitmap(vol, y), y.count)
 }
 
 // How many clusters it leaves unmarked.
@@ -73,9 +79,7 @@ pub fn first_unmarked(vol: &[u8], y: Layout, k: u32, n: u32) -> u32
     requires { Laid y × ((length vol.now ≡ y.len) × ((2 ≤ k) × (k + n ≤ y.count + 2))) }
     ensures { (result ≡ first_unmarked y vol.now k n) × ((k ≤ result) × (result ≤ k + n)) }
 {
-    let a = y.bitmap;
-    let e = a + ((y.count + 7) / 8) as usize;
-    primitives::bits::first_bit(&vol[a..e], 0, k - 2, n) + 2
+    primitives::bits::first_bit(bitmap(vol, y), 0, k - 2, n) + 2
 }
 
 // Whether none of the n clusters from first is marked. Bytes of none marked are passed at once.
@@ -83,19 +87,14 @@ pub fn none_marked(vol: &[u8], y: Layout, first: u32, n: u32) -> bool
     requires { Laid y × ((length vol.now ≡ y.len) × ((2 ≤ first) × (first + n ≤ y.count + 2))) }
     ensures { result ≡ all_from (λ k. not (marked y vol.now k)) first n }
 {
-    let a = y.bitmap;
-    let e = a + ((y.count + 7) / 8) as usize;
-    primitives::bits::none_set(&vol[a..e], first - 2, n)
+    primitives::bits::none_set(bitmap(vol, y), first - 2, n)
 }
 
 // Whether cluster k is the last one of its byte, and the byte marks none.
+#[tactic(auto, unfolding(crate::specs::Internal::byte_unmarked, crate::specs::Marks::mark_byte))]
 pub fn byte_unmarked(vol: &[u8], y: Layout, k: u32) -> bool
     requires { Laid y × ((length vol.now ≡ y.len) × ((2 ≤ k) × (k < y.count + 2))) }
     ensures { result ≡ byte_unmarked y vol.now k }
 {
-    if (k - 2) % 8 == 7 {
-        let at = y.bitmap + ((k - 2) / 8) as usize;
-        return vol[at] == 0;
-    }
-    false
+    (k - 2) % 8 == 7 && vol[y.bitmap + ((k - 2) / 8) as usize] == 0
 }

@@ -7,29 +7,20 @@ ghost use Rattle.search.specs.Search.{all_from, fewest};
 ghost use Rattle.metadata.specs.Usable.{is_free, is_usable};
 
 use boot::layout::Layout;
-use search::found::Found;
 
-// The first of the n entries from k that is bad. It sees only a FAT's part of the volume.
-fn first_bad(fat: &[u8], first: u32, n: u32) -> Found
+// The entry of a bad cluster.
+const BAD: u32 = 0xFFFF_FFF7;
+
+// The first of the n entries from first that is bad. It sees only a FAT's part of the volume.
+fn first_bad(fat: &[u8], first: u32, n: u32) -> Option<u32>
     requires { (4 * (first + n) ≤ length fat.now) × (first + n ≤ 65536) }
     ensures { result ≡ first_bad (entry_of fat.now) first n }
 {
-    let mut k = first;
-    let mut left = n;
-    while 0 < left {
-        let at = 4 * (k as usize);
-        let v = primitives::words::u32_at(fat, at);
-        if v == 0xFFFF_FFF7 {
-            return Found::At(k);
-        }
-        k += 1;
-        left -= 1;
-    }
-    Found::Nothing
+    (first..first + n).find(|k| primitives::words::u32_at(fat, 4 * (*k as usize)) == BAD)
 }
 
 // The first of the n clusters from first that is bad in the active FAT. The FAT begins mid-volume; that part is handed on.
-fn bad_in(vol: &[u8], y: Layout, first: u32, n: u32) -> Found
+fn bad_in(vol: &[u8], y: Layout, first: u32, n: u32) -> Option<u32>
     requires { Laid y × ((length vol.now ≡ y.len) × (first + n ≤ y.count + 2)) }
     ensures { result ≡ first_bad (fat_entry y vol.now) first n }
 {
@@ -39,17 +30,12 @@ fn bad_in(vol: &[u8], y: Layout, first: u32, n: u32) -> Found
 }
 
 // Whether cluster k is unmarked and not in the system map.
+#[tactic(auto, unfolding(crate::specs::Usable::is_free))]
 fn is_free(vol: &[u8], map: &[u8], y: Layout, k: u32) -> bool
     requires { Laid y × ((length vol.now ≡ y.len) × ((y.count ≤ 8 * length map.now) × ((2 ≤ k) × (k < y.count + 2)))) }
     ensures { result ≡ is_free y vol.now map.now k }
 {
-    if crate::bitmap::allocated(vol, y, k) {
-        return false;
-    }
-    if boot::geometry::in_map(map, k) {
-        return false;
-    }
-    true
+    !crate::bitmap::allocated(vol, y, k) && !boot::geometry::in_map(map, k)
 }
 
 // Whether cluster k may be taken.
@@ -57,18 +43,7 @@ pub fn usable(vol: &[u8], map: &[u8], y: Layout, k: u32) -> bool
     requires { Laid y × ((length vol.now ≡ y.len) × ((y.count ≤ 8 * length map.now) × ((2 ≤ k) × (k < y.count + 2)))) }
     ensures { result ≡ is_usable y vol.now map.now k }
 {
-    if is_free(vol, map, y, k) {
-        let bad = bad_in(vol, y, k, 1);
-        match bad {
-            Found::At(_) => {
-                return false;
-            }
-            Found::Nothing => {
-                return true;
-            }
-        }
-    }
-    false
+    is_free(vol, map, y, k) && bad_in(vol, y, k, 1).is_none()
 }
 
 // The first of the n clusters from k that may be taken; k + n where there is none.
@@ -96,18 +71,7 @@ fn none_refused(vol: &[u8], map: &[u8], y: Layout, first: u32, n: u32) -> bool
     requires { Laid y × ((length vol.now ≡ y.len) × ((y.count ≤ 8 * length map.now) × ((2 ≤ first) × (first + n ≤ y.count + 2)))) }
     ensures { result ≡ none_refused y vol.now map.now first n }
 {
-    if primitives::bits::none_set(map, first - 2, n) {
-        let bad = bad_in(vol, y, first, n);
-        match bad {
-            Found::At(_) => {
-                return false;
-            }
-            Found::Nothing => {
-                return true;
-            }
-        }
-    }
-    false
+    primitives::bits::none_set(map, first - 2, n) && bad_in(vol, y, first, n).is_none()
 }
 
 // Whether the n clusters from first are all usable (Rust: `run_is_free`): the marks and the map by the byte, then the FAT's entries.
@@ -115,8 +79,5 @@ pub fn run_is_free(vol: &[u8], map: &[u8], y: Layout, first: u32, n: u32) -> boo
     requires { Laid y × ((length vol.now ≡ y.len) × ((y.count ≤ 8 * length map.now) × ((2 ≤ first) × (first + n ≤ y.count + 2)))) }
     ensures { result ≡ all_from (is_usable y vol.now map.now) first n }
 {
-    if crate::bitmap::none_marked(vol, y, first, n) {
-        return none_refused(vol, map, y, first, n);
-    }
-    false
+    crate::bitmap::none_marked(vol, y, first, n) && none_refused(vol, map, y, first, n)
 }

@@ -363,7 +363,7 @@ module _ (y : Layout) (d : List ℕ) (w : Fits y d) (run : Bool) (k n : ℕ) (so
 -- ---- readings
 
 module _ (y : Layout) (d : List ℕ) (l : Laid y) (long : length d ≡ y.len) where
-  cluster_room : (k : ℕ) → in_heap y.count k ≡ true → cluster_at y k + y.size ≤ length d
+  pub cluster_room : (k : ℕ) → in_heap y.count k ≡ true → cluster_at y k + y.size ≤ length d
   unfolding cluster_at
   cluster_room k h = let i = in_heap_lem y.count k h in omega (arith, cluster_in y k l i.0 i.1)
 

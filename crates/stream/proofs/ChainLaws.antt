@@ -12,14 +12,12 @@ use borrow.Author.Tests.{eq-eqb, ne_eqb, eqb-true, eqb-false}
 use Rattle.tables.specs.Lists.{every, last_or, consec}
 use Rattle.tables.proofs.Cases.{and-true, and_assoc}
 use Rattle.boot.specs.Layout.{in_heap}
+use Rattle.boot.proofs.Apart.{in_heap_lem}
 use Rattle.metadata.specs.Fat.{END}
-use Rattle.stream.specs.declared.walk.Next.{Next}
-use Rattle.stream.specs.declared.walk.Next.TheVariants.{End, More, Wrong}
 use Rattle.stream.specs.declared.allocation.Allocation.{Allocation}
-use Rattle.stream.specs.declared.walk.Walked.{Walked}
-use Rattle.stream.specs.Chain.{Clusters, listed, refused, next_of, by_next, with_first, chain_from, read_chain}
+use Rattle.stream.specs.Chain.{Next, End, More, Wrong, Clusters, listed, refused, next_of, by_next, with_first, chain_from, read_chain}
 use Rattle.stream.specs.Stream.{number_of, clusters_of, run_cause, read_run, check_chain, read_stream}
-use Rattle.stream.specs.Internal.{walked, walk_cause}
+use Rattle.stream.specs.Internal.{Walked, walked, walk_cause}
 
 pub next_end : (C v : ℕ) → v ≡ END → next_of C v ≡ End
 unfolding next_of
@@ -70,6 +68,16 @@ walk_at mark free goal z b f g s (listed ks) =
     }
 walk_at mark free goal z b f g s (refused n) = record { number = n; last = 0; count = 0; marked = false; clear = false; seen = 0 }
 
+-- the chain from k, where at most n clusters may stand from k on
+unfoldable pub chain_left : ℕ → (ℕ → ℕ) → ℕ → ℕ → Clusters
+chain_left C fat zero k = refused 4
+chain_left C fat (suc n) k = chain_from C fat n k
+
+left_some : (C : ℕ) (fat : ℕ → ℕ) (n k : ℕ) → 0 < n → chain_left C fat n k ≡ chain_from C fat (n - 1) k
+unfolding chain_left
+left_some C fat zero k h = absurd (omega arith)
+left_some C fat (suc n) k h = rw sub-one refl
+
 module _ (mark free : ℕ → Bool) (goal : ℕ) where
   walk_onto : (z b : ℕ) (f g : Bool) (s k : ℕ) (c : Clusters)
       → walk_at mark free goal z b f g s (with_first k c) ≡ walk_at mark free goal k (b + 1) (f && mark k) (g && free k) (cond (eqb b goal) k s) c
@@ -101,30 +109,33 @@ module _ (mark free : ℕ → Bool) (goal : ℕ) where
     walk_any (suc n) k = by_any (next_of C (fat k)) k (chain_from C fat n (fat k)) 3
 
   module _ (C : ℕ) (fat : ℕ → ℕ) (b : ℕ) (f g : Bool) (s : ℕ) where
-    pub walk_end : (n k : ℕ) → fat k ≡ END
-        → walk_at mark free goal 0 b f g s (chain_from C fat n k) ≡ record { number = 0; last = k; count = b + 1; marked = f && mark k; clear = g && free k; seen = cond (eqb b goal) k s }
-    unfolding chain_from last_or every seen_from
-    walk_end zero k e = rw (next_end C (fat k) e, and-true (mark k), and-true (free k)) refl
-    walk_end (suc n) k e = rw (next_end C (fat k) e, and-true (mark k), and-true (free k)) refl
+    pub walk_none : (n k : ℕ) → n ≤ 0
+        → walk_at mark free goal 0 b f g s (chain_left C fat n k) ≡ record { number = 4; last = 0; count = 0; marked = false; clear = false; seen = 0 }
+    unfolding chain_left
+    walk_none zero k h = refl
+    walk_none (suc n) k h = absurd (omega arith)
 
-    pub walk_wrong : (n k : ℕ) → (fat k ≡ END → ⊥) → in_heap C (fat k) ≡ false
-        → walk_at mark free goal 0 b f g s (chain_from C fat n k) ≡ record { number = 3; last = 0; count = 0; marked = false; clear = false; seen = 0 }
-    unfolding chain_from
-    walk_wrong zero k e h = rw (next_wrong C (fat k) e h) refl
-    walk_wrong (suc n) k e h = rw (next_wrong C (fat k) e h) refl
+    pub walk_end : (n k : ℕ) → 0 < n → fat k ≡ END
+        → walk_at mark free goal 0 b f g s (chain_left C fat n k) ≡ record { number = 0; last = k; count = b + 1; marked = f && mark k; clear = g && free k; seen = cond (eqb b goal) k s }
+    unfolding chain_left chain_from last_or every seen_from
+    walk_end zero k h e = absurd (omega arith)
+    walk_end (suc zero) k h e = rw (next_end C (fat k) e, and-true (mark k), and-true (free k)) refl
+    walk_end (suc (suc n)) k h e = rw (next_end C (fat k) e, and-true (mark k), and-true (free k)) refl
 
-    pub walk_over : (n k : ℕ) → n ≡ 0 → (fat k ≡ END → ⊥) → in_heap C (fat k) ≡ true
-        → walk_at mark free goal 0 b f g s (chain_from C fat n k) ≡ record { number = 4; last = 0; count = 0; marked = false; clear = false; seen = 0 }
-    unfolding chain_from
-    walk_over zero k z e h = rw (next_more C (fat k) e h) refl
-    walk_over (suc n) k z e h = absurd (omega arith)
+    pub walk_wrong : (n k : ℕ) → 0 < n → (fat k ≡ END → ⊥) → in_heap C (fat k) ≡ false
+        → walk_at mark free goal 0 b f g s (chain_left C fat n k) ≡ record { number = 3; last = 0; count = 0; marked = false; clear = false; seen = 0 }
+    unfolding chain_left chain_from
+    walk_wrong zero k h e i = absurd (omega arith)
+    walk_wrong (suc zero) k h e i = rw (next_wrong C (fat k) e i) refl
+    walk_wrong (suc (suc n)) k h e i = rw (next_wrong C (fat k) e i) refl
 
-    pub walk_more : (n k : ℕ) → (n ≡ 0 → ⊥) → (fat k ≡ END → ⊥) → in_heap C (fat k) ≡ true
-        → walk_at mark free goal 0 b f g s (chain_from C fat n k) ≡ walk_at mark free goal 0 (b + 1) (f && mark k) (g && free k) (cond (eqb b goal) k s) (chain_from C fat (n - 1) (fat k))
-    unfolding chain_from
-    walk_more zero k z e h = absurd (z refl)
-    walk_more (suc n) k z e h =
-        rw (next_more C (fat k) e h, sub-one)
+    pub walk_more : (n k : ℕ) → 0 < n → (fat k ≡ END → ⊥) → in_heap C (fat k) ≡ true
+        → walk_at mark free goal 0 b f g s (chain_left C fat n k) ≡ walk_at mark free goal 0 (b + 1) (f && mark k) (g && free k) (cond (eqb b goal) k s) (chain_left C fat (n - 1) (fat k))
+    unfolding chain_left chain_from
+    walk_more zero k h e i = absurd (omega arith)
+    walk_more (suc zero) k h e i = rw (next_more C (fat k) e i) refl
+    walk_more (suc (suc n)) k h e i =
+        rw (next_more C (fat k) e i, sub-one)
         (walk_onto 0 b f g s k (chain_from C fat n (fat k)) ∙ walk_any C fat k 0 (b + 1) (f && mark k) (g && free k) (cond (eqb b goal) k s) n (fat k))
 
   -- the whole walk
@@ -137,9 +148,11 @@ module _ (mark free : ℕ → Bool) (goal : ℕ) where
   walk_all (refused n) = refl
 
   pub walk_start : (C : ℕ) (fat : ℕ → ℕ) (first : ℕ) → in_heap C first ≡ true
-      → walk_at mark free goal 0 0 true true 0 (chain_from C fat (C - 1) first) ≡ walked mark free goal (read_chain C fat first)
+      → walk_at mark free goal 0 0 true true 0 (chain_left C fat C first) ≡ walked mark free goal (read_chain C fat first)
   unfolding read_chain
-  walk_start C fat first h = rw h (sym (walk_all (chain_from C fat (C - 1) first)))
+  walk_start C fat first h =
+      let i = in_heap_lem C first h in
+      rw h (ap (walk_at mark free goal 0 0 true true 0) (left_some C fat C first (omega arith)) ∙ sym (walk_all (chain_from C fat (C - 1) first)))
 
 pub chain_out : (C : ℕ) (fat : ℕ → ℕ) (first : ℕ) → in_heap C first ≡ false → read_chain C fat first ≡ refused 2
 unfolding read_chain
@@ -197,18 +210,6 @@ module _ (w : Walked) (last count : ℕ) where
   pub cause_walk : (w.number ≡ 0 → ⊥) → walk_cause w last count ≡ w.number
   unfolding walk_cause
   cause_walk n = rw (ne_eqb w.number 0 n) refl
-
-  pub cause_count : w.number ≡ 0 → (w.count ≡ count → ⊥) → walk_cause w last count ≡ 5
-  unfolding walk_cause
-  cause_count e n = rw (eq-eqb w.number 0 e, ne_eqb w.count count n) refl
-
-  pub cause_last : w.number ≡ 0 → w.count ≡ count → (w.last ≡ last → ⊥) → walk_cause w last count ≡ 5
-  unfolding walk_cause
-  cause_last e f n = rw (eq-eqb w.number 0 e, eq-eqb w.count count f, ne_eqb w.last last n) refl
-
-  pub cause_marked : (b : Bool) → w.number ≡ 0 → w.count ≡ count → w.last ≡ last → w.marked ≡ b → walk_cause w last count ≡ cond b 0 6
-  unfolding walk_cause
-  cause_marked b e f h i = rw (eq-eqb w.number 0 e, eq-eqb w.count count f, eq-eqb w.last last h, i) refl
 
 -- a refused chain has a number that is not 0
 chain_cause : (mark free : ℕ → Bool) (goal last count : ℕ) (c : Clusters) → ((n : ℕ) → c ≡ refused n → n ≡ 0 → ⊥)

@@ -10,3 +10,4 @@ pub mod RowLaws
 pub mod KeepLaws
 pub mod SystemLaws
 pub mod ClearLaws
+pub mod ByteWalkLaws

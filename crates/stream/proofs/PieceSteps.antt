@@ -40,64 +40,75 @@ module _ (fat : ℕ → ℕ) where
       ap (λ (i : ℕ). every p (along fat false (k + 1) i)) (sym z) ∙ ap (λ (j : ℕ). every p (along fat false j (n + 1 - 1))) (sym e)
       ∙ along_rest p fat false k (n + 1) (omega arith) w
 
-  -- ---- four at a time
+  -- ---- from the i-th cluster after k on, of n that come after it
 
-  module _ (k n : ℕ) (h : 4 ≤ n) (e : four_follow fat k ≡ true) where
-    abbrev one : Bool
-    one = eqb (fat k) (k + 1)
-
-    abbrev two : Bool
-    two = eqb (fat (k + 1)) (k + 2)
-
-    abbrev three : Bool
-    three = eqb (fat (k + 2)) (k + 3)
-
-    abbrev four : Bool
-    four = eqb (fat (k + 3)) (k + 4)
-
-    first : one && two ≡ true
-    first = and_left (one && two) (three && four) (unfold four_follow in e)
-
-    second : three && four ≡ true
-    second = and_right (one && two) (three && four) (unfold four_follow in e)
-
-    follows : (i : ℕ) → i < 4 → fat (k + i) ≡ k + i + 1
-    follows zero l = let z : k + 0 ≡ k = omega arith in rw z (eqb-true (fat k) (k + 1) (and_left one two first))
-    follows (suc zero) l = eqb-true (fat (k + 1)) (k + 2) (and_right one two first) ∙ (omega arith)
-    follows (suc (suc zero)) l = eqb-true (fat (k + 2)) (k + 3) (and_left three four second) ∙ (omega arith)
-    follows (suc (suc (suc zero))) l = eqb-true (fat (k + 3)) (k + 4) (and_right three four second) ∙ (omega arith)
-    follows (suc (suc (suc (suc i)))) l = absurd (omega arith)
-
+  module _ (k n : ℕ) where
     -- how many follow cluster k + i
     abbrev rest : ℕ → ℕ
     rest i = following (k + i) (along fat false (fat (k + i)) (n - i))
 
-    rest_next : (i : ℕ) → i < 4 → rest i ≡ suc (rest (i + 1))
-    rest_next i l =
+    pub rest_next : (i : ℕ) → i < n → fat (k + i) ≡ k + i + 1 → rest i ≡ suc (rest (i + 1))
+    rest_next i l e =
         let a : k + i + 1 ≡ k + (i + 1) = omega arith in
         let b : n - i - 1 ≡ n - (i + 1) = omega arith in
-        following_next (k + i) (n - i) (omega arith) (follows i l) ∙ ap₂ (λ (j m : ℕ). suc (following j (along fat false (fat j) m))) a b
+        following_next (k + i) (n - i) (omega arith) e ∙ ap₂ (λ (j m : ℕ). suc (following j (along fat false (fat j) m))) a b
 
-    pub following_four : following k (along fat false (fat k) n) ≡ 4 + following (k + 4) (along fat false (fat (k + 4)) (n - 4))
-    following_four =
-        let a : k ≡ k + 0 = omega arith in
-        let b : n ≡ n - 0 = omega arith in
-        ap₂ (λ (j m : ℕ). following j (along fat false (fat j) m)) a b
-        ∙ (omega (arith, rest_next 0 (omega arith), rest_next 1 (omega arith), rest_next 2 (omega arith), rest_next 3 (omega arith)))
+    pub heap_rest : (p : ℕ → Bool) (i : ℕ) → i < n → fat (k + i) ≡ k + i + 1 → every p (along fat false (k + i) (n - i + 1)) ≡ true
+        → every p (along fat false (k + (i + 1)) (n - (i + 1) + 1)) ≡ true
+    heap_rest p i l e w =
+        let a : k + i + 1 ≡ k + (i + 1) = omega arith in
+        let b : n - i - 1 + 1 ≡ n - (i + 1) + 1 = omega arith in
+        sym (ap₂ (λ (j m : ℕ). every p (along fat false j m)) a b) ∙ heap_next p (k + i) (n - i) (omega arith) e w
 
-    module _ (p : ℕ → Bool) where
-      heap_at : (i : ℕ) → i ≤ 4 → every p (along fat false k (n + 1)) ≡ true → every p (along fat false (k + i) (n - i + 1)) ≡ true
-      heap_at zero l w =
-          let a : k + 0 ≡ k = omega arith in
-          let b : n - 0 + 1 ≡ n + 1 = omega arith in
-          rw (a, b) w
-      heap_at (suc i) l w =
-          let a : k + i + 1 ≡ k + suc i = omega arith in
-          let b : n - i - 1 + 1 ≡ n - suc i + 1 = omega arith in
-          sym (ap₂ (λ (j m : ℕ). every p (along fat false j m)) a b) ∙ heap_next p (k + i) (n - i) (omega arith) (follows i (omega arith)) (heap_at i (omega arith) w)
+    -- four at a time
+    module _ (i : ℕ) (h : i + 4 ≤ n) (e : four_follow fat (k + i) ≡ true) where
+      abbrev one : Bool
+      one = eqb (fat (k + i)) (k + i + 1)
 
-      pub heap_four : every p (along fat false k (n + 1)) ≡ true → every p (along fat false (k + 4) (n - 4 + 1)) ≡ true
-      heap_four = heap_at 4 (omega arith)
+      abbrev two : Bool
+      two = eqb (fat (k + i + 1)) (k + i + 2)
+
+      abbrev three : Bool
+      three = eqb (fat (k + i + 2)) (k + i + 3)
+
+      abbrev four : Bool
+      four = eqb (fat (k + i + 3)) (k + i + 4)
+
+      first : one && two ≡ true
+      first = and_left (one && two) (three && four) (unfold four_follow in e)
+
+      second : three && four ≡ true
+      second = and_right (one && two) (three && four) (unfold four_follow in e)
+
+      follows : (j : ℕ) → j < 4 → fat (k + (i + j)) ≡ k + (i + j) + 1
+      follows j l = ap fat (omega arith) ∙ by j l ∙ (omega arith)
+        where
+          by : (j : ℕ) → j < 4 → fat (k + i + j) ≡ k + i + j + 1
+          by zero l = let z : k + i + 0 ≡ k + i = omega arith in rw z (eqb-true (fat (k + i)) (k + i + 1) (and_left one two first))
+          by (suc zero) l = eqb-true (fat (k + i + 1)) (k + i + 2) (and_right one two first) ∙ (omega arith)
+          by (suc (suc zero)) l = eqb-true (fat (k + i + 2)) (k + i + 3) (and_left three four second) ∙ (omega arith)
+          by (suc (suc (suc zero))) l = eqb-true (fat (k + i + 3)) (k + i + 4) (and_right three four second) ∙ (omega arith)
+          by (suc (suc (suc (suc j)))) l = absurd (omega arith)
+
+      rest_some : (j : ℕ) → j ≤ 4 → rest i ≡ j + rest (i + j)
+      rest_some zero l = let z : i + 0 ≡ i = omega arith in rw z (omega arith)
+      rest_some (suc j) l =
+          let z : i + j + 1 ≡ i + suc j = omega arith in
+          omega (arith, rest_some j (omega arith), rest_next (i + j) (omega arith) (follows j (omega arith)), ap rest z)
+
+      pub rest_four : rest i ≡ 4 + rest (i + 4)
+      rest_four = rest_some 4 (omega arith)
+
+      module _ (p : ℕ → Bool) where
+        heap_some : (j : ℕ) → j ≤ 4 → every p (along fat false (k + i) (n - i + 1)) ≡ true → every p (along fat false (k + (i + j)) (n - (i + j) + 1)) ≡ true
+        heap_some zero l w = let z : i + 0 ≡ i = omega arith in rw z w
+        heap_some (suc j) l w =
+            let z : i + j + 1 ≡ i + suc j = omega arith in
+            ap (λ (x : ℕ). every p (along fat false (k + x) (n - x + 1))) (sym z)
+            ∙ heap_rest p (i + j) (omega arith) (follows j (omega arith)) (heap_some j (omega arith) w)
+
+        pub heap_four : every p (along fat false (k + i) (n - i + 1)) ≡ true → every p (along fat false (k + (i + 4)) (n - (i + 4) + 1)) ≡ true
+        heap_four = heap_some 4 (omega arith)
 
   pub leading-chain : (k n : ℕ) → 1 ≤ n → 1 + following k (along fat false (fat k) (n - 1)) ≡ leading (along fat false k n)
   unfolding leading after

@@ -17,9 +17,7 @@ use Rattle.tables.proofs.Cases.{clash, and_left, and_right}
 use Rattle.boot.specs.Layout.{in_heap}
 use Rattle.metadata.specs.Fat.{END}
 use Rattle.stream.specs.declared.allocation.Allocation.{Allocation}
-use Rattle.stream.specs.declared.walk.Next.{Next}
-use Rattle.stream.specs.declared.walk.Next.TheVariants.{End, More, Wrong}
-use Rattle.stream.specs.Chain.{Clusters, listed, refused, next_of, by_next, with_first, chain_from, read_chain}
+use Rattle.stream.specs.Chain.{Next, End, More, Wrong, Clusters, listed, refused, next_of, by_next, with_first, chain_from, read_chain}
 use Rattle.stream.specs.Stream.{run_cause, read_run, check_chain, read_stream}
 use Rattle.stream.specs.Internal.{after, along}
 use Rattle.stream.proofs.ChainLaws.{more_in, stream_empty, stream_run, stream_chain}

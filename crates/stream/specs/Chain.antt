@@ -2,15 +2,19 @@
 use Rattle.std.specs.Prelude.{cond, List, [], ◌∷◌, ℕ, zero, suc, ◌-◌, eqb}
 use Rattle.boot.specs.Layout.{in_heap}
 use Rattle.metadata.specs.Fat.{END}
-use Rattle.stream.specs.declared.walk.Next.{Next}
-use Rattle.stream.specs.declared.walk.Next.TheVariants.{End, More, Wrong}
 
 -- the clusters of a stream, or the number of the refusal
 pub data Clusters : Type 0 where
   listed : List ℕ → Clusters
   refused : ℕ → Clusters
 
--- what a FAT value says: the end, another cluster of the heap, or neither
+-- what a FAT value says: the end of the chain, another cluster of the heap, or neither
+pub data Next : Type 0 where
+  End : Next
+  More : Next
+  Wrong : Next
+
+-- by the value
 unfoldable pub next_of : (C v : ℕ) → Next
 next_of C v = cond (eqb v END) End (cond (in_heap C v) More Wrong)
 

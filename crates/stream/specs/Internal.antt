@@ -1,5 +1,5 @@
 -- What only contracts of inner functions, and proofs, speak of: no promise of a public call and no clause of the claim needs it.
-use Rattle.std.specs.Prelude.{Bool, cond, false, not, ◌&&◌, List, [], ◌∷◌, ℕ, zero, suc, ◌+◌, ◌-◌, ◌*◌, ◌≤◌, ◌≡◌, eqb, length, get_or}
+use Rattle.std.specs.Prelude.{Bool, cond, false, not, ◌&&◌, List, [], ◌∷◌, ℕ, zero, suc, ◌+◌, ◌-◌, ◌*◌, ◌/◌, ◌%◌, ◌≤◌, ◌≡◌, eqb, length, get_or, min, Result, Ok, Err}
 use Rattle.boot.specs.declared.layout.Layout.{Layout}
 use Rattle.boot.specs.Limits.{in_map}
 use Rattle.boot.specs.Layout.{is_bitmap_cluster}
@@ -7,8 +7,12 @@ use Rattle.metadata.specs.Fat.{fat_entry}
 use Rattle.metadata.specs.Marks.{marked}
 use Rattle.stream.specs.declared.allocation.Allocation.{Allocation}
 use Rattle.stream.specs.declared.bytes.Place.{Place}
+use Rattle.stream.specs.declared.bytes.ByteWalk.{ByteWalk}
+use Rattle.stream.specs.declared.bytes.Piece.{Piece}
 use Rattle.tables.specs.Lists.{every, last_or}
-use Rattle.stream.specs.declared.walk.Walked.{Walked}
+use Rattle.boot.specs.declared.cause.Cause.{Cause}
+use Rattle.boot.specs.Causes.{cause_number}
+use Rattle.stream.specs.declared.walk.Walk.{Walk}
 use Rattle.stream.specs.Chain.{Clusters, listed, refused, read_chain}
 
 -- the cluster after k: the next number in a run, what the FAT says in a chain
@@ -35,9 +39,42 @@ pub record Known (y : Layout) (d : List ℕ) (a : Allocation) (p : Place) (i : �
   pub inside : p.steps ≤ a.count - 1
   pub before : p.steps * y.size ≤ i
 
+-- a walk over n bytes of stream a, piece by piece, before its byte i
+abbrev pub byte_walk : (y : Layout) (d : List ℕ) (a : Allocation) (i n : ℕ) → ByteWalk
+byte_walk y d a i n =
+    record { run = a.no_fat_chain; cluster = reached (fat_entry y d) a.no_fat_chain a.first (i / y.size); at = i % y.size; from = 0; end = n }
+
+-- how many bytes stand one behind the other there: all that are left of a run's, those of the cluster in a chain
+unfoldable pub piece_length : (y : Layout) (c : ByteWalk) → ℕ
+piece_length y c = cond c.run (c.end - c.from) (min (y.size - c.at) (c.end - c.from))
+
+-- the piece of them
+abbrev pub piece_of : (y : Layout) (c : ByteWalk) → Piece
+piece_of y c = record { cluster = c.cluster; at = c.at; from = c.from; len = piece_length y c }
+
+-- behind it
+abbrev pub past_piece : (y : Layout) (d : List ℕ) (c : ByteWalk) → ByteWalk
+past_piece y d c =
+    record { run = c.run; cluster = after (fat_entry y d) c.run c.cluster; at = 0; from = c.from + piece_length y c; end = c.end }
+
 -- cluster k may not be in a stream (number 9): a bitmap's cluster in the root directory, a system cluster in any other stream
 unfoldable pub barred : (y : Layout) (m : List ℕ) (root : Bool) (k : ℕ) → Bool
 barred y m root k = cond root (is_bitmap_cluster y k) (in_map m k)
+
+-- what a walk of a chain tells: a number, and where it is 0 the chain's last cluster, its length, whether all are marked, whether none is
+-- barred, and the cluster that is looked for
+pub record Walked : Type 0 where
+  pub number : ℕ
+  pub last : ℕ
+  pub count : ℕ
+  pub marked : Bool
+  pub clear : Bool
+  pub seen : ℕ
+
+-- by what its function gives
+abbrev pub walked_of : Result Walk Cause → Walked
+walked_of (Ok w) = record { number = 0; last = w.last; count = w.count; marked = w.marked; clear = w.clear; seen = w.seen }
+walked_of (Err c) = record { number = cause_number c; last = 0; count = 0; marked = false; clear = false; seen = 0 }
 
 -- what a walk of a chain answers, by two tests of its clusters, whether all are marked and whether none is barred, and with the cluster
 -- that stands at place `goal`

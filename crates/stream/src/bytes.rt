@@ -1,5 +1,5 @@
-// The bytes of a stream: a part of them read, stored, or filled with zeros. Each cluster is gone through once.
-ghost use Rattle.std.specs.Prelude.{◌≡◌, true, false, ◌+◌, ◌-◌, ◌*◌, ◌/◌, ◌≤◌, ◌<◌, min, length, take, drop, replicate};
+// The bytes of a stream: a part of them read, stored, or filled with zeros, by one walk that goes through each cluster once.
+ghost use Rattle.std.specs.Prelude.{◌≡◌, true, ◌+◌, ◌-◌, ◌*◌, ◌/◌, ◌≤◌, ◌<◌, min, length, take, drop, replicate};
 ghost use Rattle.primitives.specs.Splice.{splice};
 ghost use Rattle.tables.specs.Lists.{every};
 ghost use Rattle.boot.specs.Internal.{Laid, Apart};
@@ -7,7 +7,9 @@ ghost use Rattle.boot.specs.Layout.{cluster_at, in_heap};
 ghost use Rattle.metadata.specs.Fat.{fat_entry};
 ghost use Rattle.metadata.specs.Cluster.{put_bytes};
 ghost use Rattle.stream.specs.Internal.{along, reached, place_at, Known};
-ghost use Rattle.stream.specs.Bytes.{cluster_bytes, bytes_of, store_at};
+ghost use Rattle.stream.specs.Internal.{byte_walk, piece_of, past_piece};
+ghost use Rattle.stream.specs.Bytes.{bytes_of, store_at};
+ghost use Rattle.std.specs.Option.{MatchOption};
 
 use crate::allocation::Allocation;
 use boot::layout::Layout;
@@ -19,16 +21,6 @@ pub struct Place {
     pub steps: u32,
 }
 
-// The lesser of two numbers.
-pub fn lesser(a: usize, b: usize) -> usize
-    ensures { result ≡ min a b }
-{
-    if a < b {
-        return a;
-    }
-    b
-}
-
 // The cluster that so many steps along a stream lead to; in a run they are one sum.
 pub fn seek(vol: &[u8], y: Layout, run: bool, first: u32, steps: u32) -> u32
     requires { Laid y × ((length vol.now ≡ y.len) × (every (in_heap y.count) (along (fat_entry y vol.now) run first steps) ≡ true)) }
@@ -38,20 +30,10 @@ pub fn seek(vol: &[u8], y: Layout, run: bool, first: u32, steps: u32) -> u32
         return first + steps;
     }
     let mut k = first;
-    let mut left = steps;
-    while 0 < left {
+    for _ in 0..steps {
         k = metadata::fat::fat_entry(vol, y, k);
-        left -= 1;
     }
     k
-}
-
-// The same from a place that is known, so that nothing before it is gone through again.
-fn seek_from(vol: &[u8], y: Layout, a: Allocation, known: Place, steps: u32) -> u32
-    requires { Laid y × ((length vol.now ≡ y.len) × ((every (in_heap y.count) (along (fat_entry y vol.now) a.no_fat_chain a.first steps) ≡ true) × ((reached (fat_entry y vol.now) a.no_fat_chain a.first known.steps ≡ known.cluster) × (known.steps ≤ steps)))) }
-    ensures { result ≡ reached (fat_entry y vol.now) a.no_fat_chain a.first steps }
-{
-    seek(vol, y, a.no_fat_chain, known.cluster, steps - known.steps)
 }
 
 // Stores n bytes of src, from `from` on, in cluster k, from its byte `at` on, and past its end in those that follow it in the heap.
@@ -72,122 +54,74 @@ pub fn put_zeros(vol: &mut [u8], y: Layout, k: u32, at: usize, n: usize)
     primitives::slices::fill_zero(vol, start + at, n);
 }
 
-// Stores n bytes of cluster k, from its byte `at` on, in dst.
+// Stores n bytes, from byte `at` of cluster k on and past its end from those that follow it in the heap, in dst.
 fn get_piece(vol: &[u8], y: Layout, k: u32, at: usize, dst: &mut [u8], to: usize, n: usize)
-    requires { Laid y × ((length vol.now ≡ y.len) × ((2 ≤ k) × ((k < y.count + 2) × ((at + n ≤ y.size) × (to + n ≤ length dst.old))))) }
-    ensures { dst.new ≡ splice dst.old to (take n (drop at (cluster_bytes y vol.now k))) }
+    requires { Laid y × ((length vol.now ≡ y.len) × ((2 ≤ k) × ((k < y.count + 2) × ((cluster_at y k + at + n ≤ y.len) × (to + n ≤ length dst.old))))) }
+    ensures { dst.new ≡ splice dst.old to (take n (drop (cluster_at y k + at) vol.now)) }
 {
     let start = boot::layout::cluster_offset(y, k);
     primitives::slices::copy_in(dst, to, vol, start + at, n);
 }
 
-// Stores src in count clusters of a chain, from byte `at` of the first one on.
-fn store_chain(vol: &mut [u8], y: Layout, first: u32, count: u32, at: usize, src: &[u8])
-    requires { Laid y × ((length vol.old ≡ y.len) × ((every (in_heap y.count) (along (fat_entry y vol.old) false first count) ≡ true) × ((at < y.size) × ((at + length src.now ≤ count * y.size) × Apart y)))) }
-    ensures { vol.new ≡ store_at y vol.old (along (fat_entry y vol.old) false first count) at src.now }
-{
-    let mut k = first;
-    // The clusters from k on: only the proof needs their number.
-    let mut left = count;
-    let mut place = at;
-    let mut from: usize = 0;
-    let mut more = src.len();
-    while 0 < more {
-        let m = lesser(y.size - place, more);
-        let next = crate::walk::next_cluster(vol, y, false, k);
-        put_piece(vol, y, k, place, src, from, m);
-        k = next;
-        left -= 1;
-        place = 0;
-        from += m;
-        more -= m;
-    }
-}
-
-// Stores src in count clusters, from byte `at` of the first one on. A run's clusters are one piece of the volume, and take one copy.
-fn store_from(vol: &mut [u8], y: Layout, run: bool, first: u32, count: u32, at: usize, src: &[u8])
-    requires { Laid y × ((length vol.old ≡ y.len) × ((every (in_heap y.count) (along (fat_entry y vol.old) run first count) ≡ true) × ((at < y.size) × ((at + length src.now ≤ count * y.size) × (Apart y × (1 ≤ length src.now)))))) }
-    ensures { vol.new ≡ store_at y vol.old (along (fat_entry y vol.old) run first count) at src.now }
-{
-    if run {
-        put_piece(vol, y, first, at, src, 0, src.len());
-    } else {
-        store_chain(vol, y, first, count, at, src);
-    }
-}
-
-// Fills n bytes of count clusters of a chain with zeros, from byte `at` of the first one on, and answers the cluster of the last one.
-fn fill_chain(vol: &mut [u8], y: Layout, first: u32, count: u32, at: usize, n: usize) -> u32
-    requires { Laid y × ((length vol.old ≡ y.len) × ((every (in_heap y.count) (along (fat_entry y vol.old) false first count) ≡ true) × ((at < y.size) × ((at + n ≤ count * y.size) × (Apart y × (1 ≤ n)))))) }
-    ensures { (vol.new ≡ store_at y vol.old (along (fat_entry y vol.old) false first count) at (replicate n 0)) × (result ≡ reached (fat_entry y vol.old) false first ((at + n - 1) / y.size)) }
-{
-    let mut k = first;
-    // The clusters from k on: only the proof needs their number.
-    let mut left = count;
-    let mut place = at;
-    let mut more = n;
-    while y.size - place < more {
-        let m = y.size - place;
-        let next = crate::walk::next_cluster(vol, y, false, k);
-        put_zeros(vol, y, k, place, m);
-        k = next;
-        left -= 1;
-        place = 0;
-        more -= m;
-    }
-    put_zeros(vol, y, k, place, more);
-    k
-}
-
-// Fills n bytes of count clusters with zeros, from byte `at` of the first one on, and answers the cluster of the last one. A run's
-// clusters are one piece of the volume, and take one fill.
-fn fill_from(
-    vol: &mut [u8],
-    y: Layout,
+// Where a walk over bytes of a stream stands: the cluster of the next byte and its place in it, and which of them it is, up to their end.
+#[derive(Clone, Copy)]
+struct ByteWalk {
     run: bool,
-    first: u32,
-    count: u32,
+    cluster: u32,
     at: usize,
-    n: usize,
-) -> u32
-    requires { Laid y × ((length vol.old ≡ y.len) × ((every (in_heap y.count) (along (fat_entry y vol.old) run first count) ≡ true) × ((at < y.size) × ((at + n ≤ count * y.size) × (Apart y × (1 ≤ n)))))) }
-    ensures { (vol.new ≡ store_at y vol.old (along (fat_entry y vol.old) run first count) at (replicate n 0)) × (result ≡ reached (fat_entry y vol.old) run first ((at + n - 1) / y.size)) }
-{
-    if run {
-        put_zeros(vol, y, first, at, n);
-        return first + ((at + n - 1) / y.size) as u32;
-    }
-    fill_chain(vol, y, first, count, at, n)
+    from: usize,
+    end: usize,
 }
 
-// Reads n bytes of count clusters, from byte `at` of the first one on, into dst.
-fn read_from(
-    vol: &[u8],
-    y: Layout,
-    run: bool,
-    first: u32,
-    count: u32,
+// Bytes of a walk that stand one behind the other: len of them, the `from`-th first, from byte `at` of a cluster on.
+#[derive(Clone, Copy)]
+struct Piece {
+    cluster: u32,
     at: usize,
-    dst: &mut [u8],
-    n: usize,
-)
-    requires { Laid y × ((length vol.now ≡ y.len) × ((every (in_heap y.count) (along (fat_entry y vol.now) run first count) ≡ true) × ((at < y.size) × ((at + n ≤ count * y.size) × (n ≤ length dst.old))))) }
-    ensures { dst.new ≡ splice dst.old 0 (take n (drop at (bytes_of y vol.now (along (fat_entry y vol.now) run first count)))) }
-{
-    let mut k = first;
-    // The clusters from k on: only the proof needs their number.
-    let mut left = count;
-    let mut place = at;
-    let mut put: usize = 0;
-    let mut more = n;
-    while 0 < more {
-        let m = lesser(y.size - place, more);
-        get_piece(vol, y, k, place, dst, put, m);
-        k = crate::walk::next_cluster(vol, y, run, k);
-        left -= 1;
-        place = 0;
-        put += m;
-        more -= m;
+    from: usize,
+    len: usize,
+}
+
+impl ByteWalk {
+    // Before n bytes of a stream, from its byte `at` on. Nothing before the place that is known is gone through again.
+    fn new(vol: &[u8], y: Layout, a: Allocation, known: Place, at: usize, n: usize) -> ByteWalk
+        requires { Laid y × ((length vol.now ≡ y.len) × ((every (in_heap y.count) (along (fat_entry y vol.now) a.no_fat_chain a.first a.count) ≡ true) × ((at + n ≤ a.count * y.size) × Known y vol.now a known at))) }
+        ensures { result ≡ byte_walk y vol.now a at n }
+    {
+        let steps = (at / y.size) as u32;
+        ByteWalk {
+            run: a.no_fat_chain,
+            cluster: seek(vol, y, a.no_fat_chain, known.cluster, steps - known.steps),
+            at: at % y.size,
+            from: 0,
+            end: n,
+        }
+    }
+
+    // The next piece: what is left in the cluster, or all of it in a run, whose clusters are one piece of the volume.
+    fn next(&mut self, vol: &[u8], y: Layout) -> Option<Piece>
+        requires { Laid y × ((length vol.now ≡ y.len) × (self.old.from < self.old.end → (self.old.at < y.size) × (self.old.cluster < y.count + 2))) }
+        ensures { MatchOption result ((self.old.end ≤ self.old.from) × (self.new ≡ self.old)) (λ p. (self.old.from < self.old.end) × ((p ≡ piece_of y self.old) × (self.new ≡ past_piece y vol.now self.old))) }
+    {
+        if self.end <= self.from {
+            return None;
+        }
+        let more = self.end - self.from;
+        let len = if self.run {
+            more
+        } else {
+            (y.size - self.at).min(more)
+        };
+        let piece = Piece {
+            cluster: self.cluster,
+            at: self.at,
+            from: self.from,
+            len,
+        };
+        self.cluster = crate::walk::next_cluster(vol, y, self.run, self.cluster);
+        self.at = 0;
+        self.from += len;
+        Some(piece)
     }
 }
 
@@ -196,9 +130,10 @@ pub fn store(vol: &mut [u8], y: Layout, a: Allocation, known: Place, at: usize, 
     requires { Laid y × ((length vol.old ≡ y.len) × ((every (in_heap y.count) (along (fat_entry y vol.old) a.no_fat_chain a.first a.count) ≡ true) × ((at + length src.now ≤ a.count * y.size) × (Apart y × (Known y vol.old a known at × (1 ≤ length src.now)))))) }
     ensures { vol.new ≡ store_at y vol.old (along (fat_entry y vol.old) a.no_fat_chain a.first a.count) at src.now }
 {
-    let steps = (at / y.size) as u32;
-    let k = seek_from(vol, y, a, known, steps);
-    store_from(vol, y, a.no_fat_chain, k, a.count - steps, at % y.size, src);
+    let mut walk = ByteWalk::new(vol, y, a, known, at, src.len());
+    while let Some(piece) = walk.next(vol, y) {
+        put_piece(vol, y, piece.cluster, piece.at, src, piece.from, piece.len);
+    }
 }
 
 // Fills n bytes of a stream with zeros, from its byte `at` on, and answers the place of the last one.
@@ -206,12 +141,20 @@ pub fn fill(vol: &mut [u8], y: Layout, a: Allocation, known: Place, at: usize, n
     requires { Laid y × ((length vol.old ≡ y.len) × ((every (in_heap y.count) (along (fat_entry y vol.old) a.no_fat_chain a.first a.count) ≡ true) × ((at + n ≤ a.count * y.size) × (Apart y × (Known y vol.old a known at × (1 ≤ n)))))) }
     ensures { (vol.new ≡ store_at y vol.old (along (fat_entry y vol.old) a.no_fat_chain a.first a.count) at (replicate n 0)) × (result ≡ place_at y vol.old a ((at + n - 1) / y.size)) }
 {
-    let steps = (at / y.size) as u32;
-    let k = seek_from(vol, y, a, known, steps);
-    let last = fill_from(vol, y, a.no_fat_chain, k, a.count - steps, at % y.size, n);
+    let mut walk = ByteWalk::new(vol, y, a, known, at, n);
+    let mut last = walk.cluster;
+    while let Some(piece) = walk.next(vol, y) {
+        put_zeros(vol, y, piece.cluster, piece.at, piece.len);
+        last = piece.cluster;
+    }
+    let steps = ((at + n - 1) / y.size) as u32;
+    // A run was one piece, and its last cluster is one sum.
+    if a.no_fat_chain {
+        last = a.first + steps;
+    }
     Place {
         cluster: last,
-        steps: ((at + n - 1) / y.size) as u32,
+        steps,
     }
 }
 
@@ -220,16 +163,8 @@ pub fn read(vol: &[u8], y: Layout, a: Allocation, known: Place, at: usize, dst: 
     requires { Laid y × ((length vol.now ≡ y.len) × ((every (in_heap y.count) (along (fat_entry y vol.now) a.no_fat_chain a.first a.count) ≡ true) × ((at + n ≤ a.count * y.size) × ((n ≤ length dst.old) × Known y vol.now a known at)))) }
     ensures { dst.new ≡ splice dst.old 0 (take n (drop at (bytes_of y vol.now (along (fat_entry y vol.now) a.no_fat_chain a.first a.count)))) }
 {
-    let steps = (at / y.size) as u32;
-    let k = seek_from(vol, y, a, known, steps);
-    read_from(
-        vol,
-        y,
-        a.no_fat_chain,
-        k,
-        a.count - steps,
-        at % y.size,
-        dst,
-        n,
-    );
+    let mut walk = ByteWalk::new(vol, y, a, known, at, n);
+    while let Some(piece) = walk.next(vol, y) {
+        get_piece(vol, y, piece.cluster, piece.at, dst, piece.from, piece.len);
+    }
 }

@@ -1,14 +1,16 @@
 // Listing: the clusters of a record written to a lent list (Rust: `clusters`).
-ghost use Rattle.std.specs.Prelude.{◌≡◌, true, ◌+◌, ◌*◌, ◌≤◌, ◌<◌, length};
+ghost use Rattle.std.specs.Prelude.{◌≡◌, true, ◌*◌, ◌≤◌, ◌<◌, length};
 ghost use Rattle.primitives.specs.Splice.{splice};
 ghost use Rattle.tables.specs.Lists.{every};
 ghost use Rattle.boot.specs.Internal.{Laid};
 ghost use Rattle.boot.specs.Layout.{in_heap};
+ghost use Rattle.boot.specs.Causes.{number};
 ghost use Rattle.metadata.specs.Fat.{fat_entry};
 ghost use Rattle.stream.specs.Internal.{along};
 ghost use Rattle.stream.specs.Listing.{listed_number, listed_list, listing_number, listing_list};
 
 use crate::allocation::Allocation;
+use boot::cause::Cause;
 use boot::geometry::Geometry;
 use boot::layout::Layout;
 
@@ -18,39 +20,41 @@ fn write_clusters(vol: &[u8], y: Layout, a: Allocation, list: &mut [u32])
     ensures { list.new ≡ splice list.old 0 (along (fat_entry y vol.now) a.no_fat_chain a.first a.count) }
 {
     let mut k = a.first;
-    let mut i: usize = 0;
-    let mut left = a.count;
-    while 0 < left {
-        list[i] = k;
+    for place in &mut list[..a.count as usize] {
+        *place = k;
         k = crate::walk::next_cluster(vol, y, a.no_fat_chain, k);
-        i += 1;
-        left -= 1;
     }
 }
 
-// The same once the limits are known to hold.
-fn list_clusters(vol: &[u8], map: &[u8], y: Layout, a: Allocation, list: &mut [u32]) -> u32
+// The same once the limits are known to hold: refused where the list is too short, or by the record's clusters.
+fn list_clusters(
+    vol: &[u8],
+    map: &[u8],
+    y: Layout,
+    a: Allocation,
+    list: &mut [u32],
+) -> Result<(), Cause>
     requires { Laid y × ((length vol.now ≡ y.len) × (y.count ≤ 8 * length map.now)) }
-    ensures { (result ≡ listed_number y vol.now a (length list.old)) × (list.new ≡ listed_list y vol.now a list.old) }
+    ensures { (number result ≡ listed_number y vol.now a (length list.old)) × (list.new ≡ listed_list y vol.now a list.old) }
 {
     if list.len() < a.count as usize {
-        return 14;
+        return Err(Cause::ShortList);
     }
-    let number = crate::walk::stream_cause(vol, map, y, a);
-    if number != 0 {
-        return number;
-    }
+    crate::walk::stream_cause(vol, map, y, a)?;
     write_clusters(vol, y, a, list);
-    0
+    Ok(())
 }
 
-// Writes the clusters of a record, in stream order, to a lent list, and answers the number.
-pub fn clusters(vol: &[u8], map: &[u8], g: Geometry, a: Allocation, list: &mut [u32]) -> u32
-    ensures { (result ≡ listing_number g vol.now map.now a (length list.old)) × (list.new ≡ listing_list g vol.now map.now a list.old) }
+// Writes the clusters of a record, in stream order, to a lent list.
+pub fn clusters(
+    vol: &[u8],
+    map: &[u8],
+    g: Geometry,
+    a: Allocation,
+    list: &mut [u32],
+) -> Result<(), Cause>
+    ensures { (number result ≡ listing_number g vol.now map.now a (length list.old)) × (list.new ≡ listing_list g vol.now map.now a list.old) }
 {
-    let admission = boot::layout::admit(g, vol.len(), map);
-    if admission.number != 0 {
-        return admission.number;
-    }
-    list_clusters(vol, map, admission.layout, a, list)
+    let y = boot::layout::admit(g, vol.len(), map)?;
+    list_clusters(vol, map, y, a, list)
 }

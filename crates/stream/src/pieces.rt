@@ -8,21 +8,17 @@ ghost use Rattle.stream.specs.Internal.{along, four_follow};
 ghost use Rattle.stream.specs.Pieces.{following, leading};
 
 use boot::layout::Layout;
-use primitives::bits::both;
 
 // How many of the n clusters of a chain that come after k follow it in the heap, one test for each entry.
 fn following_each(vol: &[u8], y: Layout, k: u32, n: u32) -> u32
     requires { Laid y × ((length vol.now ≡ y.len) × (every (in_heap y.count) (along (fat_entry y vol.now) false k (n + 1)) ≡ true)) }
     ensures { (result ≡ following k (along (fat_entry y vol.now) false (fat_entry y vol.now k) n)) × (result ≤ n) }
 {
-    let mut last = k;
-    let mut left = n;
-    while 0 < left {
+    for i in 0..n {
+        let last = k + i;
         if metadata::fat::fat_entry(vol, y, last) != last + 1 {
-            return n - left;
+            return i;
         }
-        last += 1;
-        left -= 1;
     }
     n
 }
@@ -36,7 +32,7 @@ fn four_follow(vol: &[u8], y: Layout, k: u32) -> bool
     let b = metadata::fat::fat_entry(vol, y, k + 1) == k + 2;
     let c = metadata::fat::fat_entry(vol, y, k + 2) == k + 3;
     let d = metadata::fat::fat_entry(vol, y, k + 3) == k + 4;
-    both(both(a, b), both(c, d))
+    (a & b) & (c & d)
 }
 
 // The same, four entries at a time as long as they lie in the FAT and all of them name the next number.
@@ -44,20 +40,11 @@ fn following(vol: &[u8], y: Layout, k: u32, n: u32) -> u32
     requires { Laid y × ((length vol.now ≡ y.len) × (every (in_heap y.count) (along (fat_entry y vol.now) false k (n + 1)) ≡ true)) }
     ensures { (result ≡ following k (along (fat_entry y vol.now) false (fat_entry y vol.now k) n)) × (result ≤ n) }
 {
-    let mut last = k;
-    let mut left = n;
-    while 4 <= left {
-        if y.count <= last + 1 {
-            return n - left + following_each(vol, y, last, left);
-        }
-        if four_follow(vol, y, last) {
-            last += 4;
-            left -= 4;
-        } else {
-            return n - left + following_each(vol, y, last, left);
-        }
+    let mut done = 0;
+    while 4 <= n - done && k + done + 1 < y.count && four_follow(vol, y, k + done) {
+        done += 4;
     }
-    n - left + following_each(vol, y, last, left)
+    done + following_each(vol, y, k + done, n - done)
 }
 
 // How many of the n clusters of a stream from k on, k included, stand one behind the other in the heap: all of a run's; a chain's as

@@ -3,39 +3,47 @@ ghost use Rattle.std.specs.Prelude.{◌≡◌, true, ◌+◌, ◌*◌, ◌≤◌
 ghost use Rattle.tables.specs.Lists.{every, consec};
 ghost use Rattle.boot.specs.Internal.{Laid};
 ghost use Rattle.boot.specs.Layout.{in_heap};
+ghost use Rattle.boot.specs.Causes.{number};
 ghost use Rattle.metadata.specs.Fat.{fat_entry};
 ghost use Rattle.stream.specs.Internal.{along};
 ghost use Rattle.stream.specs.Stream.{system_cause};
 
+use boot::cause::Cause;
 use boot::layout::Layout;
 
-// What refuses the n clusters from first as a run: a system cluster among them. Bytes of the map that are 0 are one test.
-fn run_system_cause(map: &[u8], first: u32, n: u32) -> u32
+// Refuses the n clusters from first as a run by a system cluster among them. Bytes of the map that are 0 are one test.
+fn run_system_cause(map: &[u8], first: u32, n: u32) -> Result<(), Cause>
     requires { (2 ≤ first) × ((first + n ≤ 65536) × (first + n ≤ 8 * length map.now + 2)) }
-    ensures { result ≡ system_cause map.now (consec first n) }
+    ensures { number result ≡ system_cause map.now (consec first n) }
 {
     if primitives::bits::none_set(map, first - 2, n) {
-        return 0;
+        Ok(())
+    } else {
+        Err(Cause::SystemCluster)
     }
-    9
 }
 
-// What refuses n clusters of a stream: a system cluster among them.
-pub fn system_cause(vol: &[u8], map: &[u8], y: Layout, run: bool, first: u32, n: u32) -> u32
+// Refuses n clusters of a stream by a system cluster among them.
+pub fn system_cause(
+    vol: &[u8],
+    map: &[u8],
+    y: Layout,
+    run: bool,
+    first: u32,
+    n: u32,
+) -> Result<(), Cause>
     requires { Laid y × ((length vol.now ≡ y.len) × ((y.count ≤ 8 * length map.now) × ((every (in_heap y.count) (along (fat_entry y vol.now) run first n) ≡ true) × (1 ≤ n)))) }
-    ensures { result ≡ system_cause map.now (along (fat_entry y vol.now) run first n) }
+    ensures { number result ≡ system_cause map.now (along (fat_entry y vol.now) run first n) }
 {
     if run {
         return run_system_cause(map, first, n);
     }
     let mut k = first;
-    let mut left = n;
-    while 0 < left {
+    for _ in 0..n {
         if boot::geometry::in_map(map, k) {
-            return 9;
+            return Err(Cause::SystemCluster);
         }
-        k = crate::walk::next_cluster(vol, y, run, k);
-        left -= 1;
+        k = metadata::fat::fat_entry(vol, y, k);
     }
-    0
+    Ok(())
 }

@@ -1,42 +1,28 @@
 // A record's clusters walked and tested: what refuses it.
-ghost use Rattle.std.specs.Prelude.{◌≡◌, not, false, cond, ◌+◌, ◌-◌, ◌*◌, ◌≤◌, ◌<◌, min, length};
+ghost use Rattle.std.specs.Prelude.{◌≡◌, Ok, IfOk, not, false, ◌+◌, ◌-◌, ◌*◌, ◌≤◌, ◌<◌, min, length};
 ghost use Rattle.boot.specs.Internal.{Laid};
+ghost use Rattle.boot.specs.Causes.{number};
 ghost use Rattle.metadata.specs.Fat.{fat_entry};
 ghost use Rattle.metadata.specs.Marks.{marked};
 ghost use Rattle.metadata.specs.Internal.{first_unmarked};
 ghost use Rattle.stream.specs.Chain.{read_chain};
-ghost use Rattle.stream.specs.Internal.{after, barred, walked, walk_cause, chain_clear, stream_clear};
+ghost use Rattle.stream.specs.Internal.{after, barred, walked, walked_of, walk_cause, chain_clear, stream_clear};
 ghost use Rattle.stream.specs.Stream.{run_cause, read_run, check_chain, stream_of, number_of};
 
 use crate::allocation::Allocation;
+use boot::cause::Cause;
 use boot::layout::Layout;
-use primitives::bits::both;
-
-// What a FAT value says: the end of the chain, another cluster, or neither. The definitions speak of it; the code tests the value itself.
-#[derive(Clone, Copy)]
-pub enum Next {
-    End,
-    More,
-    Wrong,
-}
 
 // A chain walked to its end: its last cluster, its length, whether all are marked, whether none is barred (number 9), and the cluster
-// that the caller looks for, 0 where the chain ends before it; or what refuses it.
+// that the caller looks for, 0 where the chain ends before it.
+// Kept: a caller looks for a cluster of the stream, and tests the chain's length first, so that it never reads the 0.
 #[derive(Clone, Copy)]
-pub struct Walked {
-    pub number: u32,
+pub struct Walk {
     pub last: u32,
     pub count: u32,
     pub marked: bool,
     pub clear: bool,
     pub seen: u32,
-}
-
-// A record's clusters tested: what refuses it, and whether a walk of them saw that none is a system cluster.
-#[derive(Clone, Copy)]
-pub struct Tested {
-    pub number: u32,
-    pub clear: bool,
 }
 
 // Whether cluster k may not be in a stream (number 9): a bitmap's cluster in the root directory, a system cluster in any other stream.
@@ -50,176 +36,129 @@ fn is_barred(map: &[u8], y: Layout, root: bool, k: u32) -> bool
     boot::geometry::in_map(map, k)
 }
 
-// A chain refused by its walk.
-fn not_walked(number: u32) -> Walked
-    ensures { result ≡ record { number = number; last = 0; count = 0; marked = false; clear = false; seen = 0 } }
-{
-    Walked {
-        number: number,
-        last: 0,
-        count: 0,
-        marked: false,
-        clear: false,
-        seen: 0,
-    }
-}
-
-// The first of two numbers where that is asked for, else the second.
-fn either(first: bool, a: u32, b: u32) -> u32
-    ensures { result ≡ cond first a b }
-{
-    if first {
-        return a;
-    }
-    b
-}
-
 // The chain from first, a cluster of the heap, walked once, as the root directory's or as another stream's (Rust: `fat_chain`); the
 // cluster `goal` steps from the first is noted on the way. A function by itself in the machine code too: inside its callers the loop
 // would not have what it reads in registers.
 #[inline(never)]
-pub fn fat_chain(vol: &[u8], map: &[u8], y: Layout, root: bool, first: u32, goal: u32) -> Walked
+pub fn fat_chain(
+    vol: &[u8],
+    map: &[u8],
+    y: Layout,
+    root: bool,
+    first: u32,
+    goal: u32,
+) -> Result<Walk, Cause>
     requires { Laid y × ((length vol.now ≡ y.len) × ((y.count ≤ 8 * length map.now) × ((2 ≤ first) × (first < y.count + 2)))) }
-    ensures { result ≡ walked (marked y vol.now) (λ k. not (barred y map.now root k)) goal (read_chain y.count (fat_entry y vol.now) first) }
+    ensures { walked_of result ≡ walked (marked y vol.now) (λ k. not (barred y map.now root k)) goal (read_chain y.count (fat_entry y vol.now) first) }
 {
     let mut k = first;
-    let mut before: u32 = 0;
     let mut all = true;
     let mut clear = true;
     let mut seen: u32 = 0;
-    let mut left = y.count - 1;
-    loop {
+    for before in 0..y.count {
         let v = metadata::fat::fat_entry(vol, y, k);
-        all = both(all, metadata::bitmap::allocated(vol, y, k));
-        clear = both(clear, !is_barred(map, y, root, k));
-        seen = either(before == goal, k, seen);
-        if boot::layout::in_heap(y.count, v) {
-            if left == 0 {
-                return not_walked(4);
-            }
-            k = v;
-            before += 1;
-            left -= 1;
-        } else {
+        all &= metadata::bitmap::allocated(vol, y, k);
+        clear &= !is_barred(map, y, root, k);
+        if before == goal {
+            seen = k;
+        }
+        if !boot::layout::in_heap(y.count, v) {
             if v == 0xFFFF_FFFF {
-                return Walked {
-                    number: 0,
+                return Ok(Walk {
                     last: k,
                     count: before + 1,
                     marked: all,
-                    clear: clear,
-                    seen: seen,
-                };
+                    clear,
+                    seen,
+                });
             }
-            return not_walked(3);
+            return Err(Cause::NoCluster);
         }
+        k = v;
     }
+    Err(Cause::Endless)
 }
 
-// The first of the n clusters from k that is unmarked or outside the heap; k + n where there is none.
-fn past_marked(vol: &[u8], y: Layout, k: u32, n: u32) -> u32
-    requires { Laid y × ((length vol.now ≡ y.len) × ((2 ≤ k) × (k ≤ y.count + 2))) }
-    ensures { (result ≡ first_unmarked y vol.now k (min n (y.count + 2 - k))) × ((k ≤ result) × (result ≤ k + min n (y.count + 2 - k))) }
-{
-    let room = y.count + 2 - k;
-    if n < room {
-        return metadata::bitmap::first_unmarked(vol, y, k, n);
-    }
-    metadata::bitmap::first_unmarked(vol, y, k, room)
-}
-
-// What refuses the n clusters from first as a run: the earliest outside the heap or unmarked.
-fn run_cause(vol: &[u8], y: Layout, first: u32, n: u32) -> u32
+// Refuses the n clusters from first as a run by the earliest that is outside the heap or unmarked.
+fn run_cause(vol: &[u8], y: Layout, first: u32, n: u32) -> Result<(), Cause>
     requires { Laid y × ((length vol.now ≡ y.len) × (1 ≤ n)) }
-    ensures { result ≡ run_cause y.count (marked y vol.now) first n }
+    ensures { number result ≡ run_cause y.count (marked y vol.now) first n }
 {
     if boot::layout::in_heap(y.count, first) {
-        let next = past_marked(vol, y, first, n);
+        let next = metadata::bitmap::first_unmarked(vol, y, first, n.min(y.count + 2 - first));
         if next - first == n {
-            return 0;
+            return Ok(());
         }
         if boot::layout::in_heap(y.count, next) {
-            return 6;
+            return Err(Cause::Unmarked);
         }
     }
-    2
+    Err(Cause::OutsideHeap)
 }
 
-// What refuses a run: its length, then its clusters.
-fn read_run(vol: &[u8], y: Layout, a: Allocation) -> u32
+// Refuses a run by its length, then by its clusters.
+fn read_run(vol: &[u8], y: Layout, a: Allocation) -> Result<(), Cause>
     requires { Laid y × ((length vol.now ≡ y.len) × (1 ≤ a.count)) }
-    ensures { result ≡ number_of (read_run y.count (marked y vol.now) a.first a.last a.count) }
+    ensures { number result ≡ number_of (read_run y.count (marked y vol.now) a.first a.last a.count) }
 {
-    if a.last as u64 + 1 != a.first as u64 + a.count as u64 {
-        return 5;
+    if u64::from(a.last) + 1 != u64::from(a.first) + u64::from(a.count) {
+        return Err(Cause::OtherChain);
     }
     run_cause(vol, y, a.first, a.count)
 }
 
-// The number of a walked chain that should have this last cluster and so many clusters.
-pub fn walk_cause(w: Walked, last: u32, count: u32) -> u32
-    ensures { result ≡ walk_cause w last count }
+// Refuses a walked chain that has not this last cluster and so many clusters, then one that is not all marked.
+#[tactic(auto, unfolding(crate::specs::Internal::walk_cause))]
+pub fn walk_cause(w: Walk, last: u32, count: u32) -> Result<(), Cause>
+    ensures { number result ≡ walk_cause (walked_of (Ok w)) last count }
 {
-    if w.number != 0 {
-        return w.number;
-    }
-    if w.count != count {
-        return 5;
-    }
-    if w.last != last {
-        return 5;
+    if w.count != count || w.last != last {
+        return Err(Cause::OtherChain);
     }
     if w.marked {
-        return 0;
+        Ok(())
+    } else {
+        Err(Cause::Unmarked)
     }
-    6
 }
 
-// What refuses a chain: its walk, then its length and last cluster, then its marks.
-fn read_chain(vol: &[u8], map: &[u8], y: Layout, a: Allocation) -> Tested
+// Refuses a chain by its walk, then by its length and last cluster, then by its marks. Gives whether the walk saw that none of its
+// clusters is a system cluster.
+fn read_chain(vol: &[u8], map: &[u8], y: Layout, a: Allocation) -> Result<bool, Cause>
     requires { Laid y × ((length vol.now ≡ y.len) × (y.count ≤ 8 * length map.now)) }
-    ensures { (result.number ≡ number_of (check_chain (marked y vol.now) a.last a.count (read_chain y.count (fat_entry y vol.now) a.first))) × (result.clear ≡ chain_clear y vol.now map.now a.first) }
+    ensures { (number result ≡ number_of (check_chain (marked y vol.now) a.last a.count (read_chain y.count (fat_entry y vol.now) a.first))) × IfOk result (λ clear. clear ≡ chain_clear y vol.now map.now a.first) }
 {
-    if boot::layout::in_heap(y.count, a.first) {
-        let w = fat_chain(vol, map, y, false, a.first, 0);
-        return Tested {
-            number: walk_cause(w, a.last, a.count),
-            clear: w.clear,
-        };
+    if !boot::layout::in_heap(y.count, a.first) {
+        return Err(Cause::OutsideHeap);
     }
-    Tested {
-        number: 2,
-        clear: false,
-    }
+    let w = fat_chain(vol, map, y, false, a.first, 0)?;
+    walk_cause(w, a.last, a.count)?;
+    Ok(w.clear)
 }
 
-// A record's clusters tested (Rust: `clusters`, and the test of it).
-pub fn stream_test(vol: &[u8], map: &[u8], y: Layout, a: Allocation) -> Tested
+// A record's clusters tested (Rust: `clusters`, and the test of it): whether a walk of them saw that none is a system cluster, or what
+// refuses them.
+pub fn stream_test(vol: &[u8], map: &[u8], y: Layout, a: Allocation) -> Result<bool, Cause>
     requires { Laid y × ((length vol.now ≡ y.len) × (y.count ≤ 8 * length map.now)) }
-    ensures { (result.number ≡ number_of (stream_of y vol.now a)) × (result.clear ≡ stream_clear y vol.now map.now a) }
+    ensures { (number result ≡ number_of (stream_of y vol.now a)) × IfOk result (λ clear. clear ≡ stream_clear y vol.now map.now a) }
 {
     if a.count == 0 {
-        return Tested {
-            number: 0,
-            clear: false,
-        };
+        return Ok(false);
     }
     if a.no_fat_chain {
-        return Tested {
-            number: read_run(vol, y, a),
-            clear: false,
-        };
+        read_run(vol, y, a)?;
+        return Ok(false);
     }
     read_chain(vol, map, y, a)
 }
 
-// What refuses a record's clusters.
-pub fn stream_cause(vol: &[u8], map: &[u8], y: Layout, a: Allocation) -> u32
+// Refuses a record by its clusters.
+pub fn stream_cause(vol: &[u8], map: &[u8], y: Layout, a: Allocation) -> Result<(), Cause>
     requires { Laid y × ((length vol.now ≡ y.len) × (y.count ≤ 8 * length map.now)) }
-    ensures { result ≡ number_of (stream_of y vol.now a) }
+    ensures { number result ≡ number_of (stream_of y vol.now a) }
 {
-    let t = stream_test(vol, map, y, a);
-    t.number
+    stream_test(vol, map, y, a)?;
+    Ok(())
 }
 
 // The cluster after k in a stream.

@@ -1,5 +1,5 @@
 use Prim.Native.Nat.{ℕ, ◌-◌}
-use mathlib.Core.Path.{◌≡◌, refl, sym, ◌∙◌}
+use mathlib.Core.Path.{◌≡◌, sym, ◌∙◌}
 use mathlib.Core.Bool.{false, not}
 use mathlib.Core.List.{List}
 use native.Mathlib.Omega.{arith}
@@ -16,21 +16,18 @@ use Rattle.choice.proofs.choice.scan.Goals as goal
 weaker : (y : Layout) (d m : List ℕ) (k : ℕ) → not (marked y d k) ≡ false → is_usable y d m k ≡ false
 weaker y d m k e = usable-not_free y d m k (free_marked y d m k (not-false (marked y d k) e))
 
-pub loop-base-init : goal.loop-base-init
-loop-base-init c = (omega arith, (omega arith, refl))
-
 pub returns-then-last-base : goal.returns-then-last-base
 returns-then-last-base c =
     let a = c.args in
     let l = c.loop-base in
-    let t = c.window_tail-last in
+    let t = c.usable_tail-last in
     sym (window_hit (is_usable a.y a.vol.now a.map.now) a.end a.n l.base t.result t.ensures.0 (omega arith) (omega arith)) ∙ l.invariant.1.1
 
 pub loop-base-preserved-then-next-base : goal.loop-base-preserved-then-next-base
 loop-base-preserved-then-next-base c =
     let a = c.args in
     let l = c.loop-base in
-    let t = c.window_tail-last in
+    let t = c.usable_tail-last in
     (omega arith, (omega arith, window_skip (is_usable a.y a.vol.now a.map.now) (is_usable a.y a.vol.now a.map.now) (λ k e. e) a.end a.n l.base t.result t.ensures.0 (λ z. omega arith) ∙ l.invariant.1.1))
 
 pub loop-base-preserved-then-next-base-2 : goal.loop-base-preserved-then-next-base-2

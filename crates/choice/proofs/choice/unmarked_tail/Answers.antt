@@ -8,7 +8,7 @@ use Rattle.metadata.specs.Marks.{marked}
 use Rattle.metadata.specs.Internal.{byte_unmarked}
 use Rattle.metadata.proofs.WindowLaws.{byte_each}
 use Rattle.search.specs.Internal.{past_failing}
-use Rattle.search.proofs.Runs.{tail_none, tail_whole, tail_pass, tail_fail, tail_over}
+use Rattle.search.proofs.Runs.{tail_none, tail_pass, tail_fail, tail_over}
 use Rattle.choice.proofs.choice.unmarked_tail.Goals as goal
 
 -- clusters of one byte that marks none
@@ -23,9 +23,6 @@ pass y d low k h e = tail_pass (λ i. not (marked y d i)) low k h (ap not e)
 
 fail : (y : Layout) (d : List ℕ) (low k : ℕ) → low < k → marked y d (k - 1) ≡ true → past_failing (λ i. not (marked y d i)) low (k - low) ≡ k
 fail y d low k h e = tail_fail (λ i. not (marked y d i)) low k h (ap not e)
-
-pub loop-k-init : goal.loop-k-init
-loop-k-init c = (omega arith, (omega arith, tail_whole _ _ _ _ (omega arith)))
 
 pub returns-then-allocated : goal.returns-then-allocated
 returns-then-allocated c =

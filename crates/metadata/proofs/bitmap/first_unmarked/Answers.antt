@@ -1,4 +1,4 @@
-use Prim.Native.Nat.{◌+◌, ◌-◌, ◌/◌}
+use Prim.Native.Nat.{◌+◌, ◌/◌}
 use native.Mathlib.Omega.{arith}
 use Rattle.metadata.proofs.UnmarkedLaws.{unmarked_part}
 use Rattle.metadata.proofs.bitmap.first_unmarked.Goals as goal
@@ -6,6 +6,5 @@ use Rattle.metadata.proofs.bitmap.first_unmarked.Goals as goal
 pub returns : goal.returns
 returns c =
     let a = c.args in
-    let m = a.y.bitmap + (a.y.count + 7) / 8 - a.y.bitmap in
-    let e = unmarked_part a.y a.vol.now m a.k a.n _ (omega arith) (omega arith) c.first_bit.ensures.0 in
+    let e = unmarked_part a.y a.vol.now ((a.y.count + 7) / 8) a.k a.n _ (omega arith) (omega arith) (rw (← c.bitmap.ensures.0) c.first_bit.ensures.0) in
     (e, (omega arith, omega arith))

@@ -1,17 +1,15 @@
-use mathlib.Core.Path.{sym, ◌∙◌}
-use native.Mathlib.Omega.{arith}
-use Rattle.boot.proofs.Admission.{admit_number, admission}
-use Rattle.metadata.proofs.Stores.{free_is, free_not_admitted}
+use Rattle.std.proofs.lemmas.Result.{err_from_is_err_and}
+use Rattle.boot.proofs.Admission.{refuses, admits}
+use Rattle.metadata.proofs.Stores.{free_is, free_refused}
 use Rattle.metadata.proofs.free.free_clusters.Goals as goal
 
-pub returns-then-admission-ne0 : goal.returns-then-admission-ne0
-returns-then-admission-ne0 c = sym (free_not_admitted _ _ _ _ (admit_number _ _ _ _ c.admit-admission.ensures) (λ z. omega arith))
+pub returns-in_err-y : goal.returns-in_err-y
+returns-in_err-y c =
+    let p = err_from_is_err_and c.from_residual.result c.from_residual.ensures.1 in
+    rw (p.1, p.2) (free_refused _ _ _ _ (refuses _ _ _ _ c.in_err-y.ensures))
 
 pub free_count-requires : goal.free_count-requires
-free_count-requires c =
-    let i = c.args in
-    let a = admission i.g i.vol.now i.map.now _ c.admit-admission.ensures (omega arith) in
-    (a.laid, a.long)
+free_count-requires c = let a = admits _ _ _ _ c.in_ok-y.ensures in (a.laid, a.long)
 
 pub returns : goal.returns
-returns c = (cc) ∙ sym (free_is _ _ _ _ (admission _ _ _ _ c.admit-admission.ensures (omega arith)))
+returns c = rw c.free_count.ensures (free_is _ _ _ _ (admits _ _ _ _ c.in_ok-y.ensures))

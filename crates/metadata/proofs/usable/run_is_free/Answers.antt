@@ -1,9 +1,9 @@
-use mathlib.Core.Path.{sym, ◌∙◌}
-use Rattle.metadata.proofs.WindowLaws.{window_marked, window_unmarked}
+use mathlib.Core.Path.{refl, sym, ◌∙◌}
+use Rattle.metadata.proofs.WindowLaws.{usable-all}
 use Rattle.metadata.proofs.usable.run_is_free.Goals as goal
 
 pub returns-then-none_marked : goal.returns-then-none_marked
-returns-then-none_marked c = (cc) ∙ sym (window_unmarked _ _ _ _ _ (cc))
+returns-then-none_marked c = c.none_refused.ensures ∙ sym (usable-all _ _ _ _ _ ∙ rw (sym c.none_marked.ensures ∙ c.if-none_marked.true) refl)
 
-pub returns : goal.returns
-returns c = sym (window_marked _ _ _ _ _ (cc))
+pub returns-else-none_marked : goal.returns-else-none_marked
+returns-else-none_marked c = c.if-none_marked.false ∙ sym (usable-all _ _ _ _ _ ∙ rw (sym c.none_marked.ensures ∙ c.if-none_marked.false) refl)

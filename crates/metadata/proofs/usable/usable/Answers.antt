@@ -1,12 +1,9 @@
-use mathlib.Core.Path.{sym}
-use Rattle.metadata.proofs.Stores.{usable-not_free, usable_found, usable_nothing}
+use mathlib.Core.Path.{sym, ◌∙◌}
+use Rattle.metadata.proofs.Stores.{none_is, usable-not_free, usable_bad}
 use Rattle.metadata.proofs.usable.usable.Goals as goal
 
-pub returns-in-At : goal.returns-in-At
-returns-in-At c = sym (usable_found _ _ _ _ _ _ (cc) c.bad_in-bad.ensures c.in-At.is)
+pub returns-then-is_free : goal.returns-then-is_free
+returns-then-is_free c = none_is _ _ c.is_none.ensures ∙ rw c.bad_in.ensures (usable_bad _ _ _ _ (cc))
 
-pub returns-in-Nothing : goal.returns-in-Nothing
-returns-in-Nothing c = sym (usable_nothing _ _ _ _ _ (cc) c.bad_in-bad.ensures c.in-Nothing.is)
-
-pub returns : goal.returns
-returns c = sym (usable-not_free _ _ _ _ (cc))
+pub returns-else-is_free : goal.returns-else-is_free
+returns-else-is_free c = c.if-is_free.false ∙ sym (usable-not_free _ _ _ _ (cc))

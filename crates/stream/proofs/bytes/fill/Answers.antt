@@ -1,73 +1,94 @@
-use Prim.Native.Nat.{ℕ, ◌+◌, ◌-◌, ◌/◌, ◌%◌, ◌≤◌}
+use Prim.Native.Nat.{ℕ, ◌+◌, ◌-◌, ◌*◌, ◌/◌, ◌≤◌, ◌<◌}
 use mathlib.Core.Path.{◌≡◌, sym, ◌∙◌, ap}
-use native.Mathlib.Nat.{mul-le-mul_right, div-lt_iff_lt-mul}
+use native.Mathlib.Nat.{div-lt_iff_lt-mul}
 use native.Mathlib.Omega.{arith}
-use lib.ListN.{replicate}
+use lib.ListN.{length, replicate, length-replicate}
+use Rattle.boot.proofs.Apart.{in_heap_lem}
 use Rattle.metadata.specs.Fat.{fat_entry}
-use Rattle.stream.specs.Internal.{along, reached}
-use Rattle.stream.specs.Bytes.{store_at}
-use Rattle.stream.proofs.BytesSteps.{known_steps, sought, reach_sum, last_from}
-use borrow.Author.Rules.{rules}
+use Rattle.metadata.specs.Cluster.{put_bytes}
+use Rattle.metadata.proofs.Frame.{Fits}
+use Rattle.stream.specs.declared.allocation.Allocation.{Allocation}
+use Rattle.stream.specs.declared.bytes.ByteWalk.{ByteWalk}
+use Rattle.stream.specs.Internal.{byte_walk, piece_length}
+use Rattle.stream.proofs.BytesSteps.{sought, reach_run, run_end}
+use Rattle.stream.proofs.ByteWalkLaws.{zeros_part, length-piece, some_piece, in_first, piece_in, storing_start, storing_turn, storing_end, reaching_start, reaching_turn}
 use Rattle.stream.proofs.bytes.fill.Goals as goal
 
-pub overflow_cast-steps : goal.overflow_cast-steps
-overflow_cast-steps c =
+pub loop-piece-init : goal.loop-piece-init
+loop-piece-init c =
     let p = c.requires in
     let a = c.args in
-    let s = sought _ _ _ _ _ a.at a.n p.0 p.1.0 p.1.1.0 p.1.1.1.0 in
-    search rules
+    let e = c.new-walk.ensures in
+    let q = length-replicate {A = ℕ} a.n 0 in
+    let s = sought _ _ _ _ _ a.at (length (replicate a.n 0)) p.0 p.1.0 p.1.1.0 (omega (arith, p.1.1.1.0, q)) in
+    record {
+      storing = storing_start a.y a.vol.now a.a a.at (replicate a.n 0) _ s p.1.0 (e ∙ ap (byte_walk a.y a.vol.now a.a a.at) (sym q));
+      same_run = ap (λ (x : ByteWalk). x.run) e;
+      reaching = λ r. reaching_start a.y a.vol.now a.a a.at a.n _ _ (omega (arith, p.0.size_low)) p.1.1.1.1.1.1 e;
+    }
 
-pub seek_from-k-requires : goal.seek_from-k-requires
-seek_from-k-requires c =
+pub next-requires : goal.next-requires
+next-requires c =
     let p = c.requires in
-    let a = c.args in
-    let s = sought _ _ _ _ _ a.at a.n p.0 p.1.0 p.1.1.0 p.1.1.1.0 in
-    (p.0, (p.1.0, (s.before, (p.1.1.1.1.1.0.reaches, known_steps _ _ _ _ _ p.1.1.1.1.1.0 (omega (arith, p.0.size_low))))))
+    let i = c.loop-piece.invariant.storing in
+    (p.0, (i.long, λ h. (i.stands.low, (in_heap_lem _ _ (in_first _ _ p.0 i.long _ i.stands h)).1)))
 
-pub overflow_sub-a : goal.overflow_sub-a
-overflow_sub-a c =
+pub put_zeros-requires : goal.put_zeros-requires
+put_zeros-requires c =
     let p = c.requires in
-    let a = c.args in
-    let s = sought _ _ _ _ _ a.at a.n p.0 p.1.0 p.1.1.0 p.1.1.1.0 in
-    s.steps
+    let i = c.loop-piece.invariant.storing in
+    let e = c.in-Some.ensures in
+    let h = in_heap_lem _ _ (in_first _ _ p.0 i.long _ i.stands e.0) in
+    rw e.1.0 (p.0, (i.long, (h.0, (h.1, omega (arith, piece_in _ _ p.0 i.long _ i.stands e.0)))))
 
-pub fill_from-last-requires : goal.fill_from-last-requires
-fill_from-last-requires c =
-    let p = c.requires in
-    let a = c.args in
-    let s = sought _ _ _ _ _ a.at a.n p.0 p.1.0 p.1.1.0 p.1.1.1.0 in
-    (p.0, (p.1.0, (rw c.seek_from-k.ensures s.heap, (s.place, (s.room, (p.1.1.1.1.0, p.1.1.1.1.1.1))))))
+pub loop-piece-smaller : goal.loop-piece-smaller
+loop-piece-smaller c =
+    let l = c.loop-piece in
+    let e = c.in-Some.ensures in
+    rw e.1.1 (omega (arith, some_piece c.args.y l.vol l.walk l.invariant.storing.stands e.0))
 
-pub overflow_add-result : goal.overflow_add-result
-overflow_add-result c =
+pub loop-piece-preserved : goal.loop-piece-preserved
+loop-piece-preserved c =
     let p = c.requires in
     let a = c.args in
-    let f : a.a.count ≤ 4294967295 = omega arith in
-    omega (arith, p.1.1.1.0, mul-le-mul_right {m = a.a.count} {n = 4294967295} a.y.size f, p.0.size_high)
+    let l = c.loop-piece in
+    let i = l.invariant in
+    let e = c.in-Some.ensures in
+    let z = c.put_zeros in
+    let w : Fits a.y l.vol = record { laid = p.0; apart = p.1.1.1.1.0; long = i.storing.long } in
+    let n = piece_length a.y l.walk in
+    let stored : z.new.vol ≡ put_bytes a.y l.vol l.walk.cluster l.walk.at (replicate n 0) = rw e.1.0 at z.ensures in
+    let q = length-replicate {A = ℕ} a.n 0 in
+    let part = zeros_part n l.walk.from a.n (omega (arith, length-piece a.y l.walk, i.storing.whole)) in
+    record {
+      storing = storing_turn a.y l.vol w l.walk (replicate a.n 0) _ i.storing e.0 z.new.vol c.next.new.self z.auto.vol
+          (stored ∙ ap (put_bytes a.y l.vol l.walk.cluster l.walk.at) (sym part)) e.1.1;
+      same_run = ap (λ (x : ByteWalk). x.run) e.1.1 ∙ i.same_run;
+      reaching = λ r. rw e.1.0
+          (reaching_turn a.y l.vol w l.walk i.storing.stands l.last _ (i.same_run ∙ r) (i.reaching r) e.0 z.new.vol (replicate n 0) c.next.new.self
+          (length-replicate {A = ℕ} n 0) stored e.1.1);
+    }
 
-pub overflow_cast-result : goal.overflow_cast-result
-overflow_cast-result c =
-    let p = c.requires in
-    let a = c.args in
-    omega (arith, (div-lt_iff_lt-mul {k = a.y.size} {x = a.at + a.n - 1} {y = a.a.count} (omega (arith, p.0.size_low))).1 (omega (arith, p.1.1.1.0, p.1.1.1.1.1.1)))
+-- the last byte's cluster is one of the stream's
+last_step : (a : Allocation) (s at n : ℕ) → 1 ≤ s → 1 ≤ n → at + n ≤ a.count * s → (at + n - 1) / s < a.count
+last_step a s at n low some h = (div-lt_iff_lt-mul {k = s} {x = at + n - 1} {y = a.count} (omega arith)).1 (omega arith)
 
-pub returns : goal.returns
-returns c =
+pub overflow_add-last : goal.overflow_add-last
+overflow_add-last c =
     let p = c.requires in
     let a = c.args in
-    let s = sought _ _ _ _ _ a.at a.n p.0 p.1.0 p.1.1.0 p.1.1.1.0 in
-    let e = c.fill_from-last.ensures in
-    let k = c.seek_from-k in
-    let f = fat_entry a.y a.vol.now in
-    let run = a.a.no_fat_chain in
-    let i = last_from a.y.size a.at a.n (omega (arith, p.0.size_low)) p.1.1.1.1.1.1 in
-    let z : (a.at + a.n - 1) / a.y.size - a.at / a.y.size ≡ (a.at % a.y.size + a.n - 1) / a.y.size = omega (arith, i) in
-    let q : c.fill_from-last.result ≡ reached f run a.a.first ((a.at + a.n - 1) / a.y.size) =
-    e.1 ∙ ap (λ (x : ℕ). reached f run x ((a.at % a.y.size + a.n - 1) / a.y.size)) k.ensures
-    ∙ ap (reached f run (reached f run a.a.first (a.at / a.y.size))) (sym z)
-    ∙ reach_sum f run (a.at / a.y.size) a.a.first ((a.at + a.n - 1) / a.y.size) (omega (arith, i)) in (
-      e.0
-          ∙ ap (λ (x : ℕ). store_at a.y a.vol.now (along f run x (a.a.count - a.at / a.y.size)) (a.at % a.y.size) (replicate a.n 0)) k.ensures
-          ∙ s.stores _,
-      ap (λ (x : ℕ). record { cluster = x; steps = (a.at + a.n - 1) / a.y.size }) q,
-    )
+    let t = last_step a.a a.y.size a.at a.n (omega (arith, p.0.size_low)) p.1.1.1.1.1.1 p.1.1.1.0 in
+    let b = run_end _ _ _ _ _ c.if-a.true p.1.1.0 (omega arith) in
+    omega (arith, p.0.count_high)
+
+pub returns-then-a : goal.returns-then-a
+returns-then-a c =
+    let i = c.loop-piece.invariant.storing in
+    let e = reach_run (fat_entry c.args.y c.args.vol.now) c.args.a.no_fat_chain c.args.a.first ((c.args.at + c.args.n - 1) / c.args.y.size) c.if-a.true in
+    (storing_end _ _ _ _ _ i c.in_default.ensures.0, cc)
+
+pub returns-else-a : goal.returns-else-a
+returns-else-a c =
+    let i = c.loop-piece.invariant in
+    let e = (i.reaching c.if-a.false).there c.in_default.ensures.0 in
+    (storing_end _ _ _ _ _ i.storing c.in_default.ensures.0, cc)

@@ -8,8 +8,8 @@ use Rattle.stream.specs.Internal.{along}
 use Rattle.stream.specs.Pieces.{following}
 use Rattle.stream.proofs.pieces.following.Given as goal
 
-abbrev pub invariant-loop-left : goal.invariant-loop-left
-invariant-loop-left l = (l.left ≤ l.n) × ((every (in_heap l.y.count) (along (fat_entry l.y l.vol) false l.last (l.left + 1)) ≡ true) × (l.n - l.left + following l.last (along (fat_entry l.y l.vol) false (fat_entry l.y l.vol l.last) l.left) ≡ following l.k (along (fat_entry l.y l.vol) false (fat_entry l.y l.vol l.k) l.n)))
+abbrev pub invariant-loop-done : goal.invariant-loop-done
+invariant-loop-done l = (l.done ≤ l.n) × ((every (in_heap l.y.count) (along (fat_entry l.y l.vol) false (l.k + l.done) (l.n - l.done + 1)) ≡ true) × (l.done + following (l.k + l.done) (along (fat_entry l.y l.vol) false (fat_entry l.y l.vol (l.k + l.done)) (l.n - l.done)) ≡ following l.k (along (fat_entry l.y l.vol) false (fat_entry l.y l.vol l.k) l.n)))
 
-abbrev pub decreases-loop-left : goal.decreases-loop-left
-decreases-loop-left l = l.left
+abbrev pub decreases-loop-done : goal.decreases-loop-done
+decreases-loop-done l = l.n - l.done

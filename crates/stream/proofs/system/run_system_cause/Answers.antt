@@ -7,5 +7,5 @@ use Rattle.stream.proofs.system.run_system_cause.Goals as goal
 pub returns-then-none_set : goal.returns-then-none_set
 returns-then-none_set c = sym (run-system _ _ _ true (omega arith) (cc))
 
-pub returns : goal.returns
-returns c = sym (run-system _ _ _ false (omega arith) (cc))
+pub returns-else-none_set : goal.returns-else-none_set
+returns-else-none_set c = sym (run-system _ _ _ false (omega arith) (cc))

@@ -1,11 +1,12 @@
 use mathlib.Core.Bool.{Bool}
-use mathlib.Core.Path.{refl, sym, ◌∙◌, ap}
+use mathlib.Core.Path.{◌≡◌, sym, ◌∙◌, ap}
+use Prim.Native.Nat.{◌+◌, ◌-◌}
 use native.Mathlib.Omega.{arith}
 use borrow.Author.Rules.{rules}
 use Rattle.boot.proofs.Apart.{in_heap_lem}
 use Rattle.metadata.specs.Fat.{fat_entry}
 use Rattle.stream.specs.Internal.{along}
-use Rattle.stream.proofs.StreamLaws.{along_head, along_rest, consec-along}
+use Rattle.stream.proofs.StreamLaws.{after-chain, along_head, along_rest, consec-along}
 use Rattle.stream.proofs.BytesSteps.{run_end}
 use Rattle.stream.specs.Stream.{system_cause}
 use Rattle.stream.proofs.SystemLaws.{system-none, system_hit, system-step}
@@ -26,26 +27,26 @@ returns-then-run c =
     c.run_system_cause.ensures
     ∙ ap (system_cause a.map.now) (consec-along f a.first a.n ∙ ap (λ (b : Bool). along f b a.first a.n) (sym c.if-run.true))
 
-pub loop-left-init : goal.loop-left-init
-loop-left-init c = (c.requires.1.1.1.0, refl)
-
 pub in_map-requires : goal.in_map-requires
 in_map-requires c =
-    let h = in_heap_lem _ _ (along_head _ _ _ _ _ (omega arith) c.loop-left.invariant.0) in
+    let h = in_heap_lem _ _ (along_head _ _ _ _ _ (omega arith) c.loop.invariant.0) in
     (omega arith, omega arith)
 
 pub returns-then-in_map : goal.returns-then-in_map
-returns-then-in_map c = sym (system_hit _ _ _ _ _ (omega arith) (cc)) ∙ c.loop-left.invariant.1
+returns-then-in_map c = sym (system_hit _ _ _ _ _ (omega arith) (cc)) ∙ c.loop.invariant.1
 
-pub next_cluster-k-requires : goal.next_cluster-k-requires
-next_cluster-k-requires c =
-    let h = in_heap_lem _ _ (along_head _ _ _ _ _ (omega arith) c.loop-left.invariant.0) in
+pub fat_entry-k-requires : goal.fat_entry-k-requires
+fat_entry-k-requires c =
+    let h = in_heap_lem _ _ (along_head _ _ _ _ _ (omega arith) c.loop.invariant.0) in
     search rules
 
-pub loop-left-preserved : goal.loop-left-preserved
-loop-left-preserved c =
-    let i = c.loop-left.invariant in
-    (rw c.next_cluster-k.ensures (along_rest _ _ _ _ _ (omega arith) i.0), (cc) ∙ (sym (system-step _ _ _ _ _ (omega arith) (cc)) ∙ i.1))
+pub loop-preserved : goal.loop-preserved
+loop-preserved c =
+    let a = c.args in
+    let l = c.loop in
+    let e = c.fat_entry-k.ensures ∙ sym (after-chain (fat_entry a.y a.vol.now) a.run l.k c.if-run.false) in
+    let z : a.n - (l.counter + 1) ≡ a.n - l.counter - 1 = omega arith in
+    rw (e, z) (along_rest _ _ _ _ _ (omega arith) l.invariant.0, sym (system-step _ _ _ _ _ (omega arith) (cc)) ∙ l.invariant.1)
 
 pub returns : goal.returns
-returns c = sym (system-none _ _ _ _ _ (omega arith)) ∙ c.loop-left.invariant.1
+returns c = sym (system-none _ _ _ _ _ (omega arith)) ∙ c.loop.invariant.1

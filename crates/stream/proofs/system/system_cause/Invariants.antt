@@ -1,3 +1,4 @@
+use Prim.Native.Nat.{◌-◌}
 use mathlib.Core.Bool.{true}
 use mathlib.Core.Path.{◌≡◌}
 use Rattle.tables.specs.Lists.{every}
@@ -7,8 +8,5 @@ use Rattle.stream.specs.Internal.{along}
 use Rattle.stream.specs.Stream.{system_cause}
 use Rattle.stream.proofs.system.system_cause.Given as goal
 
-abbrev pub invariant-loop-left : goal.invariant-loop-left
-invariant-loop-left l = (every (in_heap l.y.count) (along (fat_entry l.y l.vol) l.run l.k l.left) ≡ true) × (system_cause l.map (along (fat_entry l.y l.vol) l.run l.k l.left) ≡ system_cause l.map (along (fat_entry l.y l.vol) l.run l.first l.n))
-
-abbrev pub decreases-loop-left : goal.decreases-loop-left
-decreases-loop-left l = l.left
+abbrev pub invariant-loop : goal.invariant-loop
+invariant-loop l = (every (in_heap l.y.count) (along (fat_entry l.y l.vol) l.fn.run l.k (l.n - l.counter)) ≡ true) × (system_cause l.map (along (fat_entry l.y l.vol) l.fn.run l.k (l.n - l.counter)) ≡ system_cause l.map (along (fat_entry l.y l.vol) l.fn.run l.first l.n))

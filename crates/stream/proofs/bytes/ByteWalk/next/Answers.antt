@@ -1,0 +1,17 @@
+use mathlib.Core.Path.{◌≡◌, sym, ◌∙◌}
+use native.Mathlib.Omega.{arith}
+use Rattle.stream.specs.Internal.{piece_length}
+use Rattle.stream.proofs.ByteWalkLaws.{length-run, length-chain}
+use Rattle.stream.proofs.bytes.ByteWalk.next.Goals.{then-self-2, else-self-2}
+use Rattle.stream.proofs.bytes.ByteWalk.next.Goals as goal
+
+pub returns : goal.returns
+returns c =
+    let a = c.args in
+    let s = a.self.now in
+    let e : c.if-self-2.len ≡ piece_length a.y s =
+    elim c.if-self-2.branch [
+      | then-self-2 w ↦ w.len-is ∙ sym (length-run a.y s (cc))
+      | else-self-2 w ↦ omega (arith, length-chain a.y s (cc))
+    ] in
+    (omega arith, (cc, cc))

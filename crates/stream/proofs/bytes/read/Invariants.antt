@@ -1,0 +1,14 @@
+use Prim.Native.Nat.{◌-◌}
+use lib.ListN.{take, drop}
+use Rattle.primitives.specs.Splice.{splice}
+use Rattle.metadata.specs.Fat.{fat_entry}
+use Rattle.stream.specs.Internal.{along}
+use Rattle.stream.specs.Bytes.{bytes_of}
+use Rattle.stream.proofs.ByteWalkLaws.{Reading}
+use Rattle.stream.proofs.bytes.read.Given as goal
+
+abbrev pub invariant-loop-piece : goal.invariant-loop-piece
+invariant-loop-piece l = Reading l.y l.vol l.dst l.walk (splice l.initial.dst 0 (take l.n (drop l.at (bytes_of l.y l.vol (along (fat_entry l.y l.vol) l.fn.a.no_fat_chain l.fn.a.first l.fn.a.count)))))
+
+abbrev pub decreases-loop-piece : goal.decreases-loop-piece
+decreases-loop-piece l = l.walk.end - l.walk.from
