@@ -8,7 +8,7 @@ use native.Mathlib.Decide.{dec_lt}
 use native.Mathlib.Omega.{arith}
 use Rattle.tables.specs.Lists.{consec}
 use Rattle.tables.proofs.Cases.{clash, bool_ext}
-use Rattle.search.specs.declared.found.Found.TheVariants.{Nothing}
+use Rattle.std.specs.Prelude.{None}
 use Rattle.choice.specs.declared.choice.Choice.{Choice}
 use Rattle.choice.specs.declared.choice.Choice.TheVariants.{Run, Scattered, TooFew}
 use Rattle.search.specs.Search.{run_from}
@@ -31,7 +31,7 @@ module _ (u : ℕ → Bool) (C n : ℕ) where
   same_lowest s j k v w = omega (arith, v.lowest k w.after w.stands, w.lowest j v.after v.stands)
 
   -- a search that finds nothing
-  none_from : (s : ℕ) → run_from u (C + 2) n s ≡ Nothing → (k : ℕ) → s ≤ k → RunAt u C n k → ⊥
+  none_from : (s : ℕ) → run_from u (C + 2) n s ≡ None → (k : ℕ) → s ≤ k → RunAt u C n k → ⊥
   none_from s e k l r = run_nothing u (C + 2) n s e k l r.high r.usable
 
   module _ (start : ℕ) (low : 2 ≤ start) where

@@ -13,6 +13,7 @@ use Rattle.tables.specs.Lists.{here, there, last_or}
 use Rattle.tables.specs.Count.{count}
 use Rattle.tables.proofs.Cases.{or-true, and_left, and_right}
 use Rattle.tables.proofs.ListLaws.{mem_take, last_of}
+use Rattle.std.specs.Prelude.{Option, Some, None, is_some, unwrap_or}
 use Rattle.boot.specs.declared.layout.Layout.{Layout}
 use Rattle.boot.specs.Internal.{Laid, Apart}
 use Rattle.boot.specs.Layout.{in_heap}
@@ -31,9 +32,8 @@ use Rattle.choice.specs.Choice.{choose, around}
 use Rattle.choice.specs.Internal.{first_usable}
 use Rattle.write_alloc.specs.Take.{take_each}
 use Rattle.write_alloc.specs.Internal.{prev_taken, prev_ok, taken_from, taken_of}
-use Rattle.write_alloc.specs.declared.answer.Answer.{Answer}
 use Rattle.choice.specs.declared.choice.Choice.TheVariants.{Run, Scattered, TooFew}
-use Rattle.write_alloc.specs.Outcome.{Outcome, unchanged}
+use Rattle.write_alloc.specs.Outcome.{Answer, Outcome, unchanged}
 use Rattle.stream.specs.Stream.{empty}
 use Rattle.write_alloc.specs.Allocate.{near_cause, allocate_cause, new_run, new_chain, new_stream, allocate_in, allocate_clusters}
 use Rattle.choice.proofs.ChoiceLaws.{length-around, in_around, chosen_scattered, count_few}
@@ -176,6 +176,16 @@ near_two C given near e = by given (in_heap C near) e
     by true true q = absurd (false≢true (sym q))
     by true false q = refl
     by false b q = absurd (false≢true (sym q))
+
+-- a near cluster that is given, or the hint, is where the search starts
+pub start_is : (near : Option ℕ) (hint : ℕ) → cond (is_some near) (unwrap_or near 0) hint ≡ unwrap_or near hint
+start_is None hint = refl
+start_is (Some k) hint = refl
+
+pub near_is : (C : ℕ) (near : Option ℕ) (hint : ℕ) → in_heap C hint ≡ true
+    → eqb (near_cause C (is_some near) (unwrap_or near 0)) 0 ≡ in_heap C (unwrap_or near hint)
+near_is C None hint h = near_none C false 0 refl ∙ sym h
+near_is C (Some k) hint h = near_given C true k refl
 
 -- the search starts in the heap
 pub start_heap : (C : ℕ) (given : Bool) (near hint : ℕ) → in_heap C hint ≡ true → eqb (near_cause C given near) 0 ≡ true

@@ -9,7 +9,7 @@ use native.Mathlib.Numerals.{sub-one, add-one}
 use native.Mathlib.Omega.{arith}
 use lib.Dec.{eqb, leb}
 use lib.ListN.{length, take}
-use borrow.Author.Tests.{eq-eqb, ne_eqb, eqb-true, leb-true, lt-leb, le-leb}
+use borrow.Author.Tests.{eq-eqb, ne_eqb, eqb-true, leb-true}
 use Rattle.tables.specs.Count.{keep}
 use Rattle.tables.proofs.Cases.{and_left, and_right}
 use Rattle.tables.proofs.CountLaws.{keep_cong}
@@ -222,14 +222,6 @@ takes_past y d m end k prev left next h e =
     over (suc i) k h f =
         takes_no y d m end k prev left (omega arith) (f k (omega arith) (omega arith))
         ∙ over i (k + 1) (omega arith) (λ j a b. f j (omega arith) (omega arith)) ∙ ap (λ (x : ℕ). takes y d m end x prev left) (omega arith)
-
-pub byte_no : (k left : ℕ) → left < 8 → whole_byte k left ≡ false
-unfolding whole_byte
-byte_no k left h = rw (lt-leb 8 left h) refl
-
-pub byte_is_lem : (k left : ℕ) → 8 ≤ left → whole_byte k left ≡ eqb ((k - 2) % 8) 0
-unfolding whole_byte
-byte_is_lem k left h = rw (le-leb 8 left h) refl
 
 pub byte_yes : (k left : ℕ) → whole_byte k left ≡ true → (8 ≤ left) × ((k - 2) % 8 ≡ 0)
 unfolding whole_byte

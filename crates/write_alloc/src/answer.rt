@@ -1,10 +1,9 @@
-// What allocate, extend and shrink answer.
+// What allocate, extend and shrink give where they are carried out.
 use stream::allocation::Allocation;
 
-// The number, the record and the hint.
+// The record and the new hint.
 #[derive(Clone, Copy)]
-pub struct Answer {
-    pub number: u32,
+pub struct Updated {
     pub allocation: Allocation,
     pub hint: u32,
 }

@@ -8,6 +8,7 @@ ghost use Rattle.write_alloc.specs.Internal.{prev_taken, taken_from, taken_of, w
 use boot::layout::Layout;
 
 // The cluster reached, 0 before the first, and how many are still to be taken.
+// Kept: 0 is no cluster's number, and the definition `take_each` begins at it likewise.
 #[derive(Clone, Copy)]
 pub struct Taken {
     pub prev: u32,
@@ -19,10 +20,7 @@ fn whole_byte(k: u32, left: u32) -> bool
     requires { 2 ≤ k }
     ensures { result ≡ whole_byte k left }
 {
-    if left < 8 {
-        return false;
-    }
-    (k - 2) % 8 == 0
+    8 <= left && (k - 2) % 8 == 0
 }
 
 // Marks the n clusters from first: eight at once where they are one byte of the bitmap.
@@ -30,17 +28,15 @@ pub fn mark_run(vol: &mut [u8], y: Layout, first: u32, n: u32)
     requires { Laid y × ((length vol.old ≡ y.len) × ((2 ≤ first) × ((first + n ≤ y.count + 2) × Apart y))) }
     ensures { vol.new ≡ mark_run y vol.old first n }
 {
+    let end = first + n;
     let mut k = first;
-    let mut left = n;
-    while 0 < left {
-        if whole_byte(k, left) {
+    while k < end {
+        if whole_byte(k, end - k) {
             metadata::bitmap::mark_byte(vol, y, k);
             k += 8;
-            left -= 8;
         } else {
             metadata::bitmap::mark(vol, y, k, true);
             k += 1;
-            left -= 1;
         }
     }
 }
@@ -50,12 +46,8 @@ pub fn link_run(vol: &mut [u8], y: Layout, first: u32, n: u32)
     requires { Laid y × ((length vol.old ≡ y.len) × (first + n ≤ y.count + 2)) }
     ensures { vol.new ≡ link_run y vol.old first n }
 {
-    let mut k = first;
-    let mut left = n;
-    while 0 < left {
+    for k in first..first + n {
         metadata::fat::set_fat(vol, y, k, k + 1);
-        k += 1;
-        left -= 1;
     }
 }
 
@@ -82,30 +74,19 @@ pub fn take_usable(
     requires { Laid y × ((length vol.old ≡ y.len) × ((y.count ≤ 8 * length map.now) × ((2 ≤ from) × ((end ≤ y.count + 2) × ((start.prev < y.count + 2) × ((prev_taken y vol.old start.prev ≡ true) × Apart y)))))) }
     ensures { let ks = taken_from y vol.old map.now from end start.left in (vol.new ≡ take_each y vol.old start.prev ks) × (result ≡ taken_of start ks) }
 {
+    let mut taken = start;
     let mut k = from;
-    let mut prev = start.prev;
-    let mut left = start.left;
-    while k < end {
-        if left == 0 {
-            return Taken {
-                prev: prev,
-                left: left,
-            };
-        }
+    while k < end && taken.left != 0 {
         let next = metadata::usable::next_usable(vol, map, y, k, end - k);
         if next == end {
-            return Taken {
-                prev: prev,
-                left: left,
-            };
+            break;
         }
-        take_one(vol, y, prev, next);
-        prev = next;
-        left -= 1;
+        take_one(vol, y, taken.prev, next);
+        taken = Taken {
+            prev: next,
+            left: taken.left - 1,
+        };
         k = next + 1;
     }
-    Taken {
-        prev: prev,
-        left: left,
-    }
+    taken
 }

@@ -1,16 +1,19 @@
 -- What extend answers and leaves. Assumes nothing.
+use mathlib.Core.Path.{ap₂}
+use Rattle.std.specs.Prelude.{Result, Ok, Err}
 use Rattle.std.proofs.Common.{◌≡◌, ℕ, zero, suc, ◌+◌, ◌-◌, ◌<◌, ◌≤◌, Bool, true, false, ◌&&◌, eqb, leb, ◌≢◌, List, length, take, sym, refl, ap, ◌∙◌, subst, arith, eq-eqb, ne_eqb, eqb-true, le-leb, leb-true}
 use native.Mathlib.Decide.{dec_lt}
-use borrow.Author.Tests.{eqb-false, lt-leb}
+use borrow.Author.Tests.{eqb-false}
 use Rattle.tables.specs.Count.{count}
 use Rattle.tables.specs.Lists.{Mem, last_or, consec}
 use Rattle.tables.proofs.ListLaws.{every_mem, consec_in, last_of}
+use Rattle.boot.specs.declared.cause.Cause.{Cause}
 use Rattle.boot.specs.declared.geometry.Geometry.{Geometry}
 use Rattle.boot.specs.declared.layout.Layout.{Layout}
 use Rattle.boot.specs.Internal.{Laid, Apart}
 use Rattle.boot.specs.Layout.{in_heap}
 use Rattle.boot.specs.Causes.{first_cause, admit_cause, wrap}
-use Rattle.boot.proofs.CauseLaws.{heap_met, heap_kept}
+use Rattle.boot.proofs.CauseLaws.{cause-not0, heap_met, heap_kept}
 use Rattle.boot.proofs.Admission.{Admits}
 use Rattle.boot.proofs.Apart.{in_heap_lem, heap_in}
 use Rattle.tables.proofs.Cases.{and_left, and_right}
@@ -19,7 +22,7 @@ use Rattle.metadata.specs.Fat.{END, fat_entry, set_fat}
 use Rattle.metadata.specs.Marks.{marked, free_count}
 use Rattle.metadata.specs.Usable.{is_usable}
 use Rattle.stream.specs.declared.allocation.Allocation.{Allocation}
-use Rattle.stream.specs.Stream.{number_of, stream_of, clusters_of}
+use Rattle.stream.specs.Stream.{number_of, stream_of, clusters_of, empty}
 use Rattle.stream.specs.Internal.{along}
 use Rattle.stream.proofs.StreamLaws.{length-along, consec-along, last_consec}
 use Rattle.stream.proofs.ListingLaws.{stream_read}
@@ -29,13 +32,14 @@ use Rattle.choice.specs.declared.choice.Choice.{Choice}
 use Rattle.choice.specs.declared.choice.Choice.TheVariants.{Run, Scattered, TooFew}
 use Rattle.search.specs.Search.{all_from}
 use Rattle.choice.specs.Choice.{choose, around, begin_of, chosen}
+use Rattle.write_alloc.specs.declared.answer.Updated.{Updated}
 use Rattle.write_alloc.specs.Take.{link_run, take_each}
 use Rattle.write_alloc.specs.Internal.{prev_ok}
-use Rattle.write_alloc.specs.Outcome.{Outcome, unchanged}
+use Rattle.write_alloc.specs.Outcome.{Answer, Outcome, answer_of, unchanged}
 use Rattle.write_alloc.specs.Allocate.{allocate_in}
 use Rattle.write_extend.specs.Extend.{more_cause, in_place, link_old, longer_run, longer_chain, longer, or_given, extend_in, extend_clusters}
 use Rattle.write_extend.specs.Internal.{Allowed}
-use Rattle.write_alloc.proofs.AllocateLaws.{space_met, space_kept, wrap_low, wrap_high, prev_heap, Shown}
+use Rattle.write_alloc.proofs.AllocateLaws.{space_met, space_kept, wrap_low, wrap_high, prev_heap, Shown, shown_as}
 use Rattle.choice.proofs.ChoiceLaws.{few_count, choose_inside, around_cong, length-chosen}
 use Rattle.write_alloc.proofs.TakeLaws.{length-link_run}
 
@@ -113,14 +117,6 @@ module _ (y : Layout) (d m : List ℕ) (a : Allocation) (n : ℕ) where
   pub place_usable : a.no_fat_chain ≡ true → a.last + 1 + n ≤ y.count + 2 → in_place y d m a n ≡ all_from (is_usable y d m) (a.last + 1) n
   unfolding in_place
   place_usable e h = rw (e, le-leb (a.last + 1 + n) (y.count + 2) h) refl
-
-  pub place_past : a.no_fat_chain ≡ true → y.count + 2 < a.last + 1 + n → in_place y d m a n ≡ false
-  unfolding in_place
-  place_past e h = rw (e, lt-leb (a.last + 1 + n) (y.count + 2) h) refl
-
-  pub place_chain : a.no_fat_chain ≡ false → in_place y d m a n ≡ false
-  unfolding in_place
-  place_chain e = rw e refl
 
 pub link-chain : (y : Layout) (d : List ℕ) (a : Allocation) → a.no_fat_chain ≡ false → link_old y d a ≡ d
 unfolding link_old
@@ -305,6 +301,14 @@ given-done a o e = rw (eq-eqb o.answer.number 0 e) refl
 pub given_refused : (a : Allocation) (o : Outcome) → (o.answer.number ≡ 0 → ⊥)
     → or_given a o ≡ unchanged o.answer.number a o.answer.hint o.volume
 given_refused a o n = rw (ne_eqb o.answer.number 0 n) refl
+
+-- where an allocation answers with the empty record, extend answers with the one it was given
+pub given_of : (a : Allocation) (hint : ℕ) (r : Result Updated Cause) (o : Outcome) (e : List ℕ) → (answer_of empty hint r ≡ o.answer) × (e ≡ o.volume)
+    → (answer_of a hint r ≡ (or_given a o).answer) × (e ≡ (or_given a o).volume)
+given_of a hint (Ok r) o e p = shown_as (given-done a o (sym (ap (λ (x : Answer). x.number) p.0))) p
+given_of a hint (Err c) o e p =
+    let q = given_refused a o (λ z. cause-not0 c (ap (λ (x : Answer). x.number) p.0 ∙ z)) in
+    shown_as q (ap₂ (λ (n h : ℕ). record { number = n; allocation = a; hint = h }) (ap (λ (x : Answer). x.number) p.0) (ap (λ (x : Answer). x.hint) p.0), p.1)
 
 module _ (y : Layout) (d m : List ℕ) (a : Allocation) (n hint : ℕ) where
   pub extend_hint : in_heap y.count hint ≡ false → extend_in y d m a n hint ≡ unchanged 2 a hint d

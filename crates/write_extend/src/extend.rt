@@ -6,38 +6,38 @@ ghost use Rattle.boot.specs.Layout.{in_heap};
 ghost use Rattle.metadata.specs.Usable.{is_usable};
 ghost use Rattle.stream.specs.Stream.{number_of, stream_of};
 ghost use Rattle.choice.specs.Choice.{chosen, begin_of};
-ghost use Rattle.boot.specs.Causes.{wrap};
-ghost use Rattle.write_extend.specs.Extend.{more_cause, in_place, longer_run, link_old, longer_chain, longer, extend_in, extend_clusters, or_given};
+ghost use Rattle.boot.specs.Causes.{number, wrap};
+ghost use Rattle.write_extend.specs.Extend.{more_cause, in_place, longer_run, link_old, longer_chain, longer, extend_in, extend_clusters};
 ghost use Rattle.write_extend.specs.Internal.{Allowed};
-ghost use Rattle.write_alloc.specs.Allocate.{allocate_in};
+ghost use Rattle.write_alloc.specs.Outcome.{success, answer_of};
 
+use boot::cause::Cause;
 use boot::geometry::Geometry;
 use boot::layout::Layout;
 use choice::choice::Choice;
 use stream::allocation::Allocation;
-use write_alloc::answer::Answer;
+use write_alloc::answer::Updated;
 
-// What refuses n more clusters for a record that has some. Fewer usable clusters than n are 7 whatever the free count is: it is asked only
+// Refuses n more clusters for a record that has some. Fewer usable clusters than n are too few whatever the free count is: it is asked only
 // where the record is refused.
-fn more_cause(vol: &[u8], map: &[u8], y: Layout, a: Allocation, n: u32) -> u32
+fn more_cause(vol: &[u8], map: &[u8], y: Layout, a: Allocation, n: u32) -> Result<(), Cause>
     requires { Laid y × ((length vol.now ≡ y.len) × (y.count ≤ 8 * length map.now)) }
-    ensures { result ≡ more_cause y vol.now map.now a n }
+    ensures { number result ≡ more_cause y vol.now map.now a n }
 {
-    if (y.count as u64) < a.count as u64 + n as u64 {
-        return 7;
+    if u64::from(y.count) < u64::from(a.count) + u64::from(n) {
+        return Err(Cause::NoSpace);
     }
-    let number = stream::walk::stream_cause(vol, map, y, a);
-    if number != 0 {
-        if metadata::bitmap::free_count(vol, y) < n {
-            return 7;
-        }
-        return number;
+    match stream::walk::stream_cause(vol, map, y, a) {
+        Ok(()) => {}
+        Err(_) if metadata::bitmap::free_count(vol, y) < n => return Err(Cause::NoSpace),
+        Err(cause) => return Err(cause),
     }
-    let next = std::num::wrapping_add_u32(a.last, 1);
-    if choice::choice::enough(vol, map, y, next, n as u64) {
-        return 0;
+    let next = a.last.wrapping_add(1);
+    if choice::choice::enough(vol, map, y, next, u64::from(n)) {
+        Ok(())
+    } else {
+        Err(Cause::NoSpace)
     }
-    7
 }
 
 // Whether the next n clusters of a run are usable (Rust: `run_is_free`).
@@ -45,34 +45,24 @@ fn in_place(vol: &[u8], map: &[u8], y: Layout, a: Allocation, n: u32) -> bool
     requires { Laid y × ((length vol.now ≡ y.len) × ((y.count ≤ 8 * length map.now) × ((1 ≤ a.last) × ((a.last < y.count + 2) × (n ≤ y.count))))) }
     ensures { result ≡ in_place y vol.now map.now a n }
 {
-    if a.no_fat_chain {
-        let next = a.last + 1;
-        if next + n <= y.count + 2 {
-            return metadata::usable::run_is_free(vol, map, y, next, n);
-        }
-        return false;
-    }
-    false
+    let next = a.last + 1;
+    a.no_fat_chain && next + n <= y.count + 2 && metadata::usable::run_is_free(vol, map, y, next, n)
 }
 
 // A run that keeps its flag.
-fn longer_run(vol: &mut [u8], y: Layout, a: Allocation, n: u32) -> Answer
+fn longer_run(vol: &mut [u8], y: Layout, a: Allocation, n: u32) -> Updated
     requires { Laid y × ((length vol.old ≡ y.len) × ((1 ≤ a.last) × ((a.last + 1 + n ≤ y.count + 2) × ((a.count + n ≤ y.count) × Apart y)))) }
-    ensures { let o = longer_run y vol.old a n in (result ≡ o.answer) × (vol.new ≡ o.volume) }
+    ensures { let o = longer_run y vol.old a n in (success result ≡ o.answer) × (vol.new ≡ o.volume) }
 {
     write_alloc::take::mark_run(vol, y, a.last + 1, n);
-    let b = Allocation {
+    let allocation = Allocation {
         first: a.first,
         last: a.last + n,
         count: a.count + n,
         no_fat_chain: true,
     };
-    let next = write_alloc::allocate::wrap_cluster(y.count, a.last + n + 1);
-    Answer {
-        number: 0,
-        allocation: b,
-        hint: next,
-    }
+    let hint = write_alloc::allocate::wrap_cluster(y.count, a.last + n + 1);
+    Updated { allocation, hint }
 }
 
 // A run's clusters linked in every FAT, the last one as the end. A chain's are linked already.
@@ -91,107 +81,84 @@ fn begin_of(choice: Choice, start: u32) -> u32
     ensures { result ≡ begin_of choice start }
 {
     match choice {
-        Choice::Run(k) => {
-            return k;
-        }
-        Choice::Scattered => {
-            return start;
-        }
-        Choice::TooFew => {
-            return start;
-        }
+        Choice::Run(k) => k,
+        Choice::Scattered | Choice::TooFew => start,
     }
 }
 
 // n more clusters linked on, sought from last + 1.
-fn longer_chain(vol: &mut [u8], map: &[u8], y: Layout, a: Allocation, n: u32) -> Answer
+fn longer_chain(vol: &mut [u8], map: &[u8], y: Layout, a: Allocation, n: u32) -> Updated
     requires { Laid y × ((length vol.old ≡ y.len) × ((y.count ≤ 8 * length map.now) × (Apart y × ((1 ≤ a.count) × ((1 ≤ n) × Allowed y vol.old map.now a n))))) }
-    ensures { let o = longer_chain y vol.old a (chosen (is_usable y vol.old map.now) y.count n (wrap y.count (a.last + 1))) in (result ≡ o.answer) × (vol.new ≡ o.volume) }
+    ensures { let o = longer_chain y vol.old a (chosen (is_usable y vol.old map.now) y.count n (wrap y.count (a.last + 1))) in (success result ≡ o.answer) × (vol.new ≡ o.volume) }
 {
     let start = write_alloc::allocate::wrap_cluster(y.count, a.last + 1);
     let choice = choice::choice::choose_clusters(vol, map, y, start, n);
     let from = begin_of(choice, start);
     link_old(vol, y, a);
     let last = write_alloc::allocate::take_chain(vol, map, y, from, n, a.last);
-    let b = Allocation {
+    let allocation = Allocation {
         first: a.first,
-        last: last,
+        last,
         count: a.count + n,
         no_fat_chain: false,
     };
-    let next = write_alloc::allocate::wrap_cluster(y.count, last + 1);
-    Answer {
-        number: 0,
-        allocation: b,
-        hint: next,
-    }
+    let hint = write_alloc::allocate::wrap_cluster(y.count, last + 1);
+    Updated { allocation, hint }
 }
 
 // n more clusters for a record that has some.
-fn longer_stream(vol: &mut [u8], map: &[u8], y: Layout, a: Allocation, n: u32) -> Answer
+fn longer_stream(vol: &mut [u8], map: &[u8], y: Layout, a: Allocation, n: u32) -> Updated
     requires { Laid y × ((length vol.old ≡ y.len) × ((y.count ≤ 8 * length map.now) × (Apart y × ((1 ≤ a.count) × ((1 ≤ n) × Allowed y vol.old map.now a n))))) }
-    ensures { let o = longer y vol.old map.now a n in (result ≡ o.answer) × (vol.new ≡ o.volume) }
+    ensures { let o = longer y vol.old map.now a n in (success result ≡ o.answer) × (vol.new ≡ o.volume) }
 {
     if in_place(vol, map, y, a, n) {
-        return longer_run(vol, y, a, n);
-    }
-    longer_chain(vol, map, y, a, n)
-}
-
-// A number with record and hint as given.
-fn as_given(number: u32, a: Allocation, hint: u32) -> Answer
-    ensures { result ≡ record { number = number; allocation = a; hint = hint } }
-{
-    Answer {
-        number: number,
-        allocation: a,
-        hint: hint,
+        longer_run(vol, y, a, n)
+    } else {
+        longer_chain(vol, map, y, a, n)
     }
 }
 
-// An empty record is an allocation without near; a refusal keeps the record as given.
-fn extend_empty(vol: &mut [u8], map: &[u8], y: Layout, a: Allocation, n: u32, hint: u32) -> Answer
+// Extend on a volume that keeps the limits. An empty record is an allocation without near.
+fn extend_in(
+    vol: &mut [u8],
+    map: &[u8],
+    y: Layout,
+    a: Allocation,
+    n: u32,
+    hint: u32,
+) -> Result<Updated, Cause>
     requires { Laid y × ((length vol.old ≡ y.len) × ((y.count ≤ 8 * length map.now) × Apart y)) }
-    ensures { let o = or_given a (allocate_in y vol.old map.now n false 0 hint) in (result ≡ o.answer) × (vol.new ≡ o.volume) }
+    ensures { let o = extend_in y vol.old map.now a n hint in (answer_of a hint result ≡ o.answer) × (vol.new ≡ o.volume) }
 {
-    let r = write_alloc::allocate::allocate_in(vol, map, y, n, false, 0, hint);
-    if r.number == 0 {
-        return r;
+    if !boot::layout::in_heap(y.count, hint) {
+        return Err(Cause::OutsideHeap);
     }
-    as_given(r.number, a, r.hint)
-}
-
-// Extend on a volume that keeps the limits.
-fn extend_in(vol: &mut [u8], map: &[u8], y: Layout, a: Allocation, n: u32, hint: u32) -> Answer
-    requires { Laid y × ((length vol.old ≡ y.len) × ((y.count ≤ 8 * length map.now) × Apart y)) }
-    ensures { let o = extend_in y vol.old map.now a n hint in (result ≡ o.answer) × (vol.new ≡ o.volume) }
-{
-    if boot::layout::in_heap(y.count, hint) {
-        if n == 0 {
-            return as_given(0, a, hint);
-        }
-        if a.count == 0 {
-            return extend_empty(vol, map, y, a, n, hint);
-        }
-        let number = more_cause(vol, map, y, a, n);
-        if number == 0 {
-            return longer_stream(vol, map, y, a, n);
-        }
-        return as_given(number, a, hint);
+    if n == 0 {
+        return Ok(Updated {
+            allocation: a,
+            hint,
+        });
     }
-    as_given(2, a, hint)
+    if a.count == 0 {
+        return write_alloc::allocate::allocate_in(vol, map, y, n, None, hint);
+    }
+    more_cause(vol, map, y, a, n)?;
+    Ok(longer_stream(vol, map, y, a, n))
 }
 
 // n more clusters for a stream whose record is known to read, n of them known to be usable: what extend does where nothing refuses.
-pub fn grow_in(vol: &mut [u8], map: &[u8], y: Layout, a: Allocation, n: u32, hint: u32) -> Answer
+pub fn grow_in(vol: &mut [u8], map: &[u8], y: Layout, a: Allocation, n: u32, hint: u32) -> Updated
     requires { Laid y × ((length vol.old ≡ y.len) × ((y.count ≤ 8 * length map.now) × (Apart y × ((in_heap y.count hint ≡ true) × ((number_of (stream_of y vol.old a) ≡ 0) × (n ≤ count (is_usable y vol.old map.now) 2 y.count)))))) }
-    ensures { let o = extend_in y vol.old map.now a n hint in (result ≡ o.answer) × (vol.new ≡ o.volume) }
+    ensures { let o = extend_in y vol.old map.now a n hint in (success result ≡ o.answer) × (vol.new ≡ o.volume) }
 {
     if n == 0 {
-        return as_given(0, a, hint);
+        return Updated {
+            allocation: a,
+            hint,
+        };
     }
     if a.count == 0 {
-        return write_alloc::allocate::new_stream(vol, map, y, n, hint, hint);
+        return write_alloc::allocate::new_stream(vol, map, y, n, hint).unwrap();
     }
     longer_stream(vol, map, y, a, n)
 }
@@ -204,12 +171,9 @@ pub fn extend_clusters(
     a: Allocation,
     n: u32,
     hint: u32,
-) -> Answer
-    ensures { let o = extend_clusters g vol.old map.now a n hint in (result ≡ o.answer) × (vol.new ≡ o.volume) }
+) -> Result<Updated, Cause>
+    ensures { let o = extend_clusters g vol.old map.now a n hint in (answer_of a hint result ≡ o.answer) × (vol.new ≡ o.volume) }
 {
-    let admission = boot::layout::admit(g, vol.len(), map);
-    if admission.number != 0 {
-        return as_given(admission.number, a, hint);
-    }
-    extend_in(vol, map, admission.layout, a, n, hint)
+    let y = boot::layout::admit(g, vol.len(), map)?;
+    extend_in(vol, map, y, a, n, hint)
 }

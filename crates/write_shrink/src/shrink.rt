@@ -6,15 +6,19 @@ ghost use Rattle.boot.specs.Layout.{in_heap};
 ghost use Rattle.metadata.specs.Fat.{fat_entry};
 ghost use Rattle.stream.specs.Stream.{number_of, stream_of, clusters_in, system_cause};
 ghost use Rattle.stream.specs.Internal.{along};
+ghost use Rattle.boot.specs.Causes.{number};
+ghost use Rattle.write_alloc.specs.Outcome.{answer_of};
 ghost use Rattle.write_shrink.specs.Internal.{kept_part, part_record};
 ghost use Rattle.write_shrink.specs.Shrink.{free_all, end_kept, shrink_in, shrink_clusters};
 
+use boot::cause::Cause;
 use boot::geometry::Geometry;
 use boot::layout::Layout;
 use stream::allocation::Allocation;
-use write_alloc::answer::Answer;
+use write_alloc::answer::Updated;
 
 // The kept clusters of a stream: the last one (0: none), whether their numbers rise by one, and the cluster after them.
+// Kept: the record of no clusters holds 0 as its last, so that 0 is handed on as it stands.
 #[derive(Clone, Copy)]
 pub struct Kept {
     pub last: u32,
@@ -34,21 +38,15 @@ pub fn kept_part(vol: &[u8], y: Layout, run: bool, first: u32, n: u32) -> Kept
             next: first,
         };
     }
-    let mut k = first;
-    let mut next = stream::walk::next_cluster(vol, y, run, k);
+    let mut last = first;
+    let mut next = stream::walk::next_cluster(vol, y, run, last);
     let mut rising = true;
-    let mut left = n - 1;
-    while 0 < left {
-        rising = primitives::bits::both(rising, next == k + 1);
-        k = next;
-        next = stream::walk::next_cluster(vol, y, run, k);
-        left -= 1;
+    for _ in 1..n {
+        rising &= next == last + 1;
+        last = next;
+        next = stream::walk::next_cluster(vol, y, run, last);
     }
-    Kept {
-        last: k,
-        rising: rising,
-        next: next,
-    }
+    Kept { last, rising, next }
 }
 
 // Makes the last kept cluster of a chain the end.
@@ -56,13 +54,9 @@ fn end_kept(vol: &mut [u8], y: Layout, a: Allocation, keep: u32, last: u32)
     requires { Laid y × ((length vol.old ≡ y.len) × ((last ≡ last_or 0 (along (fat_entry y vol.old) a.no_fat_chain a.first keep)) × (every (in_heap y.count) (along (fat_entry y vol.old) a.no_fat_chain a.first keep) ≡ true))) }
     ensures { vol.new ≡ end_kept y vol.old a (along (fat_entry y vol.old) a.no_fat_chain a.first keep) }
 {
-    if keep == 0 {
-        return;
+    if keep != 0 && !a.no_fat_chain {
+        metadata::fat::set_fat(vol, y, last, 0xFFFF_FFFF);
     }
-    if a.no_fat_chain {
-        return;
-    }
-    metadata::fat::set_fat(vol, y, last, 0xFFFF_FFFF);
 }
 
 // Frees n clusters of a stream: the next one is read before a cluster's FAT entry becomes 0.
@@ -71,13 +65,11 @@ fn free_from(vol: &mut [u8], y: Layout, run: bool, first: u32, n: u32)
     ensures { vol.new ≡ free_all y vol.old (along (fat_entry y vol.old) run first n) }
 {
     let mut k = first;
-    let mut left = n;
-    while 0 < left {
+    for _ in 0..n {
         let next = stream::walk::next_cluster(vol, y, run, k);
         metadata::fat::set_fat(vol, y, k, 0);
         metadata::bitmap::mark(vol, y, k, false);
         k = next;
-        left -= 1;
     }
 }
 
@@ -98,25 +90,34 @@ pub fn kept_record(first: u32, keep: u32, part: Kept) -> Allocation
         return stream::allocation::empty_record();
     }
     Allocation {
-        first: first,
+        first,
         last: part.last,
         count: keep,
         no_fat_chain: part.rising,
     }
 }
 
-// What refuses to free n clusters of a stream: a system cluster among them, which a walk may have seen that there is not.
-fn freed_cause(vol: &[u8], map: &[u8], y: Layout, run: bool, first: u32, n: u32, clear: bool) -> u32
+// Refuses to free n clusters of a stream by a system cluster among them, which a walk may have seen that there is not.
+fn freed_cause(
+    vol: &[u8],
+    map: &[u8],
+    y: Layout,
+    run: bool,
+    first: u32,
+    n: u32,
+    clear: bool,
+) -> Result<(), Cause>
     requires { Laid y × ((length vol.now ≡ y.len) × ((y.count ≤ 8 * length map.now) × ((every (in_heap y.count) (along (fat_entry y vol.now) run first n) ≡ true) × ((1 ≤ n) × (clear ≡ true → system_cause map.now (along (fat_entry y vol.now) run first n) ≡ 0))))) }
-    ensures { result ≡ system_cause map.now (along (fat_entry y vol.now) run first n) }
+    ensures { number result ≡ system_cause map.now (along (fat_entry y vol.now) run first n) }
 {
     if clear {
-        return 0;
+        Ok(())
+    } else {
+        stream::system::system_cause(vol, map, y, run, first, n)
     }
-    stream::system::system_cause(vol, map, y, run, first, n)
 }
 
-// Shrinks a record that is not refused: 9, or the cut.
+// Shrinks a record that is not refused: by the freed clusters, else the cut.
 fn shrink_read(
     vol: &mut [u8],
     map: &[u8],
@@ -125,63 +126,41 @@ fn shrink_read(
     keep: u32,
     clear: bool,
     hint: u32,
-) -> Answer
+) -> Result<Updated, Cause>
     requires { Laid y × ((length vol.old ≡ y.len) × ((y.count ≤ 8 * length map.now) × (Apart y × ((keep < a.count) × ((in_heap y.count hint ≡ true) × ((number_of (stream_of y vol.old a) ≡ 0) × (clear ≡ true → system_cause map.now (clusters_in y vol.old a) ≡ 0))))))) }
-    ensures { let o = shrink_in y vol.old map.now a keep hint in (result ≡ o.answer) × (vol.new ≡ o.volume) }
+    ensures { let o = shrink_in y vol.old map.now a keep hint in (answer_of a hint result ≡ o.answer) × (vol.new ≡ o.volume) }
 {
-    let part = kept_part(vol, y, a.no_fat_chain, a.first, keep);
-    let number = freed_cause(
-        vol,
-        map,
-        y,
-        a.no_fat_chain,
-        part.next,
-        a.count - keep,
-        clear,
-    );
-    if number != 0 {
-        return Answer {
-            number: number,
-            allocation: a,
-            hint: hint,
-        };
-    }
+    let run = a.no_fat_chain;
+    let part = kept_part(vol, y, run, a.first, keep);
+    freed_cause(vol, map, y, run, part.next, a.count - keep, clear)?;
     cut_in(vol, y, a, keep, part);
-    Answer {
-        number: 0,
-        allocation: kept_record(a.first, keep, part),
-        hint: hint,
-    }
+    let allocation = kept_record(a.first, keep, part);
+    Ok(Updated { allocation, hint })
 }
 
 // The same once the limits are known to hold.
-fn shrink_in(vol: &mut [u8], map: &[u8], y: Layout, a: Allocation, keep: u32, hint: u32) -> Answer
+fn shrink_in(
+    vol: &mut [u8],
+    map: &[u8],
+    y: Layout,
+    a: Allocation,
+    keep: u32,
+    hint: u32,
+) -> Result<Updated, Cause>
     requires { Laid y × ((length vol.old ≡ y.len) × ((y.count ≤ 8 * length map.now) × Apart y)) }
-    ensures { let o = shrink_in y vol.old map.now a keep hint in (result ≡ o.answer) × (vol.new ≡ o.volume) }
+    ensures { let o = shrink_in y vol.old map.now a keep hint in (answer_of a hint result ≡ o.answer) × (vol.new ≡ o.volume) }
 {
-    if boot::layout::in_heap(y.count, hint) {
-        if a.count <= keep {
-            return Answer {
-                number: 0,
-                allocation: a,
-                hint: hint,
-            };
-        }
-        let t = stream::walk::stream_test(vol, map, y, a);
-        if t.number != 0 {
-            return Answer {
-                number: t.number,
-                allocation: a,
-                hint: hint,
-            };
-        }
-        return shrink_read(vol, map, y, a, keep, t.clear, hint);
+    if !boot::layout::in_heap(y.count, hint) {
+        return Err(Cause::OutsideHeap);
     }
-    Answer {
-        number: 2,
-        allocation: a,
-        hint: hint,
+    if a.count <= keep {
+        return Ok(Updated {
+            allocation: a,
+            hint,
+        });
     }
+    let clear = stream::walk::stream_test(vol, map, y, a)?;
+    shrink_read(vol, map, y, a, keep, clear, hint)
 }
 
 // Shrinks a record to its first `keep` clusters (Rust: `shrink_clusters`).
@@ -192,16 +171,9 @@ pub fn shrink_clusters(
     a: Allocation,
     keep: u32,
     hint: u32,
-) -> Answer
-    ensures { let o = shrink_clusters g vol.old map.now a keep hint in (result ≡ o.answer) × (vol.new ≡ o.volume) }
+) -> Result<Updated, Cause>
+    ensures { let o = shrink_clusters g vol.old map.now a keep hint in (answer_of a hint result ≡ o.answer) × (vol.new ≡ o.volume) }
 {
-    let admission = boot::layout::admit(g, vol.len(), map);
-    if admission.number != 0 {
-        return Answer {
-            number: admission.number,
-            allocation: a,
-            hint: hint,
-        };
-    }
-    shrink_in(vol, map, admission.layout, a, keep, hint)
+    let y = boot::layout::admit(g, vol.len(), map)?;
+    shrink_in(vol, map, y, a, keep, hint)
 }

@@ -11,4 +11,4 @@ returns c =
     let p = c.requires in
     let z = p.1.1.1.1.1.1 in
     let t = c.take_chain-last in
-    chain_is _ _ _ _ _ p.1.1.1.0 p.1.1.1.1.0 z.0 z.1 _ _ _ _ c.first_usable-first.ensures t.ensures.1.0 c.wrap_cluster-next.ensures t.ensures.0
+    chain_is _ _ _ _ _ p.1.1.1.0 p.1.1.1.1.0 z.0 z.1 _ _ _ _ c.first_usable-first.ensures t.ensures.1.0 c.wrap_cluster-hint.ensures t.ensures.0

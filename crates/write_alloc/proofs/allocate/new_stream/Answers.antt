@@ -4,7 +4,7 @@ use native.Mathlib.Omega.{arith}
 use Rattle.metadata.specs.Usable.{is_usable}
 use Rattle.choice.specs.declared.choice.Choice.TheVariants.{Run, Scattered}
 use Rattle.choice.specs.Choice.{choose}
-use Rattle.choice.proofs.ChoiceLaws.{choose_inside, enough_count}
+use Rattle.choice.proofs.ChoiceLaws.{choose_inside, enough_count, few_count}
 use Rattle.write_alloc.proofs.AllocateLaws.{stream_run, stream_chain, stream_few, shown_as}
 use Rattle.write_alloc.proofs.allocate.new_stream.Goals as goal
 
@@ -18,9 +18,7 @@ new_run-requires c =
     (p.0, (p.1.0, (i.0, (i.1, p.1.1.1.1.1))))
 
 pub returns-in-Run : goal.returns-in-Run
-returns-in-Run c =
-    let k = c.in-Run.k in
-    shown_as (stream_run _ _ _ _ _ _ k (cc)) c.new_run.ensures
+returns-in-Run c = (λ hint. shown_as (stream_run _ _ _ _ _ hint c.in-Run.k (cc)) c.new_run.ensures, λ h. refl)
 
 pub new_chain-requires : goal.new_chain-requires
 new_chain-requires c =
@@ -31,7 +29,9 @@ new_chain-requires c =
     (p.0, (p.1.0, (p.1.1.0, (p.1.1.1.0, (p.1.1.1.1.0, (p.1.1.1.1.1.0, (p.1.1.1.1.1.1, i)))))))
 
 pub returns-in-Scattered : goal.returns-in-Scattered
-returns-in-Scattered c = shown_as (stream_chain _ _ _ _ _ _ (omega arith) (cc)) c.new_chain.ensures
+returns-in-Scattered c = (λ hint. shown_as (stream_chain _ _ _ _ _ hint (omega arith) (cc)) c.new_chain.ensures, λ h. refl)
 
 pub returns-in-TooFew : goal.returns-in-TooFew
-returns-in-TooFew c = shown_as (stream_few _ _ _ _ _ _ (cc)) (c.no_stream.ensures, refl)
+returns-in-TooFew c =
+    let a = c.args in
+    (λ hint. shown_as (stream_few _ _ _ _ _ hint (cc)) (refl, refl), λ h. let few = few_count (is_usable a.y a.vol.now a.map.now) a.y.count a.n a.start (cc) in absurd (omega arith))

@@ -8,8 +8,8 @@ take_usable-after-requires c =
     let f = prev_facts _ _ _ p.1.1.1.1.1.0 in
     (p.0, (p.1.0, (p.1.1.0, (omega arith, (omega arith, (f.small, (f.taken, p.1.1.1.1.1.1)))))))
 
-pub take_usable-done-requires : goal.take_usable-done-requires
-take_usable-done-requires c =
+pub take_usable-requires : goal.take_usable-requires
+take_usable-requires c =
     let a = c.args in
     let p = c.requires in
     let r = c.take_usable-after in
@@ -22,6 +22,6 @@ returns c =
     let a = c.args in
     let p = c.requires in
     let r = c.take_usable-after in
-    let s = c.take_usable-done in
+    let s = c.take_usable in
     let z = p.1.1.1.1.1 in
     then_done a.y a.vol.now a.map.now a.start a.n a.prev p.0 z.1 p.1.0 p.1.1.1.0 p.1.1.1.1.0 z.0 _ _ r.ensures.0 r.ensures.1 _ _ s.ensures.0 s.ensures.1

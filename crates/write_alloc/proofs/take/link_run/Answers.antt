@@ -1,13 +1,15 @@
-use mathlib.Core.Path.{refl, sym, ◌∙◌}
+use mathlib.Core.Path.{◌≡◌, sym, ◌∙◌}
+use Prim.Native.Nat.{◌+◌, ◌-◌}
 use native.Mathlib.Omega.{arith}
 use Rattle.write_alloc.proofs.Taking.{link-none, link-step}
 use Rattle.write_alloc.proofs.take.link_run.Goals as goal
 
-pub loop-left-init : goal.loop-left-init
-loop-left-init c = (refl, (refl, refl))
-
-pub loop-left-preserved : goal.loop-left-preserved
-loop-left-preserved c = (omega arith, (omega arith, (cc) ∙ (sym (link-step _ _ _ _ (omega arith)) ∙ c.loop-left.invariant.1.1)))
+pub loop-k-preserved : goal.loop-k-preserved
+loop-k-preserved c =
+    let a = c.args in
+    let l = c.loop-k in
+    let e : a.first + a.n - (l.k + 1) ≡ a.first + a.n - l.k - 1 = omega arith in
+    cc (link-step a.y l.vol l.k (a.first + a.n - l.k) (omega arith))
 
 pub returns : goal.returns
-returns c = sym (link-none _ _ _ _ (omega arith)) ∙ c.loop-left.invariant.1.1
+returns c = sym (link-none _ _ _ _ (omega arith)) ∙ c.loop-k.invariant

@@ -1,40 +1,29 @@
-use mathlib.Core.Path.{refl, sym, ◌∙◌}
+use mathlib.Core.Path.{◌≡◌, sym, ◌∙◌}
+use Prim.Native.Nat.{◌+◌, ◌-◌}
 use native.Mathlib.Omega.{arith}
 use Rattle.write_alloc.proofs.Taking.{mark_none, mark_step, mark_eight, byte_yes}
 use Rattle.write_alloc.proofs.take.mark_run.Goals as goal
 
-pub loop-left-init : goal.loop-left-init
-loop-left-init c = (refl, (omega arith, (refl, refl)))
-
 pub mark_byte-requires : goal.mark_byte-requires
 mark_byte-requires c =
-    let l = c.loop-left in
     let p = c.requires in
-    let b = byte_yes l.k l.left (cc) in
+    let b = byte_yes _ _ (sym c.whole_byte.ensures ∙ c.if-whole_byte.true) in
     (p.0, (omega arith, (omega arith, (omega arith, (b.1, p.1.1.1.1)))))
 
-pub overflow_sub-left : goal.overflow_sub-left
-overflow_sub-left c =
-    let l = c.loop-left in
-    let b = byte_yes l.k l.left (cc) in
-    omega arith
+pub loop-k-preserved-then-whole_byte : goal.loop-k-preserved-then-whole_byte
+loop-k-preserved-then-whole_byte c =
+    let a = c.args in
+    let l = c.loop-k in
+    let b = byte_yes _ _ (sym c.whole_byte.ensures ∙ c.if-whole_byte.true) in
+    let e : a.first + a.n - (l.k + 8) ≡ a.first + a.n - l.k - 8 = omega arith in
+    (omega arith, (omega arith, cc (mark_eight a.y l.vol l.k (a.first + a.n - l.k) b.0)))
 
-pub loop-left-smaller-then-whole_byte : goal.loop-left-smaller-then-whole_byte
-loop-left-smaller-then-whole_byte c =
-    let l = c.loop-left in
-    let b = byte_yes l.k l.left (cc) in
-    omega arith
-
-pub loop-left-preserved-then-whole_byte : goal.loop-left-preserved-then-whole_byte
-loop-left-preserved-then-whole_byte c =
-    let l = c.loop-left in
-    let b = byte_yes l.k l.left (cc) in
-    (omega arith, (omega arith, (omega arith, (cc) ∙ (sym (mark_eight _ _ _ _ (omega arith)) ∙ l.invariant.1.1.1))))
-
-pub loop-left-preserved : goal.loop-left-preserved
-loop-left-preserved c =
-    let l = c.loop-left in
-    (omega arith, (omega arith, (omega arith, (cc) ∙ (sym (mark_step _ _ _ _ (omega arith)) ∙ l.invariant.1.1.1))))
+pub loop-k-preserved : goal.loop-k-preserved
+loop-k-preserved c =
+    let a = c.args in
+    let l = c.loop-k in
+    let e : a.first + a.n - (l.k + 1) ≡ a.first + a.n - l.k - 1 = omega arith in
+    (omega arith, (omega arith, cc (mark_step a.y l.vol l.k (a.first + a.n - l.k) (omega arith))))
 
 pub returns : goal.returns
-returns c = sym (mark_none _ _ _ _ (omega arith)) ∙ c.loop-left.invariant.1.1.1
+returns c = sym (mark_none _ _ _ _ (omega arith)) ∙ c.loop-k.invariant.1.1

@@ -6,38 +6,36 @@ use Rattle.metadata.specs.Usable.{is_usable}
 use Rattle.write_alloc.proofs.Taking.{takes_end, takes_done, takes_past, takes_yes, took, one_taken}
 use Rattle.write_alloc.proofs.take.take_usable.Goals as goal
 
-pub returns-then-left-eq0 : goal.returns-then-left-eq0
-returns-then-left-eq0 c = took _ _ _ _ _ _ _ _ _ _ (sym (takes_done _ _ _ _ _ _ _ (omega arith)) ∙ c.loop-k.invariant.1.1.1.1)
+pub loop-k-preserved : goal.loop-k-preserved
+loop-k-preserved c =
+    let l = c.loop-k in
+    let i = l.invariant in
+    let p = c.requires in
+    let a = c.args in
+    let q = c.next_usable-next in
+    let len = l.auto.vol ∙ p.1.0 in
+    let apart = p.1.1.1.1.1.1.1 in
+    let u = ap (is_usable a.y l.vol a.map.now) q.ensures.0 ∙ fewest_at (is_usable a.y l.vol a.map.now) (a.end - l.k) l.k (omega arith) in (
+      omega arith,
+      (
+        omega arith,
+        (
+          one_taken _ _ _ _ _ p.0 apart len (omega arith) (omega arith) i.1.0 c.take_one.ensures,
+          (cc)
+              ∙ (sym (takes_past _ _ _ _ l.k _ _ _ (omega arith) q.ensures.0 ∙ takes_yes _ _ _ _ _ _ _ p.0 apart len (omega arith) (omega arith) (omega arith) (omega arith) i.1.0 i.1.1.0 u)
+              ∙ i.1.1.1),
+        ),
+      ),
+    )
+
+pub returns-else-taken-ne0 : goal.returns-else-taken-ne0
+returns-else-taken-ne0 c = took _ _ _ _ _ _ _ _ _ _ (sym (takes_done _ _ _ _ _ _ _ (omega arith)) ∙ c.loop-k.invariant.1.1.1)
+
+pub returns-after-loop-k : goal.returns-after-loop-k
+returns-after-loop-k c = took _ _ _ _ _ _ _ _ _ _ (sym (takes_end _ _ _ _ _ _ _ (omega arith)) ∙ c.loop-k.invariant.1.1.1)
 
 pub returns-then-next-end : goal.returns-then-next-end
 returns-then-next-end c =
     let l = c.loop-k in
     took _ _ _ _ _ _ _ _ _ _
-    (sym (takes_past _ _ _ _ l.k _ _ _ (omega arith) c.next_usable-next.ensures.0 ∙ takes_end _ _ _ _ _ _ _ (omega arith)) ∙ l.invariant.1.1.1.1)
-
-pub loop-k-preserved : goal.loop-k-preserved
-loop-k-preserved c =
-    let l = c.loop-k in
-    let p = c.requires in
-    let a = c.args in
-    let q = c.next_usable-next in
-    let len = l.invariant.0 ∙ p.1.0 in
-    let apart = p.1.1.1.1.1.1.1 in
-    let u = ap (is_usable a.y l.vol a.map.now) q.ensures.0 ∙ fewest_at (is_usable a.y l.vol a.map.now) (a.end - l.k) l.k (omega arith) in (
-      c.take_one.auto.vol ∙ l.invariant.0,
-      (
-        omega arith,
-        (
-          omega arith,
-          (
-            one_taken _ _ _ _ _ p.0 apart len (omega arith) (omega arith) l.invariant.1.1.0 c.take_one.ensures,
-            (cc)
-                ∙ (sym (takes_past _ _ _ _ l.k _ _ _ (omega arith) q.ensures.0 ∙ takes_yes _ _ _ _ _ _ _ p.0 apart len (omega arith) (omega arith) (omega arith) (omega arith) l.invariant.1.1.0 l.invariant.1.1.1.0 u)
-                ∙ l.invariant.1.1.1.1),
-          ),
-        ),
-      ),
-    )
-
-pub returns : goal.returns
-returns c = took _ _ _ _ _ _ _ _ _ _ (sym (takes_end _ _ _ _ _ _ _ (omega arith)) ∙ c.loop-k.invariant.1.1.1.1)
+    (sym (takes_past _ _ _ _ l.k _ _ _ (omega arith) c.next_usable-next.ensures.0 ∙ takes_end _ _ _ _ _ _ _ (omega arith)) ∙ l.invariant.1.1.1)

@@ -1,13 +1,12 @@
 use Prim.Native.Nat.{◌+◌, ◌-◌, ◌≤◌, ◌<◌}
 use mathlib.Core.Path.{◌≡◌}
 use mathlib.Core.Bool.{true}
-use lib.ListN.{length}
 use Rattle.write_alloc.specs.Internal.{prev_taken}
 use Rattle.write_alloc.proofs.Taking.{takes}
 use Rattle.write_alloc.proofs.take.take_usable.Given as goal
 
 abbrev pub invariant-loop-k : goal.invariant-loop-k
-invariant-loop-k l = (length l.vol ≡ length l.initial.vol) × ((2 ≤ l.k) × ((l.prev < l.y.count + 2) × ((prev_taken l.y l.vol l.prev ≡ true) × (takes l.y l.vol l.map l.end l.k l.prev l.left ≡ takes l.y l.initial.vol l.map l.end l.from l.initial.prev l.initial.left))))
+invariant-loop-k l = (2 ≤ l.k) × ((l.taken.prev < l.y.count + 2) × ((prev_taken l.y l.vol l.taken.prev ≡ true) × (takes l.y l.vol l.map l.end l.k l.taken.prev l.taken.left ≡ takes l.y l.initial.vol l.map l.end l.from l.initial.taken.prev l.initial.taken.left)))
 
 abbrev pub decreases-loop-k : goal.decreases-loop-k
 decreases-loop-k l = l.end - l.k

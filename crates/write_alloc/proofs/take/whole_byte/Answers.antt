@@ -1,10 +1,12 @@
-use mathlib.Core.Path.{sym}
 use native.Mathlib.Omega.{arith}
-use Rattle.write_alloc.proofs.Taking.{byte_no, byte_is_lem}
+use Rattle.std.proofs.lemmas.Grind.{common_steps}
+use Rattle.write_alloc.specs.Internal.{whole_byte}
 use Rattle.write_alloc.proofs.take.whole_byte.Goals as goal
 
-pub returns-then-left-lt8 : goal.returns-then-left-lt8
-returns-then-left-lt8 c = sym (byte_no _ _ (omega arith))
+pub returns-then-left-ge8 : goal.returns-then-left-ge8
+unfolding whole_byte
+returns-then-left-ge8 c = grind (arith, common_steps)
 
-pub returns : goal.returns
-returns c = sym (byte_is_lem _ _ (omega arith))
+pub returns-else-left-ge8 : goal.returns-else-left-ge8
+unfolding whole_byte
+returns-else-left-ge8 c = grind (arith, common_steps)

@@ -41,13 +41,6 @@ take_chain-last-requires c =
     let o = old_ready a.y a.vol.now a.map.now a.a a.n p.0 z.0 p.1.0 z.1.0 z.1.1.0 z.1.1.1 _ c.link_old.ensures in
     (p.0, (o.2, (p.1.1.0, (rw r b.0, (rw r b.1, (o.0, (z.0, (z.1.1.0, o.1))))))))
 
-pub overflow_add-b : goal.overflow_add-b
-overflow_add-b c =
-    let p = c.requires in
-    let h = c.take_chain-last.ensures.1.1 in
-    let l = p.0.count_high in
-    omega arith
-
 pub returns : goal.returns
 returns c =
     let a = c.args in
@@ -56,4 +49,4 @@ returns c =
     let q : c.choose_clusters-choice.result ≡ choose (is_usable a.y a.vol.now a.map.now) a.y.count a.n (wrap a.y.count (a.a.last + 1)) = cc in
     let r : c.begin_of-from.result ≡ begin_of c.choose_clusters-choice.result (wrap a.y.count (a.a.last + 1)) = cc in
     let t = c.take_chain-last in
-    chain_more a.y a.vol.now a.map.now a.a a.n p.0 z.0 p.1.0 z.1.0 z.1.1.0 z.1.1.1 _ _ _ _ _ _ q r c.link_old.ensures t.ensures.0 t.ensures.1.0 c.wrap_cluster-next.ensures
+    chain_more a.y a.vol.now a.map.now a.a a.n p.0 z.0 p.1.0 z.1.0 z.1.1.0 z.1.1.1 _ _ _ _ _ _ q r c.link_old.ensures t.ensures.0 t.ensures.1.0 c.wrap_cluster-hint.ensures

@@ -22,5 +22,5 @@ longer_run-requires c =
 pub returns-then-in_place : goal.returns-then-in_place
 returns-then-in_place c = shown_as (longer_in _ _ _ _ _ (cc)) c.longer_run.ensures
 
-pub returns : goal.returns
-returns c = shown_as (longer_out _ _ _ _ _ (cc)) c.longer_chain.ensures
+pub returns-else-in_place : goal.returns-else-in_place
+returns-else-in_place c = shown_as (longer_out _ _ _ _ _ (cc)) c.longer_chain.ensures

@@ -1,4 +1,5 @@
-use mathlib.Core.Path.{◌≡◌, refl, sym, ◌∙◌}
+use mathlib.Core.Path.{◌≡◌, sym, ◌∙◌}
+use Prim.Native.Nat.{◌+◌, ◌-◌}
 use native.Mathlib.Omega.{arith}
 use borrow.Author.Rules.{rules}
 use Rattle.boot.proofs.Apart.{in_heap_lem}
@@ -6,41 +7,36 @@ use Rattle.stream.proofs.StreamLaws.{along_head}
 use Rattle.write_shrink.proofs.Cutting.{free_one, free_none, free_step, free_heap, free_distinct}
 use Rattle.write_shrink.proofs.shrink.free_from.Goals as goal
 
-pub loop-left-init : goal.loop-left-init
-loop-left-init c = (refl, (c.requires.1.1.1.0, (c.requires.1.1.1.1, refl)))
-
 pub next_cluster-next-requires : goal.next_cluster-next-requires
 next_cluster-next-requires c =
-    let h = in_heap_lem _ _ (along_head _ _ _ _ _ (omega arith) c.loop-left.invariant.1.0) in
+    let h = in_heap_lem _ _ (along_head _ _ _ _ _ (omega arith) c.loop.invariant.0) in
     search rules
 
 pub set_fat-requires : goal.set_fat-requires
 set_fat-requires c =
-    let h = in_heap_lem _ _ (along_head _ _ _ _ _ (omega arith) c.loop-left.invariant.1.0) in
+    let h = in_heap_lem _ _ (along_head _ _ _ _ _ (omega arith) c.loop.invariant.0) in
     search rules
 
 pub mark-requires : goal.mark-requires
 mark-requires c =
-    let h = in_heap_lem _ _ (along_head _ _ _ _ _ (omega arith) c.loop-left.invariant.1.0) in
+    let h = in_heap_lem _ _ (along_head _ _ _ _ _ (omega arith) c.loop.invariant.0) in
     search rules
 
-pub loop-left-preserved : goal.loop-left-preserved
-loop-left-preserved c =
+pub loop-preserved : goal.loop-preserved
+loop-preserved c =
     let p = c.requires in
-    let l = c.loop-left in
+    let l = c.loop in
     let i = l.invariant in
-    let len = i.0 ∙ p.1.0 in
+    let len = l.auto.vol ∙ p.1.0 in
     let q : c.mark.new.vol ≡ free_one c.args.y l.vol l.k = cc in
-    let e = c.next_cluster-next.ensures in (
-      omega arith,
+    let e = c.next_cluster-next.ensures in
+    let s : c.args.n - (l.counter + 1) ≡ c.args.n - l.counter - 1 = omega arith in (
+      rw (q, e, s) (free_heap _ _ p.0 p.1.1.0 len _ _ _ (omega arith) i.0 i.1.0),
       (
-        rw (q, e) (free_heap _ _ p.0 p.1.1.0 len _ _ _ (omega arith) i.1.0 i.1.1.0),
-        (
-          rw (q, e) (free_distinct _ _ p.0 p.1.1.0 len _ _ _ (omega arith) i.1.0 i.1.1.0),
-          rw (q, e) (sym (free_step _ _ p.0 p.1.1.0 len _ _ _ (omega arith) i.1.0 i.1.1.0) ∙ i.1.1.1),
-        ),
+        rw (q, e, s) (free_distinct _ _ p.0 p.1.1.0 len _ _ _ (omega arith) i.0 i.1.0),
+        rw (q, e, s) (sym (free_step _ _ p.0 p.1.1.0 len _ _ _ (omega arith) i.0 i.1.0) ∙ i.1.1),
       ),
     )
 
 pub returns : goal.returns
-returns c = sym (free_none _ _ _ _ _ _ (omega arith)) ∙ c.loop-left.invariant.1.1.1
+returns c = sym (free_none _ _ _ _ _ _ (omega arith)) ∙ c.loop.invariant.1.1

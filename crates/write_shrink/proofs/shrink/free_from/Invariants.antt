@@ -1,6 +1,6 @@
+use Prim.Native.Nat.{◌-◌}
 use mathlib.Core.Bool.{true}
 use mathlib.Core.Path.{◌≡◌}
-use lib.ListN.{length}
 use Rattle.tables.specs.Lists.{every, Distinct}
 use Rattle.boot.specs.Layout.{in_heap}
 use Rattle.metadata.specs.Fat.{fat_entry}
@@ -8,8 +8,5 @@ use Rattle.stream.specs.Internal.{along}
 use Rattle.write_shrink.specs.Shrink.{free_all}
 use Rattle.write_shrink.proofs.shrink.free_from.Given as goal
 
-abbrev pub invariant-loop-left : goal.invariant-loop-left
-invariant-loop-left l = (length l.vol ≡ length l.initial.vol) × ((every (in_heap l.y.count) (along (fat_entry l.y l.vol) l.run l.k l.left) ≡ true) × (Distinct (along (fat_entry l.y l.vol) l.run l.k l.left) × (free_all l.y l.vol (along (fat_entry l.y l.vol) l.run l.k l.left) ≡ free_all l.y l.initial.vol (along (fat_entry l.y l.initial.vol) l.run l.first l.n))))
-
-abbrev pub decreases-loop-left : goal.decreases-loop-left
-decreases-loop-left l = l.left
+abbrev pub invariant-loop : goal.invariant-loop
+invariant-loop l = (every (in_heap l.y.count) (along (fat_entry l.y l.vol) l.run l.k (l.n - l.counter)) ≡ true) × (Distinct (along (fat_entry l.y l.vol) l.run l.k (l.n - l.counter)) × (free_all l.y l.vol (along (fat_entry l.y l.vol) l.run l.k (l.n - l.counter)) ≡ free_all l.y l.initial.vol (along (fat_entry l.y l.initial.vol) l.run l.first l.n)))

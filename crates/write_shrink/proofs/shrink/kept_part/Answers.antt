@@ -1,4 +1,5 @@
-use mathlib.Core.Path.{sym, ◌∙◌}
+use mathlib.Core.Path.{◌≡◌, sym, ◌∙◌}
+use Prim.Native.Nat.{◌+◌, ◌-◌}
 use native.Mathlib.Omega.{arith}
 use borrow.Author.Rules.{rules}
 use Rattle.boot.proofs.Apart.{in_heap_lem}
@@ -14,22 +15,23 @@ next_cluster-next-requires c =
     let h = in_heap_lem _ _ (along_head _ _ _ _ _ (omega arith) c.requires.1.1) in
     search rules
 
-pub loop-left-init : goal.loop-left-init
-loop-left-init c =
+pub loop-init : goal.loop-init
+loop-init c =
     let p = c.requires.1.1 in
     let h = in_heap_lem _ _ (along_head _ _ _ _ _ (omega arith) p) in
     (h.1, (c.next_cluster-next.ensures, (rw c.next_cluster-next.ensures (along_rest _ _ _ _ _ (omega arith) p), sym (kept_some _ _ _ _ (λ z. omega arith)))))
 
-pub next_cluster-next-requires-in-loop-left : goal.next_cluster-next-requires-in-loop-left
-next_cluster-next-requires-in-loop-left c =
-    let h = in_heap_lem _ _ (along_head _ _ _ _ _ (omega arith) c.loop-left.invariant.1.1.0) in
+pub next_cluster-next-requires-in-loop : goal.next_cluster-next-requires-in-loop
+next_cluster-next-requires-in-loop c =
+    let h = in_heap_lem _ _ (along_head _ _ _ _ _ (omega arith) c.loop.invariant.1.1.0) in
     search rules
 
-pub loop-left-preserved : goal.loop-left-preserved
-loop-left-preserved c =
-    let i = c.loop-left.invariant in
+pub loop-preserved : goal.loop-preserved
+loop-preserved c =
+    let i = c.loop.invariant in
+    let e : c.args.n - (c.loop.counter + 1) ≡ c.args.n - c.loop.counter - 1 = omega arith in
     let h = in_heap_lem _ _ (along_head _ _ _ _ _ (omega arith) i.1.1.0) in
-    (h.1, (c.next_cluster-next-in-loop-left.ensures, (rw c.next_cluster-next-in-loop-left.ensures (along_rest _ _ _ _ _ (omega arith) i.1.1.0), (cc) ∙ (sym (walk_step _ _ _ _ _ (omega arith)) ∙ i.1.1.1))))
+    (h.1, (c.next_cluster-next-in-loop.ensures, (rw (e, c.next_cluster-next-in-loop.ensures) (along_rest _ _ _ _ _ (omega arith) i.1.1.0), (cc) ∙ (sym (walk_step _ _ _ _ _ (omega arith)) ∙ i.1.1.1))))
 
 pub returns : goal.returns
-returns c = (cc) ∙ (sym (walk_none _ _ _ _ _ (omega arith)) ∙ c.loop-left.invariant.1.1.1)
+returns c = (cc) ∙ (sym (walk_none _ _ _ _ _ (omega arith)) ∙ c.loop.invariant.1.1.1)

@@ -1,4 +1,4 @@
-use Prim.Native.Nat.{◌+◌, ◌<◌}
+use Prim.Native.Nat.{◌+◌, ◌-◌, ◌<◌}
 use mathlib.Core.Bool.{true}
 use mathlib.Core.Path.{◌≡◌}
 use Rattle.tables.specs.Lists.{every}
@@ -9,8 +9,5 @@ use Rattle.write_shrink.specs.Internal.{kept_part}
 use Rattle.write_shrink.proofs.Cutting.{walk_kept}
 use Rattle.write_shrink.proofs.shrink.kept_part.Given as goal
 
-abbrev pub invariant-loop-left : goal.invariant-loop-left
-invariant-loop-left l = (l.k < l.y.count + 2) × ((l.next ≡ after (fat_entry l.y l.vol) l.run l.k) × ((every (in_heap l.y.count) (along (fat_entry l.y l.vol) l.run l.next l.left) ≡ true) × (walk_kept (fat_entry l.y l.vol) l.run l.rising l.k l.left ≡ kept_part (fat_entry l.y l.vol) l.run l.first l.n)))
-
-abbrev pub decreases-loop-left : goal.decreases-loop-left
-decreases-loop-left l = l.left
+abbrev pub invariant-loop : goal.invariant-loop
+invariant-loop l = (l.last < l.y.count + 2) × ((l.next ≡ after (fat_entry l.y l.vol) l.run l.last) × ((every (in_heap l.y.count) (along (fat_entry l.y l.vol) l.run l.next (l.n - l.counter)) ≡ true) × (walk_kept (fat_entry l.y l.vol) l.run l.rising l.last (l.n - l.counter) ≡ kept_part (fat_entry l.y l.vol) l.run l.first l.n)))

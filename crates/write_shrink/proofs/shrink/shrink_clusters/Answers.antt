@@ -1,17 +1,17 @@
-use native.Mathlib.Omega.{arith}
-use Rattle.boot.proofs.Admission.{admit_number, admission}
+use Rattle.std.proofs.lemmas.Result.{err_from_is_err_and}
+use Rattle.boot.proofs.CauseLaws.{cause-not0}
+use Rattle.boot.proofs.Admission.{refuses, admits}
 use Rattle.write_alloc.proofs.AllocateLaws.{shown_as}
 use Rattle.write_shrink.proofs.Cutting.{shrink_is, shrink_not-admitted}
 use Rattle.write_shrink.proofs.shrink.shrink_clusters.Goals as goal
 
-pub returns-then-admission-ne0 : goal.returns-then-admission-ne0
-returns-then-admission-ne0 c = shrink_not-admitted _ _ _ _ _ _ _ (admit_number _ _ _ _ c.admit-admission.ensures) (λ z. omega arith)
+pub returns-in_err-y : goal.returns-in_err-y
+returns-in_err-y c =
+    let p = err_from_is_err_and c.from_residual.result c.from_residual.ensures.1 in
+    rw (p.1, p.2) (shrink_not-admitted _ _ _ _ _ _ _ (refuses _ _ _ _ c.in_err-y.ensures) (cause-not0 _))
 
 pub shrink_in-requires : goal.shrink_in-requires
-shrink_in-requires c =
-    let i = c.args in
-    let a = admission i.g i.vol.now i.map.now _ c.admit-admission.ensures (omega arith) in
-    (a.laid, (a.long, (a.wide, a.apart)))
+shrink_in-requires c = let a = admits _ _ _ _ c.in_ok-y.ensures in (a.laid, (a.long, (a.wide, a.apart)))
 
 pub returns : goal.returns
-returns c = shown_as (shrink_is _ _ _ _ _ _ _ (admission _ _ _ _ c.admit-admission.ensures (omega arith))) c.shrink_in.ensures
+returns c = shown_as (shrink_is _ _ _ _ _ _ _ (admits _ _ _ _ c.in_ok-y.ensures)) c.shrink_in.ensures
