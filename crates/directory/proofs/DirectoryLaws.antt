@@ -15,17 +15,15 @@ use Rattle.boot.proofs.CauseLaws.{cause_skip, cause_met, cause_last, cause_none}
 use Rattle.metadata.specs.Fat.{fat_entry}
 use Rattle.metadata.specs.Marks.{marked}
 use Rattle.stream.specs.declared.allocation.Allocation.{Allocation}
-use Rattle.stream.specs.declared.walk.Walked.{Walked}
-use Rattle.stream.specs.Internal.{along, barred, walked, walk_cause}
+use Rattle.stream.specs.Internal.{Walked, along, barred, walked, walk_cause}
 use Rattle.stream.specs.Chain.{Clusters, listed, refused, read_chain}
 use Rattle.stream.specs.Stream.{number_of, stream_of, check_chain, clusters_of, empty, clusters_in}
 use Rattle.stream.proofs.ChainLaws.{chain_out, chain_number, chain_clear_lem, stream_chain, stream_not-zero}
 use Rattle.stream.proofs.StreamLaws.{read-chain_facts}
 use Rattle.stream.proofs.ListingLaws.{stream_read}
 use Rattle.stream.proofs.Distinct.{read_length}
-use Rattle.directory.specs.declared.directory.Directory.{Directory}
 use Rattle.directory.specs.Directory.{chain_record, root_record, bitmap_cause, directory_cause}
-use Rattle.directory.specs.Internal.{open_root}
+use Rattle.directory.specs.Internal.{Directory, open_root}
 
 -- ---- the clusters of a directory
 

@@ -22,7 +22,7 @@ use Rattle.directory.specs.Open.{file_record, entry_cause, directory_attribute_c
 use Rattle.directory.proofs.DirectoryLaws.{clusters_length}
 use Rattle.directory.specs.Internal.{set_read}
 use Rattle.directory.proofs.EntryLaws.{sound_file, sound_few, sound_room, sound_formed}
-use Rattle.directory.proofs.OpenLaws.{whole_yes, entries_low, read_some, cause_is}
+use Rattle.directory.proofs.OpenLaws.{fits_yes, read_some, cause_is}
 
 -- the record of a set's stream has the clusters that its length takes
 pub record_count : (y : Layout) (d s : List ℕ) → (file_record y d s).count ≡ clusters_for y.size (data_length s)
@@ -100,6 +100,6 @@ module _ (y : Layout) (d m : List ℕ) (a : Allocation) (slot : ℕ) where
     -- its set is what opening reads
     pub file-read : set_read (bytes_in y d a) slot ≡ set_in y d a slot
     file-read =
-        let f = sound_file y.count y.size bs slot file_sound in
-        let w = whole_yes bs slot f (sound_few y.count y.size bs slot file_sound) (sound_room y.count y.size bs slot file_sound) in
-        sym (read_some y d a slot (λ q. omega (arith, q, w, entries_low bs slot)))
+        sym
+        (read_some y d a slot
+        (fits_yes bs slot (sound_file y.count y.size bs slot file_sound) (sound_few y.count y.size bs slot file_sound) (sound_room y.count y.size bs slot file_sound)))

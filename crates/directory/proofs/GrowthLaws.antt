@@ -15,8 +15,8 @@ use borrow.Author.Tests.{not-true}
 use Rattle.entry_set.specs.Fields.{clusters_for}
 use Rattle.entry_set.proofs.LengthLaws.{clusters_hold, clusters_below}
 use Rattle.entry_set.specs.Sound.{well_formed}
-use Rattle.search.specs.declared.found.Found.{Found}
-use Rattle.search.specs.declared.found.Found.TheVariants.{At, Nothing}
+use Rattle.std.specs.Prelude.{Option}
+use Rattle.std.specs.Prelude.{Some, None}
 use Rattle.search.specs.Search.{all_from, run_from}
 use Rattle.search.proofs.Runs.{run_hit}
 use Rattle.search.proofs.Lowest.{Whole, Lowest, all_whole, whole_all, all_cong, run_at, run_nothing, run_cong, fewest_is}
@@ -122,34 +122,34 @@ module _ (C size : ℕ) (bs : List ℕ) (k : ℕ) (o : Ordered C size bs) where
 -- ---- the lowest run by its meaning
 
 module _ (u : ℕ → Bool) (end n : ℕ) where
-  lowest_at : (a : ℕ) → Lowest u end n 0 a → run_from u end n 0 ≡ At a
+  lowest_at : (a : ℕ) → Lowest u end n 0 a → run_from u end n 0 ≡ Some a
   lowest_at a w = by (run_from u end n 0) refl
     where
-      by : (r : Found) → run_from u end n 0 ≡ r → run_from u end n 0 ≡ At a
-      by Nothing e = absurd (run_nothing u end n 0 e a (omega arith) w.inside w.whole)
-      by (At b) e =
+      by : (r : Option ℕ) → run_from u end n 0 ≡ r → run_from u end n 0 ≡ Some a
+      by None e = absurd (run_nothing u end n 0 e a (omega arith) w.inside w.whole)
+      by (Some b) e =
           let v = run_at u end n 0 b e in
           e
-          ∙ ap At
+          ∙ ap Some
           (elim (dec_lt a b) [
             | yes l ↦ absurd (v.least a (omega arith) l w.whole)
             | no l ↦ elim (dec_lt b a) [ yes m ↦ absurd (w.least b (omega arith) m v.whole) | no m ↦ omega arith ]
           ])
 
-  none_at : ((b : ℕ) → b + n ≤ end → Whole u b n → ⊥) → run_from u end n 0 ≡ Nothing
+  none_at : ((b : ℕ) → b + n ≤ end → Whole u b n → ⊥) → run_from u end n 0 ≡ None
   none_at h = by (run_from u end n 0) refl
     where
-      by : (r : Found) → run_from u end n 0 ≡ r → run_from u end n 0 ≡ Nothing
-      by Nothing e = e
-      by (At b) e = let v = run_at u end n 0 b e in absurd (h b v.inside v.whole)
+      by : (r : Option ℕ) → run_from u end n 0 ≡ r → run_from u end n 0 ≡ None
+      by None e = e
+      by (Some b) e = let v = run_at u end n 0 b e in absurd (h b v.inside v.whole)
 
-  some_at : (b : ℕ) → b + n ≤ end → Whole u b n → run_from u end n 0 ≡ At (slot_of (run_from u end n 0))
+  some_at : (b : ℕ) → b + n ≤ end → Whole u b n → run_from u end n 0 ≡ Some (slot_of (run_from u end n 0))
   unfolding slot_of
   some_at b h w = by (run_from u end n 0) refl
     where
-      by : (r : Found) → run_from u end n 0 ≡ r → run_from u end n 0 ≡ At (slot_of r)
-      by Nothing e = absurd (run_nothing u end n 0 e b (omega arith) h w)
-      by (At a) e = e
+      by : (r : Option ℕ) → run_from u end n 0 ≡ r → run_from u end n 0 ≡ Some (slot_of r)
+      by None e = absurd (run_nothing u end n 0 e b (omega arith) h w)
+      by (Some a) e = e
 
 -- ---- where the lowest n entries not in use stand, if zeros follow
 
@@ -172,43 +172,43 @@ module _ (bs : List ℕ) (n : ℕ) (whole : length bs ≡ 32 * entry_count bs) w
       ∙ run_cong free (λ i. not (in_use (with_zeros bs (32 * k)) i)) (N + k) n 0 (λ j a b. ap not (zeros_used bs (32 * k) j))
 
   -- there always is one
-  pub place_at_lem : free_run (with_zeros bs (32 * n)) n ≡ At (slot_of (free_run (with_zeros bs (32 * n)) n))
+  pub place_at_lem : free_run (with_zeros bs (32 * n)) n ≡ Some (slot_of (free_run (with_zeros bs (32 * n)) n))
   place_at_lem =
-      run_zeros n ∙ some_at free (N + n) n N (omega arith) (λ k a b. past k a) ∙ ap (λ (r : Found). At (slot_of r)) (sym (run_zeros n))
+      run_zeros n ∙ some_at free (N + n) n N (omega arith) (λ k a b. past k a) ∙ ap (λ (r : Option ℕ). Some (slot_of r)) (sym (run_zeros n))
 
   -- what a scan knows that ends, or that finds n entries: no start below base works
   module _ (base : ℕ) (low : base ≤ N) (skipped : run_from free (N + n) n base ≡ run_from free (N + n) n 0) where
-    pub place_end : all_from free base (N - base) ≡ true → free_run (with_zeros bs (32 * n)) n ≡ At base
+    pub place_end : all_from free base (N - base) ≡ true → free_run (with_zeros bs (32 * n)) n ≡ Some base
     place_end e =
         run_zeros n ∙ sym skipped
         ∙ run_hit free (N + n) n base (omega arith)
         (whole_all free base n
         (λ k a b. elim (dec_lt k N) [ yes l ↦ all_whole free base (N - base) e k a (omega arith) | no l ↦ past k (omega arith) ]))
 
-    pub place_hit : all_from free base n ≡ true → free_run (with_zeros bs (32 * n)) n ≡ At base
+    pub place_hit : all_from free base n ≡ true → free_run (with_zeros bs (32 * n)) n ≡ Some base
     place_hit e = run_zeros n ∙ sym skipped ∙ run_hit free (N + n) n base (omega arith) e
 
   -- ---- and with it the free run and the growth
 
-  module _ (base : ℕ) (at : free_run (with_zeros bs (32 * n)) n ≡ At base) where
+  module _ (base : ℕ) (at : free_run (with_zeros bs (32 * n)) n ≡ Some base) where
     lowest : Lowest free (N + n) n 0 base
     lowest = run_at free (N + n) n 0 base (sym (run_zeros n) ∙ at)
 
     pub place_low : base ≤ N
     place_low = omega (arith, lowest.inside)
 
-    reached : (k : ℕ) → base + n ≤ N + k → free_run (with_zeros bs (32 * k)) n ≡ At base
+    reached : (k : ℕ) → base + n ≤ N + k → free_run (with_zeros bs (32 * k)) n ≡ Some base
     reached k h =
         run_zeros k
         ∙ lowest_at free (N + k) n base (record { after = omega arith; inside = h; whole = lowest.whole; least = lowest.least })
 
-    short : (k : ℕ) → N + k < base + n → free_run (with_zeros bs (32 * k)) n ≡ Nothing
+    short : (k : ℕ) → N + k < base + n → free_run (with_zeros bs (32 * k)) n ≡ None
     short k h = run_zeros k ∙ none_at free (N + k) n (λ b l w. lowest.least b (omega arith) (omega arith) w)
 
     plain : free_run bs n ≡ free_run (with_zeros bs (32 * 0)) n
     plain = ap (λ (x : List ℕ). free_run x n) (sym (zeros_none bs))
 
-    pub free_none : N < base + n → free_run bs n ≡ Nothing
+    pub free_none : N < base + n → free_run bs n ≡ None
     free_none h = plain ∙ short 0 (omega arith)
 
     module _ (size per : ℕ) (e : size ≡ 32 * per) (pos : 1 ≤ per) where
@@ -231,10 +231,10 @@ module _ (bs : List ℕ) (n : ℕ) (whole : length bs ≡ 32 * entry_count bs) w
             | no l ↦ absurd (omega (arith, less n (omega arith), place_low, mul-le-mul_left {m = 1} {n = per} n pos))
           ]
 
-      needed_at : free_run (with_zeros bs (needed * size)) n ≡ At base
+      needed_at : free_run (with_zeros bs (needed * size)) n ≡ Some base
       needed_at = ap (λ (x : ℕ). free_run (with_zeros bs x) n) (bytes needed) ∙ reached (needed * per) enough
 
-      less_none : (g : ℕ) → g < needed → free_run (with_zeros bs (g * size)) n ≡ Nothing
+      less_none : (g : ℕ) → g < needed → free_run (with_zeros bs (g * size)) n ≡ None
       less_none g l = ap (λ (x : ℕ). free_run (with_zeros bs x) n) (bytes g) ∙ short (g * per) (less g l)
 
       -- the missing entries in whole clusters
@@ -244,7 +244,7 @@ module _ (bs : List ℕ) (n : ℕ) (whole : length bs ≡ 32 * entry_count bs) w
           fewest_is (λ g. is_at (free_run (with_zeros bs (g * size)) n)) n 0 needed (omega arith) (omega (arith, few)) (λ _. ap is_at needed_at)
           (λ g a l. ap is_at (less_none g l))
 
-      pub grown_at : free_run (with_zeros bs (growth size bs n * size)) n ≡ At base
+      pub grown_at : free_run (with_zeros bs (growth size bs n * size)) n ≡ Some base
       grown_at = ap (λ (g : ℕ). free_run (with_zeros bs (g * size)) n) growth_is ∙ needed_at
 
       pub growth-zero : base + n ≤ N → growth size bs n ≡ 0
@@ -260,13 +260,13 @@ module _ (bs : List ℕ) (n : ℕ) where
   row_whole : (i : ℕ) → Row bs n i → Whole (λ j. not (in_use bs j)) i n
   row_whole i w j a b = ap not (w.unused j a b)
 
-  row_lowest : (i : ℕ) → free_run bs n ≡ At i → Row bs n i × ((j : ℕ) → j < i → Row bs n j → ⊥)
+  row_lowest : (i : ℕ) → free_run bs n ≡ Some i → Row bs n i × ((j : ℕ) → j < i → Row bs n j → ⊥)
   unfolding free_run
   row_lowest i e =
       let v = run_at (λ j. not (in_use bs j)) (entry_count bs) n 0 i e in
       (record { inside = omega (arith, v.inside); unused = λ j a b. not-true (in_use bs j) (v.whole j a b) }, λ j l w. v.least j (omega arith) l (row_whole j w))
 
-  row_none : free_run bs n ≡ Nothing → (i : ℕ) → Row bs n i → ⊥
+  row_none : free_run bs n ≡ None → (i : ℕ) → Row bs n i → ⊥
   unfolding free_run
   row_none e i w = run_nothing (λ j. not (in_use bs j)) (entry_count bs) n 0 e i (omega arith) w.inside (row_whole i w)
 
@@ -278,9 +278,9 @@ module _ (size per : ℕ) (e : size ≡ 32 * per) (pos : 1 ≤ per) (bs : List �
   abbrev grown : List ℕ
   grown = with_zeros bs (growth size bs n * size)
 
-  grown_found : free_run grown n ≡ At (slot_of (free_run grown n))
+  grown_found : free_run grown n ≡ Some (slot_of (free_run grown n))
   unfolding slot_of
-  grown_found = let q = grown_at bs n whole base (place_at_lem bs n whole) size per e pos in q ∙ ap At (ap slot_of (sym q))
+  grown_found = let q = grown_at bs n whole base (place_at_lem bs n whole) size per e pos in q ∙ ap Some (ap slot_of (sym q))
 
   -- it has n entries in a row that are not in use: the set's slot begins them ..
   pub growth_fits : Row (with_zeros bs (growth size bs n * size)) n (slot_of (free_run (with_zeros bs (growth size bs n * size)) n))

@@ -10,6 +10,7 @@ use native.Mathlib.Omega.{arith}
 use lib.Dec.{leb}
 use lib.ListN.{get_or, take, drop, replicate}
 use borrow.Author.Tests.{eq-eqb, ne_eqb, leb-true, le-leb}
+use Rattle.std.specs.Prelude.{Some, None}
 use Rattle.primitives.specs.Splice.{splice}
 use Rattle.tables.specs.Lists.{every, last_or}
 use Rattle.tables.proofs.Cases.{not_so, and_left, and_right, and_both}
@@ -25,8 +26,7 @@ use Rattle.metadata.specs.Cluster.{cluster_byte}
 use Rattle.metadata.proofs.Frame.{Fits}
 use Rattle.stream.specs.declared.allocation.Allocation.{Allocation}
 use Rattle.stream.specs.declared.bytes.Place.{Place}
-use Rattle.stream.specs.declared.walk.Walked.{Walked}
-use Rattle.stream.specs.Internal.{along, reached, place_at, barred, walked, walk_cause, Known}
+use Rattle.stream.specs.Internal.{Walked, along, reached, place_at, barred, walked, walk_cause, Known}
 use Rattle.stream.specs.Bytes.{bytes_of, bytes_in}
 use Rattle.stream.specs.Chain.{Clusters, listed, read_chain}
 use Rattle.stream.specs.Stream.{number_of, stream_of, check_chain, clusters_of, empty, system_cause, clusters_in}
@@ -37,13 +37,11 @@ use Rattle.stream.proofs.BytesSteps.{some_left, Sought, sought}
 use Rattle.stream.proofs.BytesLaws.{byte_of}
 use Rattle.entry_set.specs.Fields.{no_fat_chain, first_cluster, valid_length, data_length, clusters_for, is_directory}
 use Rattle.entry_set.specs.Sound.{well_formed}
-use Rattle.directory.specs.Entries.{entry_count, type_at, before_end, is_file, entries_at, set_at, is_sound}
-use Rattle.directory.specs.Internal.{entry_place, slot_entry, whole_set, set_read, spot_of, no_place, opened, opened_stream, start_steps, no_file, found_file, open_file}
+use Rattle.directory.specs.Entries.{entry_count, type_at, is_file, entries_at, set_at, is_sound}
+use Rattle.directory.specs.Internal.{OpenedStream, entry_place, set_fits, whole_set, set_read, spot_of, no_place, opened, opened_stream, start_steps, no_file, found_file, open_file}
 use Rattle.directory.proofs.EntryLaws.{sound_file, sound_few, sound_room, sound_formed, sound_of}
 use Rattle.directory.proofs.CursorLaws.{bytes_along, dir_heap, slot_bytes, along_at}
-use Rattle.directory.proofs.EndLaws.{slot_ends, slot_stands}
 use Rattle.directory.specs.declared.entries.Cursor.{Cursor}
-use Rattle.directory.specs.declared.open_file.Opened.{Opened}
 use Rattle.directory.specs.declared.spot.Spot.{Spot}
 use Rattle.directory.specs.Open.{file_record, entry_cause, directory_attribute_cause, stream_cause, set_in, file_cause}
 
@@ -58,66 +56,64 @@ cond_no b x z e = rw e refl
 -- ---- a set that fits
 
 module _ (bs : List ℕ) (i : ℕ) where
-  abbrev tests : Bool
-  tests = is_file bs i && (leb (entries_at bs i) 19 && leb (i + entries_at bs i) (entry_count bs))
+  abbrev few : Bool
+  few = leb (entries_at bs i) 19
 
-  pub whole_no : (is_file bs i ≡ true → entries_at bs i ≤ 19 → i + entries_at bs i ≤ entry_count bs → ⊥) → 0 ≡ whole_set bs i
-  unfolding whole_set
-  whole_no h =
-      sym
-      (cond_no tests (entries_at bs i) 0
-      (not_so tests
-      (λ e. let r = and_right (is_file bs i) (leb (entries_at bs i) 19 && leb (i + entries_at bs i) (entry_count bs)) e in
-      h (and_left (is_file bs i) (leb (entries_at bs i) 19 && leb (i + entries_at bs i) (entry_count bs)) e)
-      (leb-true (entries_at bs i) 19 (and_left (leb (entries_at bs i) 19) (leb (i + entries_at bs i) (entry_count bs)) r))
-      (leb-true (i + entries_at bs i) (entry_count bs) (and_right (leb (entries_at bs i) 19) (leb (i + entries_at bs i) (entry_count bs)) r)))))
+  abbrev room : Bool
+  room = leb (i + entries_at bs i) (entry_count bs)
 
-  pub whole_yes : is_file bs i ≡ true → entries_at bs i ≤ 19 → i + entries_at bs i ≤ entry_count bs → entries_at bs i ≡ whole_set bs i
-  unfolding whole_set
-  whole_yes f a b =
-      sym
-      (cond_yes tests (entries_at bs i) 0
-      (and_both (is_file bs i) (leb (entries_at bs i) 19 && leb (i + entries_at bs i) (entry_count bs)) f
-      (and_both (leb (entries_at bs i) 19) (leb (i + entries_at bs i) (entry_count bs)) (le-leb (entries_at bs i) 19 a) (le-leb (i + entries_at bs i) (entry_count bs) b))))
+  pub set_fits_lem : set_fits bs i ≡ true → (is_file bs i ≡ true) × ((entries_at bs i ≤ 19) × (i + entries_at bs i ≤ entry_count bs))
+  unfolding set_fits
+  set_fits_lem e =
+      let r = and_right (is_file bs i) (few && room) e in
+      (and_left (is_file bs i) (few && room) e, (leb-true (entries_at bs i) 19 (and_left few room r), leb-true (i + entries_at bs i) (entry_count bs) (and_right few room r)))
 
-  -- what a number of entries says
-  pub whole_some : whole_set bs i ≢ 0 → (is_file bs i ≡ true) × ((entries_at bs i ≤ 19) × ((i + entries_at bs i ≤ entry_count bs) × (whole_set bs i ≡ entries_at bs i)))
+  pub fits_yes : is_file bs i ≡ true → entries_at bs i ≤ 19 → i + entries_at bs i ≤ entry_count bs → set_fits bs i ≡ true
+  unfolding set_fits
+  fits_yes f a b = and_both (is_file bs i) (few && room) f (and_both few room (le-leb (entries_at bs i) 19 a) (le-leb (i + entries_at bs i) (entry_count bs) b))
+
+  pub fits_no : (is_file bs i ≡ true → entries_at bs i ≤ 19 → i + entries_at bs i ≤ entry_count bs → ⊥) → set_fits bs i ≡ false
+  fits_no h = not_so (set_fits bs i) (λ e. let t = set_fits_lem e in h t.0 t.1.0 t.1.1)
+
+  -- the number of its entries
+  pub whole_no : set_fits bs i ≡ false → None ≡ whole_set bs i
   unfolding whole_set
-  whole_some h = by tests refl
+  whole_no e = rw e refl
+
+  pub whole_yes : set_fits bs i ≡ true → Some (entries_at bs i) ≡ whole_set bs i
+  unfolding whole_set
+  whole_yes e = rw e refl
+
+  -- and what it says
+  pub whole_none : whole_set bs i ≡ None → set_fits bs i ≡ false
+  whole_none z = not_so (set_fits bs i) (λ e. let t = whole_yes e in cc)
+
+  pub whole_some : (n : ℕ) → whole_set bs i ≡ Some n → (set_fits bs i ≡ true) × (n ≡ entries_at bs i)
+  whole_some n z = by (set_fits bs i) refl
     where
-      by : (b : Bool) → tests ≡ b → (is_file bs i ≡ true) × ((entries_at bs i ≤ 19) × ((i + entries_at bs i ≤ entry_count bs) × (cond tests (entries_at bs i) 0 ≡ entries_at bs i)))
-      by true e =
-          let r = and_right (is_file bs i) (leb (entries_at bs i) 19 && leb (i + entries_at bs i) (entry_count bs)) e in (
-            and_left (is_file bs i) (leb (entries_at bs i) 19 && leb (i + entries_at bs i) (entry_count bs)) e,
-            (
-              leb-true (entries_at bs i) 19 (and_left (leb (entries_at bs i) 19) (leb (i + entries_at bs i) (entry_count bs)) r),
-              (
-                leb-true (i + entries_at bs i) (entry_count bs) (and_right (leb (entries_at bs i) 19) (leb (i + entries_at bs i) (entry_count bs)) r),
-                cond_yes tests (entries_at bs i) 0 e,
-              ),
-            ),
-          )
-      by false e = absurd (h (cond_no tests (entries_at bs i) 0 e))
+      by : (b : Bool) → set_fits bs i ≡ b → (set_fits bs i ≡ true) × (n ≡ entries_at bs i)
+      by true e = (e, let t = whole_yes e in cc)
+      by false e = (let t = whole_no e in cc, let t = whole_no e in cc)
 
   pub entries_low : 1 ≤ entries_at bs i
   unfolding entries_at
   entries_low = omega arith
 
   module _ (C size : ℕ) where
-    pub sound_none : whole_set bs i ≡ 0 → is_sound C size bs i ≡ false
+    pub sound_none : set_fits bs i ≡ false → is_sound C size bs i ≡ false
     sound_none e =
         not_so (is_sound C size bs i)
-        (λ s. omega (arith, e, entries_low, whole_yes (sound_file C size bs i s) (sound_few C size bs i s) (sound_room C size bs i s)))
+        (λ s. false≢true (sym e ∙ fits_yes (sound_file C size bs i s) (sound_few C size bs i s) (sound_room C size bs i s)))
 
-    sound_whole : whole_set bs i ≢ 0 → is_sound C size bs i ≡ well_formed C size (set_at bs i)
+    sound_whole : set_fits bs i ≡ true → is_sound C size bs i ≡ well_formed C size (set_at bs i)
     sound_whole h = by (well_formed C size (set_at bs i)) refl
       where
         by : (b : Bool) → well_formed C size (set_at bs i) ≡ b → is_sound C size bs i ≡ b
-        by true e = let w = whole_some h in sound_of C size bs i w.0 w.1.0 w.1.1.0 e
+        by true e = let w = set_fits_lem h in sound_of C size bs i w.0 w.1.0 w.1.1 e
         by false e = not_so (is_sound C size bs i) (λ s. false≢true (sym e ∙ sound_formed C size bs i s))
 
 -- the same of a directory's set
-pub sound_set : (y : Layout) (d : List ℕ) (dir : Allocation) (i : ℕ) → whole_set (bytes_in y d dir) i ≢ 0
+pub sound_set : (y : Layout) (d : List ℕ) (dir : Allocation) (i : ℕ) → set_fits (bytes_in y d dir) i ≡ true
     → well_formed y.count y.size (set_in y d dir i) ≡ is_sound y.count y.size (bytes_in y d dir) i
 unfolding set_in
 sound_set y d dir i h = sym (sound_whole (bytes_in y d dir) i y.count y.size h)
@@ -193,19 +189,6 @@ module _ (y : Layout) (d : List ℕ) (w : Fits y d) (dir : Allocation) (reads : 
     pub slot_known : Known y d dir (record { cluster = p.cluster; steps = 32 * i / y.size }) (32 * i)
     slot_known = record { reaches = sym cluster_is; inside = omega (arith, inside); before = omega (arith, split) }
 
-  -- what the answer of a slot's entry says
-  pub slot_none : (slot_entry y d dir i).cluster ≡ 0 → before_end (bytes_in y d dir) i ≡ false
-  slot_none z =
-      not_so (before_end (bytes_in y d dir) i)
-      (λ e. omega (arith, z, (slot_in (slot_entry y d dir i) (sym (slot_stands y d dir i e))).0))
-
-  pub slot_some : (slot_entry y d dir i).cluster ≢ 0 → (slot_entry y d dir i ≡ entry_place y d dir i) × (before_end (bytes_in y d dir) i ≡ true)
-  slot_some z = by (before_end (bytes_in y d dir) i) refl
-    where
-      by : (b : Bool) → before_end (bytes_in y d dir) i ≡ b → (slot_entry y d dir i ≡ entry_place y d dir i) × (before_end (bytes_in y d dir) i ≡ true)
-      by true e = (sym (slot_stands y d dir i e), e)
-      by false e = absurd (z (ap (λ (x : Cursor). x.cluster) (sym (slot_ends y d dir i e))))
-
 -- ---- the copy
 
 module _ (y : Layout) (d : List ℕ) (w : Fits y d) (dir : Allocation) (reads : number_of (stream_of y d dir) ≡ 0) (i n : ℕ) where
@@ -218,13 +201,13 @@ module _ (y : Layout) (d : List ℕ) (w : Fits y d) (dir : Allocation) (reads : 
 -- ---- what opening makes of 608 zeros
 
 module _ (y : Layout) (d : List ℕ) (dir : Allocation) (i : ℕ) where
-  pub read_none : whole_set (bytes_in y d dir) i ≡ 0 → replicate 608 0 ≡ set_read (bytes_in y d dir) i
+  pub read_none : set_fits (bytes_in y d dir) i ≡ false → replicate 608 0 ≡ set_read (bytes_in y d dir) i
   unfolding set_read
-  read_none e = rw (eq-eqb (whole_set (bytes_in y d dir) i) 0 e) refl
+  read_none e = rw e refl
 
-  pub read_some : whole_set (bytes_in y d dir) i ≢ 0 → set_in y d dir i ≡ set_read (bytes_in y d dir) i
+  pub read_some : set_fits (bytes_in y d dir) i ≡ true → set_in y d dir i ≡ set_read (bytes_in y d dir) i
   unfolding set_read set_in
-  read_some z = rw (ne_eqb (whole_set (bytes_in y d dir) i) 0 z) refl
+  read_some e = rw e refl
 
 -- ---- the record of a stream
 
@@ -428,10 +411,10 @@ module _ (y : Layout) (d m : List ℕ) (dir : Allocation) (i offset : ℕ) where
       let q : entry_cause y bs i ≡ 10 = unfold entry_cause in (rw e refl) in
       open_no 10 (cause_is y d m dir i ∙ cause_met (entry_cause y bs i) (directory_attribute_cause s ∷ stream_cause y d m a ∷ []) (λ z. omega arith) ∙ q) (λ z. omega arith)
 
-  pub file-none : whole_set (bytes_in y d dir) i ≡ 0 → no_file 10 ≡ open_file y d m dir i offset
+  pub file-none : set_fits (bytes_in y d dir) i ≡ false → no_file 10 ≡ open_file y d m dir i offset
   file-none e = unsound (sound_none bs i y.count y.size e)
 
-  module _ (some : whole_set (bytes_in y d dir) i ≢ 0) (c : ℕ) (e : c ≡ cond (well_formed y.count y.size (set_in y d dir i)) (directory_attribute_cause (set_in y d dir i)) 10) where
+  module _ (some : set_fits (bytes_in y d dir) i ≡ true) (c : ℕ) (e : c ≡ cond (well_formed y.count y.size (set_in y d dir i)) (directory_attribute_cause (set_in y d dir i)) 10) where
     sound_is : is_sound y.count y.size bs i ≡ well_formed y.count y.size s
     sound_is = sym (sound_set y d dir i some)
 
@@ -458,10 +441,10 @@ module _ (y : Layout) (d m : List ℕ) (dir : Allocation) (i offset : ℕ) where
     file_formed z = cause_formed y.count y.size s (sym e ∙ z)
 
     -- the stream's number is the file's
-    module _ (z : c ≡ 0) (o : Opened)
+    module _ (z : c ≡ 0) (o : OpenedStream)
         (q : o ≡ opened_stream y d m (file_record y d (set_in y d dir i)) (start_steps y.size (valid_length (set_in y d dir i)) offset (file_record y d (set_in y d dir i)).count)) where
       stream_number : o.number ≡ stream_cause y d m a
-      stream_number = ap (λ (x : Opened). x.number) q ∙ opened_number (stream_cause y d m a) a (place_at y d a begin)
+      stream_number = ap (λ (x : OpenedStream). x.number) q ∙ opened_number (stream_cause y d m a) a (place_at y d a begin)
 
       number_is : file_cause y d m dir i ≡ o.number
       number_is =
@@ -478,4 +461,4 @@ module _ (y : Layout) (d m : List ℕ) (dir : Allocation) (i offset : ℕ) where
       file-done t p u =
           let v : o ≡ record { number = 0; allocation = a; place = place_at y d a begin } =
           q ∙ sym (opened_yes (stream_cause y d m a) a (place_at y d a begin) (sym stream_number ∙ t)) in
-          ap₂ (λ (x : Spot) (z : Opened). record { number = 0; spot = x; stream = z.allocation; place = z.place }) u v ∙ (rw (number_is ∙ t) refl)
+          ap₂ (λ (x : Spot) (z : OpenedStream). record { number = 0; spot = x; stream = z.allocation; place = z.place }) u v ∙ (rw (number_is ∙ t) refl)

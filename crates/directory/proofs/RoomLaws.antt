@@ -8,7 +8,7 @@ use native.Mathlib.Omega.{arith}
 use lib.ListN.{length}
 use borrow.Author.Tests.{not-false}
 use Rattle.entry_set.specs.Fields.{clusters_for}
-use Rattle.search.specs.declared.found.Found.TheVariants.{At}
+use Rattle.std.specs.Prelude.{Some}
 use Rattle.search.specs.Search.{all_from, run_from}
 use Rattle.search.specs.Internal.{past_failing}
 use Rattle.search.proofs.Runs.{tail_pass, tail_fail, tail_bounds, tail_rest, tail_last, run_skip}
@@ -77,7 +77,7 @@ module _ (bs : List ℕ) (base n : ℕ) where
 
 module _ (size per : ℕ) (whole : 32 * per ≡ size) (pos : 1 ≤ per) (bs : List ℕ) (n : ℕ) (long : length bs ≡ 32 * entry_count bs) (base : ℕ)
     (low : base ≤ entry_count bs) (p : Passed bs n base) where
-  room_is : (at : free_run (with_zeros bs (32 * n)) n ≡ At base) (g : ℕ) → growth size bs n ≡ g → record { slot = base; clusters = g } ≡ room_for size bs n
+  room_is : (at : free_run (with_zeros bs (32 * n)) n ≡ Some base) (g : ℕ) → growth size bs n ≡ g → record { slot = base; clusters = g } ≡ room_for size bs n
   unfolding room_for slot_of
   room_is at g e =
       let q : slot_of (free_run (with_zeros bs (growth size bs n * size)) n) ≡ base = ap slot_of (grown_at bs n long base at size per (sym whole) pos) in

@@ -21,11 +21,6 @@ module _ (size valid offset n : ℕ) where
   unfolding start_steps
   start_here at e h = omega (arith, h, ap (λ (x : ℕ). x / size) e)
 
-  -- the last one, where the stream ends before
-  pub start_last : (at : ℕ) → at ≡ min valid offset → n ≤ at / size → n - 1 ≡ start_steps size valid offset n
-  unfolding start_steps
-  start_last at e h = omega (arith, h, ap (λ (x : ℕ). x / size) e)
-
   at_most : start_steps size valid offset n ≤ min valid offset / size
   unfolding start_steps
   at_most = omega arith

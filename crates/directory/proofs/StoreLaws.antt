@@ -19,7 +19,7 @@ use Rattle.tables.proofs.Cases.{clash, not_so}
 use Rattle.tables.proofs.TableLaws.{upd_case}
 use Rattle.entry_set.specs.Fields.{entry_type, secondary_count}
 use Rattle.entry_set.specs.Sound.{well_formed}
-use Rattle.search.specs.declared.found.Found.TheVariants.{At}
+use Rattle.std.specs.Prelude.{Some}
 use Rattle.search.proofs.Lowest.{Lowest, run_at}
 use Rattle.directory.specs.Entries.{entry_count, type_at, in_use, before_end, is_file, entries_at, set_at, is_sound}
 use Rattle.directory.specs.Internal.{sets}
@@ -268,7 +268,7 @@ module _ (C size : ℕ) (bs : List ℕ) (i n : ℕ) (s : List ℕ) (o : Ordered 
           (sets-none bs' i gone_file)
 
   -- a well-formed set over the lowest entries that are not in use
-  module _ (at : free_run bs n ≡ At i) (f : Fit C size n s) where
+  module _ (at : free_run bs n ≡ Some i) (f : Fit C size n s) where
     lowest : Lowest (λ k. not (in_use bs k)) (entry_count bs) n 0 i
     lowest = run_at (λ k. not (in_use bs k)) (entry_count bs) n 0 i (unfold free_run in at)
 

@@ -1,8 +1,10 @@
 -- What only contracts of inner functions, and proofs, speak of: no promise of a public call and no clause of the claim needs it.
-use Rattle.std.specs.Prelude.{◌≡◌, Bool, true, cond, ◌&&◌, List, [], ◌∷◌, ℕ, zero, suc, ◌+◌, ◌-◌, ◌*◌, ◌/◌, ◌%◌, ◌≤◌, ◌<◌, min, ltb, eqb, leb, length, get_or, drop, replicate}
-use Rattle.std.proofs.Math.Option.{Option, none, some}
+use Rattle.std.specs.Prelude.{◌≡◌, Bool, true, cond, ◌&&◌, Option, Some, None, List, [], ◌∷◌, ℕ, zero, suc, ◌+◌, ◌-◌, ◌*◌, ◌/◌, ◌%◌, ◌≤◌, ◌<◌, min, ltb, eqb, leb, length, get_or, drop, replicate, Result, Ok, Err}
+use Rattle.std.proofs.Math.Option.{Option as Maybe, none, some}
 use Rattle.boot.specs.declared.layout.Layout.{Layout}
 use Rattle.boot.specs.Layout.{in_heap}
+use Rattle.boot.specs.declared.cause.Cause.{Cause}
+use Rattle.boot.specs.Causes.{cause_number}
 use Rattle.metadata.specs.Fat.{fat_entry}
 use Rattle.stream.specs.declared.allocation.Allocation.{Allocation}
 use Rattle.stream.specs.declared.bytes.Place.{Place}
@@ -10,10 +12,9 @@ use Rattle.stream.specs.Internal.{after, reached, place_at}
 use Rattle.stream.specs.Bytes.{bytes_in}
 use Rattle.stream.specs.Stream.{empty, clusters_in}
 use Rattle.entry_set.specs.Fields.{valid_length}
-use Rattle.directory.specs.declared.directory.Directory.{Directory}
 use Rattle.directory.specs.declared.entries.Cursor.{Cursor}
 use Rattle.directory.specs.declared.entries.Room.{Room}
-use Rattle.directory.specs.declared.open_file.Opened.{Opened}
+use Rattle.directory.specs.declared.open_file.OpenStream.{OpenStream}
 use Rattle.directory.specs.declared.open_file.OpenFile.{OpenFile}
 use Rattle.directory.specs.declared.spot.Spot.{Spot}
 use Rattle.directory.specs.Directory.{root_record, directory_cause}
@@ -37,9 +38,9 @@ abbrev pub entry_place : (y : Layout) (d : List ℕ) (a : Allocation) (slot : �
 entry_place y d a slot =
     record { cluster = reached (fat_entry y d) a.no_fat_chain a.first (32 * slot / y.size); at = 32 * slot % y.size }
 
--- the same, with cluster 0 where an entry of type 0 stands before it
-unfoldable pub slot_entry : (y : Layout) (d : List ℕ) (a : Allocation) (slot : ℕ) → Cursor
-slot_entry y d a slot = cond (before_end (bytes_in y d a) slot) (entry_place y d a slot) (record { cluster = 0; at = 0 })
+-- the same, or none where an entry of type 0 stands before it
+unfoldable pub slot_entry : (y : Layout) (d : List ℕ) (a : Allocation) (slot : ℕ) → Option Cursor
+slot_entry y d a slot = cond (before_end (bytes_in y d a) slot) (Some (entry_place y d a slot)) None
 
 -- windows of n entries from entry i on, passed one after the other while the last entry of each is in use, `more` at most: where that stops
 unfoldable pub past_windows : List ℕ → ℕ → ℕ → ℕ → ℕ
@@ -50,7 +51,17 @@ past_windows bs n (suc more) i = cond (in_use bs (i + (n - 1))) (past_windows bs
 unfoldable pub past_used : (bs : List ℕ) (n i : ℕ) → ℕ
 past_used bs n i = past_windows bs n (length bs) i
 
--- the root opened: its record, or the number with the empty record
+-- what opening a directory tells: its record and number 0, or the number of what refuses it with the empty record
+pub record Directory : Type 0 where
+  pub number : ℕ
+  pub allocation : Allocation
+
+-- by what its function gives
+abbrev pub directory_opened : Result Allocation Cause → Directory
+directory_opened (Ok a) = record { number = 0; allocation = a }
+directory_opened (Err c) = record { number = cause_number c; allocation = empty }
+
+-- the root opened
 unfoldable pub open_root : Layout → List ℕ → ℕ → Directory
 open_root y d root =
     let a = root_record y d root in
@@ -63,30 +74,45 @@ room_for size bs n =
     let g = growth size bs n in
     record { slot = slot_of (free_run (with_zeros bs (g * size)) n); clusters = g }
 
--- the entries of the set at slot i where that has a file entry and its set has at most 19 entries and fits the directory; else 0
-unfoldable pub whole_set : List ℕ → ℕ → ℕ
-whole_set bs i =
-    cond (is_file bs i && (leb (entries_at bs i) 19 && leb (i + entries_at bs i) (entry_count bs))) (entries_at bs i) 0
+-- slot i has a file entry, and its set has at most 19 entries and fits the directory
+unfoldable pub set_fits : List ℕ → ℕ → Bool
+set_fits bs i = is_file bs i && (leb (entries_at bs i) 19 && leb (i + entries_at bs i) (entry_count bs))
+
+-- the entries of the set at slot i where that fits
+unfoldable pub whole_set : List ℕ → ℕ → Option ℕ
+whole_set bs i = cond (set_fits bs i) (Some (entries_at bs i)) None
 
 -- the 608 bytes that opening fills: the set where there is one, else zeros
 unfoldable pub set_read : List ℕ → ℕ → List ℕ
-set_read bs i = cond (eqb (whole_set bs i) 0) (replicate 608 0) (set_at bs i)
+set_read bs i = cond (set_fits bs i) (set_at bs i) (replicate 608 0)
 
 -- the set at each slot that has a file entry
-unfoldable pub sets : List ℕ → ℕ → Option (List ℕ)
+unfoldable pub sets : List ℕ → ℕ → Maybe (List ℕ)
 sets bs i = cond (is_file bs i) (some (set_at bs i)) none
 
 -- no place
 abbrev pub no_place : Place
 no_place = record { cluster = 0; steps = 0 }
 
+-- what opening a stream tells: its record and the place where a call begins in it with number 0, or the number of what refuses it with the
+-- empty record and no place
+pub record OpenedStream : Type 0 where
+  pub number : ℕ
+  pub allocation : Allocation
+  pub place : Place
+
+-- by what its function gives
+abbrev pub stream_opened : Result OpenStream Cause → OpenedStream
+stream_opened (Ok o) = record { number = 0; allocation = o.allocation; place = o.place }
+stream_opened (Err c) = record { number = cause_number c; allocation = empty; place = no_place }
+
 -- a number with a record and a place, which are empty and none beside a refusal
-unfoldable pub opened : ℕ → Allocation → Place → Opened
+unfoldable pub opened : ℕ → Allocation → Place → OpenedStream
 opened n a p =
     cond (eqb n 0) (record { number = 0; allocation = a; place = p }) (record { number = n; allocation = empty; place = no_place })
 
 -- a stream's record and the place `goal` steps along it; or the number of what refuses it
-abbrev pub opened_stream : (y : Layout) (d m : List ℕ) (a : Allocation) (goal : ℕ) → Opened
+abbrev pub opened_stream : (y : Layout) (d m : List ℕ) (a : Allocation) (goal : ℕ) → OpenedStream
 opened_stream y d m a goal = opened (stream_cause y d m a) a (place_at y d a goal)
 
 -- how many steps lead to where a call on the bytes from an offset on begins, in a stream of so many clusters: to the cluster of the lesser
@@ -111,21 +137,34 @@ pub record Reaches (y : Layout) (s : Spot) (n : ℕ) : Type 0 where
   pub two : y.size < s.at + 32 * n → in_heap y.count s.second ≡ true
   pub three : 2 * y.size < s.at + 32 * n → in_heap y.count s.third ≡ true
 
+-- what opening a file tells: where its set stands, its stream's record and the place where a call begins in it with number 0, or the number
+-- of what refuses it with no spot, the empty record and no place
+pub record OpenedFile : Type 0 where
+  pub number : ℕ
+  pub spot : Spot
+  pub stream : Allocation
+  pub place : Place
+
 -- no file: a number with no spot and the empty record
-abbrev pub no_file : ℕ → OpenFile
+abbrev pub no_file : ℕ → OpenedFile
 no_file n = record { number = n; spot = record { first = 0; second = 0; third = 0; at = 0 }; stream = empty; place = no_place }
+
+-- by what its function gives
+abbrev pub file_opened : Result OpenFile Cause → OpenedFile
+file_opened (Ok f) = record { number = 0; spot = f.spot; stream = f.stream; place = f.place }
+file_opened (Err c) = no_file (cause_number c)
 
 -- where a call on the bytes from an offset on begins in stream b of the file of set s
 abbrev pub start_place : (y : Layout) (d : List ℕ) (b : Allocation) (s : List ℕ) (offset : ℕ) → Place
 start_place y d b s offset = place_at y d b (start_steps y.size (valid_length s) offset b.count)
 
 -- the file at a slot of directory a: where its set stands, its stream's record, and where a call on the bytes from an offset on begins
-unfoldable pub found_file : (y : Layout) (d : List ℕ) (a : Allocation) (slot offset : ℕ) → OpenFile
+unfoldable pub found_file : (y : Layout) (d : List ℕ) (a : Allocation) (slot offset : ℕ) → OpenedFile
 found_file y d a slot offset =
     let s = set_in y d a slot in
     let b = file_record y d s in
     record { number = 0; spot = spot_of y d a slot; stream = b; place = start_place y d b s offset }
 
 -- the same opened, or the number of what refuses it
-unfoldable pub open_file : (y : Layout) (d m : List ℕ) (a : Allocation) (slot offset : ℕ) → OpenFile
+unfoldable pub open_file : (y : Layout) (d m : List ℕ) (a : Allocation) (slot offset : ℕ) → OpenedFile
 open_file y d m a slot offset = let n = file_cause y d m a slot in cond (eqb n 0) (found_file y d a slot offset) (no_file n)

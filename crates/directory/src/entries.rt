@@ -1,5 +1,5 @@
 // The entries of a directory gone through one after the other, each cluster entered once.
-ghost use Rattle.std.specs.Prelude.{◌≡◌, true, not, ◌+◌, ◌-◌, ◌*◌, ◌/◌, ◌≤◌, ◌<◌, eqb, length};
+ghost use Rattle.std.specs.Prelude.{◌≡◌, not, ◌+◌, ◌-◌, ◌*◌, ◌/◌, ◌≤◌, ◌<◌, eqb, length};
 ghost use Rattle.primitives.specs.Bits.{bit_of};
 ghost use Rattle.boot.specs.Internal.{Laid, Apart};
 ghost use Rattle.metadata.specs.Fat.{fat_entry};
@@ -77,27 +77,14 @@ pub fn entry_count(vol: &[u8], y: Layout, dir: Allocation) -> u32
     dir.count * ((y.size / 32) as u32)
 }
 
-// Whether none of the first n entries of a part has type 0. Two entries a turn: a loop of one is so short that each turn costs a cycle
-// more where the compiler lays it across a border of 64 bytes.
+// Whether none of the first n entries of a part has type 0. One entry a turn takes twice the time of two.
 fn none_ends(part: &[u8], n: u32) -> bool
     requires { (32 * n ≤ length part.now) × (n ≤ 1024) }
     ensures { result ≡ before_end part.now n }
 {
-    let end = 32 * (n as usize);
-    let mut at: usize = 0;
-    while at + 32 < end {
-        if part[at] == 0 {
-            return false;
-        }
-        if part[at + 32] == 0 {
-            return false;
-        }
-        at += 64;
-    }
-    if at < end {
-        return part[at] != 0;
-    }
-    true
+    let mut pairs = part[..32 * (n as usize)].chunks_exact(64);
+    let last = pairs.remainder();
+    pairs.all(|e| e[0] != 0 && e[32] != 0) && (last.is_empty() || last[0] != 0)
 }
 
 // The same of a cluster. Its part of the volume is handed on.
@@ -110,29 +97,27 @@ fn none_ends_in(vol: &[u8], y: Layout, k: u32, n: u32) -> bool
     none_ends(&vol[a..e], n)
 }
 
-// The entry of a slot, with cluster 0 where an entry of type 0 stands before it.
-pub fn slot_entry(vol: &[u8], y: Layout, dir: Allocation, slot: u32) -> Cursor
+// The entry of a slot, or none where an entry of type 0 stands before it.
+pub fn slot_entry(vol: &[u8], y: Layout, dir: Allocation, slot: u32) -> Option<Cursor>
     requires { Laid y × ((length vol.now ≡ y.len) × (Apart y × ((number_of (stream_of y vol.now dir) ≡ 0) × (slot < entry_count (bytes_in y vol.now dir))))) }
     ensures { result ≡ slot_entry y vol.now dir slot }
 {
     let per = (y.size / 32) as u32;
     let mut k = dir.first;
-    let mut left = slot;
-    while per <= left {
-        if none_ends_in(vol, y, k, per) {
-            k = stream::walk::next_cluster(vol, y, dir.no_fat_chain, k);
-            left -= per;
-        } else {
-            return Cursor { cluster: 0, at: 0 };
+    for _ in 0..slot / per {
+        if !none_ends_in(vol, y, k, per) {
+            return None;
         }
+        k = stream::walk::next_cluster(vol, y, dir.no_fat_chain, k);
     }
-    if none_ends_in(vol, y, k, left) {
-        return Cursor {
-            cluster: k,
-            at: 32 * (left as usize),
-        };
+    let rest = slot % per;
+    if !none_ends_in(vol, y, k, rest) {
+        return None;
     }
-    Cursor { cluster: 0, at: 0 }
+    Some(Cursor {
+        cluster: k,
+        at: 32 * (rest as usize),
+    })
 }
 
 // The entry m entries after entry k, which e is.
@@ -148,7 +133,7 @@ fn skip(vol: &[u8], y: Layout, dir: Allocation, e: Cursor, k: u32, m: u32) -> Cu
         more -= per;
     }
     Cursor {
-        cluster: cluster,
+        cluster,
         at: 32 * (more as usize),
     }
 }
@@ -159,28 +144,21 @@ fn last_used(vol: &[u8], y: Layout, dir: Allocation, e: Cursor, base: u32, n: u3
     ensures { (result.slot ≡ past_failing (λ i. not (in_use (bytes_in y vol.now dir) i)) base n) × (result.entry ≡ entry_at y (fat_entry y vol.now) dir.no_fat_chain dir.first result.slot) }
 {
     let mut at = e;
-    let mut tail = e;
-    let mut slot = base;
-    let mut k = base;
-    let mut left = n;
-    while 0 < left {
-        let next = advance(vol, y, dir.no_fat_chain, at);
-        if in_use(vol, y, at) {
-            tail = next;
-            slot = k + 1;
-            at = next;
-            k += 1;
-            left -= 1;
-        } else {
-            at = next;
-            k += 1;
-            left -= 1;
+    let mut tail = Tail {
+        slot: base,
+        entry: e,
+    };
+    for k in base..base + n {
+        let used = in_use(vol, y, at);
+        at = advance(vol, y, dir.no_fat_chain, at);
+        if used {
+            tail = Tail {
+                slot: k + 1,
+                entry: at,
+            };
         }
     }
-    Tail {
-        slot: slot,
-        entry: tail,
-    }
+    tail
 }
 
 // The same, where the last of the n entries is looked at first.
@@ -190,10 +168,9 @@ fn past_used(vol: &[u8], y: Layout, dir: Allocation, e: Cursor, base: u32, n: u3
 {
     let last = skip(vol, y, dir, e, base, n - 1);
     if in_use(vol, y, last) {
-        let next = advance(vol, y, dir.no_fat_chain, last);
         return Tail {
             slot: base + n,
-            entry: next,
+            entry: advance(vol, y, dir.no_fat_chain, last),
         };
     }
     last_used(vol, y, dir, e, base, n - 1)
@@ -205,15 +182,10 @@ fn used_windows(part: &[u8], first: u32, n: u32) -> u32
     requires { (length part.now ≤ 32768) × ((first ≤ 1024) × ((1 ≤ n) × (n ≤ 19))) }
     ensures { result ≡ past_used part.now n first }
 {
-    let end = part.len();
     let last = 32 * ((n - 1) as usize);
     let mut at = 32 * (first as usize);
-    while at + last < end {
-        if primitives::bits::bit_test(part[at + last], 7) {
-            at += last + 32;
-        } else {
-            return (at / 32) as u32;
-        }
+    while at + last < part.len() && primitives::bits::bit_test(part[at + last], 7) {
+        at += last + 32;
     }
     (at / 32) as u32
 }
@@ -238,23 +210,18 @@ fn pass_used(vol: &[u8], y: Layout, dir: Allocation, e: Cursor, base: u32, n: u3
     let slot = base + (to - from);
     let at = 32 * (to as usize);
     if at < y.size {
-        let here = Cursor {
-            cluster: e.cluster,
-            at: at,
-        };
         return Tail {
-            slot: slot,
-            entry: here,
+            slot,
+            entry: Cursor {
+                cluster: e.cluster,
+                at,
+            },
         };
     }
     let cluster = stream::walk::next_cluster(vol, y, dir.no_fat_chain, e.cluster);
-    let next = Cursor {
-        cluster: cluster,
-        at: 0,
-    };
     Tail {
-        slot: slot,
-        entry: next,
+        slot,
+        entry: Cursor { cluster, at: 0 },
     }
 }
 
@@ -289,9 +256,9 @@ pub fn free_run(vol: &[u8], y: Layout, dir: Allocation, need: u32) -> Room
         }
     }
     let t = last_used(vol, y, dir, e, base, total - base);
-    let missing = (t.slot + need - total) as usize;
+    let missing = t.slot + need - total;
     Room {
         slot: t.slot,
-        clusters: ((32 * missing + (y.size - 1)) / y.size) as u32,
+        clusters: entry_set::entry::clusters_for(y.size, 32 * (missing as u64)) as u32,
     }
 }

@@ -13,6 +13,7 @@ use boot::layout::Layout;
 use stream::allocation::Allocation;
 
 // The clusters that a set reaches, three at most, 0 where there is none, and the byte in the first one.
+// Kept: 0 is no cluster's number, and the definition lists the three as a stream's clusters are listed.
 #[derive(Clone, Copy)]
 pub struct Spot {
     pub first: u32,
@@ -42,8 +43,8 @@ pub fn spot_from(vol: &[u8], y: Layout, dir: Allocation, slot: u32, e: Cursor) -
     let third = cluster_after(vol, y, dir.no_fat_chain, second, left - 1);
     Spot {
         first: e.cluster,
-        second: second,
-        third: third,
+        second,
+        third,
         at: e.at,
     }
 }

@@ -5,13 +5,17 @@ use Rattle.primitives.specs.Checksum.{checksum}
 use Rattle.primitives.specs.Words.{put_le}
 use Rattle.entry_set.specs.declared.stamp.Stamp.{Stamp}
 
+-- a stamp with an increment: 4 bytes, the increment and the offset, each at its place
+abbrev pub put_stamp : (value increment offset : ℕ) → List ℕ → Stamp → List ℕ
+put_stamp value increment offset s t = set (set (put_le 4 s value t.value) increment t.increment) offset t.offset
+
 -- the created stamp: 4 bytes at 8, increment at 20, offset at 22
 unfoldable pub put_created : List ℕ → Stamp → List ℕ
-put_created s t = set (set (put_le 4 s 8 t.value) 20 t.increment) 22 t.offset
+put_created s t = put_stamp 8 20 22 s t
 
 -- the modified stamp: at 12, 21 and 23
 unfoldable pub put_modified : List ℕ → Stamp → List ℕ
-put_modified s t = set (set (put_le 4 s 12 t.value) 21 t.increment) 23 t.offset
+put_modified s t = put_stamp 12 21 23 s t
 
 -- the accessed stamp: at 16 and 24, no increment
 unfoldable pub put_accessed : List ℕ → Stamp → List ℕ

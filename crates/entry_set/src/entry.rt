@@ -1,5 +1,5 @@
 // The fields of a set in an array of 608 bytes, and whether the set is that of a sound file entry.
-ghost use Rattle.std.specs.Prelude.{◌≡◌, ◌&&◌, ◌||◌, not, ◌+◌, ◌≤◌, ◌<◌, eqb, leb};
+ghost use Rattle.std.specs.Prelude.{◌≡◌, ◌&&◌, ◌||◌, not, ◌+◌, ◌≤◌, ◌<◌, leb};
 ghost use Rattle.boot.specs.Layout.{in_heap};
 ghost use Rattle.entry_set.specs.Fields.{secondary_count, set_checksum, is_directory, allocation_possible, no_fat_chain, name_length, valid_length, first_cluster, data_length, clusters_for};
 ghost use Rattle.entry_set.specs.Sound.{head_ok, stream_entry_ok, names_ok, lengths_ok, well_formed};
@@ -10,7 +10,7 @@ use crate::set::name_entries;
 pub fn secondary_count(set: &[u8; 608]) -> usize
     ensures { (result ≡ secondary_count set.now) × (result < 256) }
 {
-    primitives::words::wide(set[1]) as usize
+    usize::from(set[1])
 }
 
 // The checksum that the set has stored.
@@ -45,7 +45,7 @@ pub fn no_fat_chain(set: &[u8; 608]) -> bool
 fn name_length(set: &[u8; 608]) -> usize
     ensures { (result ≡ name_length set.now) × (result < 256) }
 {
-    primitives::words::wide(set[35]) as usize
+    usize::from(set[35])
 }
 
 // How many bytes of the stream were ever written.
@@ -69,16 +69,12 @@ pub fn data_length(set: &[u8; 608]) -> u64
     primitives::words::u64_at(set, 56)
 }
 
-// The clusters that len bytes take: the quotient, and one more where a rest is left.
+// The clusters that len bytes take, the last one perhaps in part.
 pub fn clusters_for(size: usize, len: u64) -> u64
     requires { 1 ≤ size }
     ensures { result ≡ clusters_for size len }
 {
-    let whole = len / (size as u64);
-    if len % (size as u64) == 0 {
-        return whole;
-    }
-    whole + 1
+    len.div_ceil(size as u64)
 }
 
 // The file entry's type, and its count that fits the name's length.
@@ -87,19 +83,7 @@ fn head_ok(set: &[u8; 608]) -> bool
 {
     let n = secondary_count(set);
     let units = name_length(set);
-    if set[0] != 0x85 {
-        return false;
-    }
-    if n < 2 {
-        return false;
-    }
-    if 18 < n {
-        return false;
-    }
-    if n != 1 + name_entries(units) {
-        return false;
-    }
-    units != 0
+    set[0] == 0x85 && (2..=18).contains(&n) && n == 1 + name_entries(units) && units != 0
 }
 
 // The checksum, and the stream extension's type and flag.
@@ -107,14 +91,8 @@ fn stream_entry_ok(set: &[u8; 608]) -> bool
     requires { secondary_count set.now ≤ 18 }
     ensures { result ≡ stream_entry_ok set.now }
 {
-    let n = 1 + secondary_count(set);
-    if set_checksum(set) != primitives::checksum::array_checksum(set, 32 * n) {
-        return false;
-    }
-    if set[32] != 0xC0 {
-        return false;
-    }
-    allocation_possible(set)
+    let sum = primitives::checksum::array_checksum(set, 32 * (1 + secondary_count(set)));
+    set_checksum(set) == sum && set[32] == 0xC0 && allocation_possible(set)
 }
 
 // The types and flags of the first n name entries.
@@ -122,27 +100,7 @@ fn names_ok(set: &[u8; 608], n: usize) -> bool
     requires { n ≤ 17 }
     ensures { result ≡ names_ok set.now n }
 {
-    let mut i = 0;
-    while i < n {
-        if set[32 * (2 + i)] != 0xC1 {
-            return false;
-        }
-        if set[32 * (2 + i) + 1] % 4 != 0 {
-            return false;
-        }
-        i += 1;
-    }
-    true
-}
-
-// An empty stream has first cluster 0 and no run flag.
-fn empty_ok(first: u32, run: bool) -> bool
-    ensures { result ≡ eqb first 0 && not run }
-{
-    if first != 0 {
-        return false;
-    }
-    !run
+    (0..n).all(|i| set[32 * (2 + i)] == 0xC1 && set[32 * (2 + i) + 1] % 4 == 0)
 }
 
 // A stream of n clusters begins in the heap, has no more clusters than the heap and, as a run, ends in it.
@@ -150,36 +108,26 @@ fn clusters_ok(count: u32, first: u32, run: bool, n: u64) -> bool
     requires { count ≤ 32768 }
     ensures { result ≡ in_heap count first && (leb n count && (not run || leb (first + n) (count + 2))) }
 {
-    if !boot::layout::in_heap(count, first) {
-        return false;
-    }
-    if (count as u64) < n {
-        return false;
-    }
-    if !run {
-        return true;
-    }
-    first as u64 + n <= count as u64 + 2
+    boot::layout::in_heap(count, first)
+        && n <= u64::from(count)
+        && (!run || u64::from(first) + n <= u64::from(count) + 2)
 }
 
-// The stream's lengths, first cluster and run flag.
+// The stream's lengths, first cluster and run flag: an empty stream has first cluster 0 and no run flag.
 fn lengths_ok(set: &[u8; 608], count: u32, size: usize) -> bool
     requires { (1 ≤ size) × (count ≤ 32768) }
     ensures { result ≡ lengths_ok count size set.now }
 {
     let len = data_length(set);
+    let first = first_cluster(set);
+    let run = no_fat_chain(set);
     if len < valid_length(set) {
-        return false;
+        false
+    } else if len == 0 {
+        first == 0 && !run
+    } else {
+        clusters_ok(count, first, run, clusters_for(size, len))
     }
-    if len == 0 {
-        return empty_ok(first_cluster(set), no_fat_chain(set));
-    }
-    clusters_ok(
-        count,
-        first_cluster(set),
-        no_fat_chain(set),
-        clusters_for(size, len),
-    )
 }
 
 // Whether the set's bytes are those of a sound file entry.
@@ -187,14 +135,8 @@ pub fn well_formed(set: &[u8; 608], count: u32, size: usize) -> bool
     requires { (1 ≤ size) × (count ≤ 32768) }
     ensures { result ≡ well_formed count size set.now }
 {
-    if !head_ok(set) {
-        return false;
-    }
-    if !stream_entry_ok(set) {
-        return false;
-    }
-    if !names_ok(set, name_entries(name_length(set))) {
-        return false;
-    }
-    lengths_ok(set, count, size)
+    head_ok(set)
+        && stream_entry_ok(set)
+        && names_ok(set, name_entries(name_length(set)))
+        && lengths_ok(set, count, size)
 }

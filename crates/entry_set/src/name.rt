@@ -13,78 +13,40 @@ const SETTABLE_ATTRIBUTES: u16 = 0x27;
 fn is_refused(u: u16) -> bool
     ensures { result ≡ member u refused_units }
 {
-    let mut i = 0;
-    while i < REFUSED.len() {
-        if REFUSED[i] == u {
-            return true;
-        }
-        i += 1;
-    }
-    false
+    REFUSED.contains(&u)
 }
 
 // Whether a name may have the unit u.
 fn unit_ok(u: u16) -> bool
     ensures { result ≡ unit_ok u }
 {
-    if u < 32 {
-        return false;
-    }
-    !is_refused(u)
+    u >= 32 && !is_refused(u)
 }
 
 // Whether a name may have each of its units.
 fn units_ok(name: &[u16]) -> bool
     ensures { result ≡ every unit_ok name.now }
 {
-    let mut i = 0;
-    while i < name.len() {
-        if !unit_ok(name[i]) {
-            return false;
-        }
-        i += 1;
-    }
-    true
+    name.iter().all(|u| unit_ok(*u))
 }
 
 // Whether the name is "." or "..".
 fn is_dots(name: &[u16]) -> bool
     ensures { result ≡ is_dots name.now }
 {
-    if name.len() == 1 {
-        return name[0] == 46;
-    }
-    if name.len() != 2 {
-        return false;
-    }
-    if name[0] != 46 {
-        return false;
-    }
-    name[1] == 46
+    name == [46].as_slice() || name == [46, 46].as_slice()
 }
 
 // Whether a new file may have the name (Rust: `file_name`).
 pub fn name_ok(name: &[u16]) -> bool
     ensures { result ≡ name_ok name.now }
 {
-    if name.len() < 1 {
-        return false;
-    }
-    if 255 < name.len() {
-        return false;
-    }
-    if !units_ok(name) {
-        return false;
-    }
-    !is_dots(name)
+    !name.is_empty() && name.len() <= 255 && units_ok(name) && !is_dots(name)
 }
 
 // Whether a new file may have the attributes.
 pub fn attributes_ok(attributes: u16) -> bool
     ensures { result ≡ attributes_ok attributes }
 {
-    if 63 < attributes {
-        return false;
-    }
     attributes & !SETTABLE_ATTRIBUTES == 0
 }

@@ -1,65 +1,52 @@
 // A set built, changed and unset in an array of 608 bytes, before anything is stored.
-ghost use Rattle.std.specs.Prelude.{◌≡◌, cond, ◌+◌, ◌≤◌, ◌<◌, length};
+ghost use Rattle.std.specs.Prelude.{◌≡◌, ◌+◌, ◌≤◌, ◌<◌, length};
 ghost use Rattle.entry_set.specs.Fields.{name_entries};
-ghost use Rattle.entry_set.specs.Put.{put_created, put_modified, put_accessed, put_stream, archived, sealed, refreshed, cleared};
+ghost use Rattle.entry_set.specs.Put.{put_stamp, put_modified, put_accessed, put_stream, archived, sealed, refreshed, cleared};
 ghost use Rattle.entry_set.specs.New.{new_file_entry, new_stream_entry, put_types, unit_at, put_units, new_set};
 
 use crate::stamp::{Stamp, Stamps};
 use primitives::checksum::array_checksum;
 
-// Puts the created stamp.
-fn set_created(set: &mut [u8], t: Stamp)
-    requires { length set.old ≡ 608 }
-    ensures { set.new ≡ put_created set.old t }
+// Puts a stamp that has an increment: its 4 bytes, its increment and its offset at their places.
+fn set_stamp<const VALUE: usize, const INCREMENT: usize, const OFFSET: usize>(
+    set: &mut [u8; 608],
+    t: Stamp,
+)
+    requires { (VALUE + 4 ≤ 608) × ((INCREMENT < 608) × (OFFSET < 608)) }
+    ensures { set.new ≡ put_stamp VALUE INCREMENT OFFSET set.old t }
 {
-    primitives::words::put_u32(set, 8, t.value);
-    set[20] = t.increment;
-    set[22] = t.offset;
+    primitives::words::put_u32(set, VALUE, t.value);
+    set[INCREMENT] = t.increment;
+    set[OFFSET] = t.offset;
 }
 
 // Puts the modified stamp.
-fn set_modified(set: &mut [u8], t: Stamp)
-    requires { length set.old ≡ 608 }
+fn set_modified(set: &mut [u8; 608], t: Stamp)
     ensures { set.new ≡ put_modified set.old t }
 {
-    primitives::words::put_u32(set, 12, t.value);
-    set[21] = t.increment;
-    set[23] = t.offset;
+    set_stamp::<12, 21, 23>(set, t);
 }
 
 // Puts the accessed stamp, which has no increment.
-fn set_accessed(set: &mut [u8], t: Stamp)
-    requires { length set.old ≡ 608 }
+fn set_accessed(set: &mut [u8; 608], t: Stamp)
     ensures { set.new ≡ put_accessed set.old t }
 {
     primitives::words::put_u32(set, 16, t.value);
     set[24] = t.offset;
 }
 
-// The flags byte of a stream: bit 0 always, bit 1 for a run.
-fn flags(no_fat_chain: bool) -> u8
-    ensures { result ≡ cond no_fat_chain 3 1 }
-{
-    if no_fat_chain {
-        return 3;
-    }
-    1
-}
-
-// Puts the stream: flags, valid length, first cluster, length.
-fn set_stream(set: &mut [u8], first: u32, no_fat_chain: bool, valid: u64, len: u64)
-    requires { length set.old ≡ 608 }
+// Puts the stream: flags (bit 0 always, bit 1 for a run), valid length, first cluster, length.
+fn set_stream(set: &mut [u8; 608], first: u32, no_fat_chain: bool, valid: u64, len: u64)
     ensures { set.new ≡ put_stream set.old first no_fat_chain valid len }
 {
-    set[33] = flags(no_fat_chain);
+    set[33] = if no_fat_chain { 3 } else { 1 };
     primitives::words::put_u64(set, 40, valid);
     primitives::words::put_u32(set, 52, first);
     primitives::words::put_u64(set, 56, len);
 }
 
 // Sets the Archive attribute.
-fn set_archive(set: &mut [u8])
-    requires { length set.old ≡ 608 }
+fn set_archive(set: &mut [u8; 608])
     ensures { set.new ≡ archived set.old }
 {
     set[4] = primitives::bits::bit_set(set[4], 5);
@@ -106,10 +93,8 @@ pub fn cleared(set: &mut [u8; 608], n: usize)
     requires { n ≤ 19 }
     ensures { set.new ≡ cleared set.old n }
 {
-    let mut i = 0;
-    while i < n {
+    for i in 0..n {
         set[32 * i] = primitives::bits::bit_clear(set[32 * i], 7);
-        i += 1;
     }
 }
 
@@ -122,24 +107,21 @@ pub fn name_entries(n: usize) -> usize
 }
 
 // Puts the file entry of a new set.
-fn new_file_entry(set: &mut [u8], n: usize, attributes: u16, t: Stamps)
-    requires { (length set.old ≡ 608) × (n ≤ 255) }
+fn new_file_entry(set: &mut [u8; 608], n: usize, attributes: u16, t: Stamps)
+    requires { n ≤ 255 }
     ensures { set.new ≡ new_file_entry set.old n attributes t }
 {
-    let created = t.created;
-    let modified = t.modified;
-    let accessed = t.accessed;
     set[0] = 0x85;
     set[1] = (1 + name_entries(n)) as u8;
     primitives::words::put_u16(set, 4, attributes);
-    set_created(set, created);
-    set_modified(set, modified);
-    set_accessed(set, accessed);
+    set_stamp::<8, 20, 22>(set, t.created);
+    set_modified(set, t.modified);
+    set_accessed(set, t.accessed);
 }
 
 // Puts the stream extension entry of a new set.
-fn new_stream_entry(set: &mut [u8], n: usize, hash: u16)
-    requires { (length set.old ≡ 608) × (n ≤ 255) }
+fn new_stream_entry(set: &mut [u8; 608], n: usize, hash: u16)
+    requires { n ≤ 255 }
     ensures { set.new ≡ new_stream_entry set.old n hash }
 {
     set[32] = 0xC0;
@@ -149,14 +131,12 @@ fn new_stream_entry(set: &mut [u8], n: usize, hash: u16)
 }
 
 // Puts the types of the first n name entries.
-fn put_types(set: &mut [u8], n: usize)
-    requires { (length set.old ≡ 608) × (n ≤ 17) }
+fn put_types(set: &mut [u8; 608], n: usize)
+    requires { n ≤ 17 }
     ensures { set.new ≡ put_types set.old n }
 {
-    let mut i = 0;
-    while i < n {
+    for i in 0..n {
         set[64 + 32 * i] = 0xC1;
-        i += 1;
     }
 }
 
@@ -169,14 +149,12 @@ fn unit_at(i: usize) -> usize
 }
 
 // Puts the units of the name.
-fn put_units(set: &mut [u8], name: &[u16])
-    requires { (length set.old ≡ 608) × (length name.now ≤ 255) }
+fn put_units(set: &mut [u8; 608], name: &[u16])
+    requires { length name.now ≤ 255 }
     ensures { set.new ≡ put_units set.old name.now (length name.now) }
 {
-    let mut i = 0;
-    while i < name.len() {
-        primitives::words::put_u16(set, unit_at(i), name[i]);
-        i += 1;
+    for (i, unit) in name.iter().enumerate() {
+        primitives::words::put_u16(set, unit_at(i), *unit);
     }
 }
 

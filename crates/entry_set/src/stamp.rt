@@ -19,13 +19,13 @@ pub struct Stamps {
 }
 
 // The stamp whose 6 bytes stand from byte `at` on: the value low byte first, the increment, the offset.
+// Kept: callers hold the bytes inside longer arrays, and From would have each of them cut out an array of its own first.
 pub fn stamp_at(bytes: &[u8], at: usize) -> Stamp
     requires { at + 6 ≤ length bytes.now }
     ensures { result ≡ stamp_at bytes.now at }
 {
-    let value = primitives::words::u32_at(bytes, at);
     Stamp {
-        value: value,
+        value: primitives::words::u32_at(bytes, at),
         increment: bytes[at + 4],
         offset: bytes[at + 5],
     }
@@ -36,12 +36,9 @@ pub fn stamps_at(bytes: &[u8], at: usize) -> Stamps
     requires { at + 18 ≤ length bytes.now }
     ensures { result ≡ stamps_at bytes.now at }
 {
-    let created = stamp_at(bytes, at);
-    let modified = stamp_at(bytes, at + 6);
-    let accessed = stamp_at(bytes, at + 12);
     Stamps {
-        created: created,
-        modified: modified,
-        accessed: accessed,
+        created: stamp_at(bytes, at),
+        modified: stamp_at(bytes, at + 6),
+        accessed: stamp_at(bytes, at + 12),
     }
 }

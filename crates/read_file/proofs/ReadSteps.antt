@@ -1,16 +1,14 @@
 -- A read as the code meets its causes, and the file that it opens. Assumes nothing.
 use mathlib.Core.Path.{◌≡◌, refl, sym, ◌∙◌, ap}
-use mathlib.Core.Bool.{Bool, true, false, ◌&&◌, cond}
+use mathlib.Core.Bool.{Bool, true, false, cond}
 use mathlib.Core.List.{List, [], ◌∷◌}
-use Prim.Native.Nat.{ℕ, suc, ◌+◌, ◌*◌, ◌/◌, ◌≤◌, ◌<◌}
+use Prim.Native.Nat.{ℕ, ◌*◌, ◌/◌, ◌≤◌, ◌<◌}
 use native.Mathlib.Nat.{div-lt_iff_lt-mul}
 use native.Mathlib.Omega.{arith}
 use lib.Dec.{eqb}
-use lib.ListN.{length, get_or, drop, replicate, drop_of_length-le}
-use lib.Seq.{drop-cons}
+use lib.ListN.{length, get_or, replicate}
 use borrow.Author.Tests.{eq-eqb, ne_eqb, eqb-true}
 use Rattle.tables.specs.Lists.{every}
-use Rattle.tables.proofs.Cases.{and_assoc, and-true}
 use Rattle.boot.specs.declared.geometry.Geometry.{Geometry}
 use Rattle.boot.specs.declared.layout.Layout.{Layout}
 use Rattle.boot.specs.Geometry.{root_cluster}
@@ -26,10 +24,9 @@ use Rattle.stream.specs.Stream.{number_of, stream_of, clusters_in}
 use Rattle.stream.specs.Bytes.{bytes_in}
 use Rattle.entry_set.specs.Fields.{valid_length}
 use Rattle.entry_set.specs.Sound.{well_formed}
-use Rattle.directory.specs.declared.open_file.OpenFile.{OpenFile}
 use Rattle.directory.specs.Directory.{root_record, directory_cause}
 use Rattle.directory.specs.Open.{file_record, set_in, file_cause}
-use Rattle.directory.specs.Internal.{set_read, no_file, start_place, found_file, open_file}
+use Rattle.directory.specs.Internal.{OpenedFile, set_read, no_file, start_place, found_file, open_file}
 use Rattle.directory.proofs.DirectoryLaws.{clusters_along, clusters_length}
 use Rattle.directory.proofs.CursorLaws.{along_at}
 use Rattle.directory.proofs.EntryLaws.{sound_formed}
@@ -41,18 +38,6 @@ use Rattle.read_file.specs.Read.{zero_cause, read_cause, file_part, read_in, rea
 use Rattle.read_file.specs.Internal.{Readable, root_file, root_file_set}
 
 -- ---- the zeros
-
--- what is left to look at
-pub zeros_left : (z : List ℕ) (i : ℕ) (all : Bool) → i < length z
-    → (all && eqb (get_or z i 0) 0) && every (λ b. eqb b 0) (drop (i + 1) z) ≡ all && every (λ b. eqb b 0) (drop i z)
-zeros_left z i all h =
-    let j : suc i ≡ i + 1 = omega arith in
-    let s : drop i z ≡ get_or z i 0 ∷ drop (i + 1) z = drop-cons z i 0 h ∙ ap (λ (n : ℕ). get_or z i 0 ∷ drop n z) j in
-    sym (ap (λ (l : List ℕ). all && every (λ b. eqb b 0) l) s ∙ (unfold every in (and_assoc all (eqb (get_or z i 0) 0) (every (λ b. eqb b 0) (drop (i + 1) z)))))
-
--- nothing is left at the end
-pub zeros_none : (z : List ℕ) (i : ℕ) (all : Bool) → length z ≤ i → all && every (λ b. eqb b 0) (drop i z) ≡ all
-zeros_none z i all h = ap (λ (l : List ℕ). all && every (λ b. eqb b 0) l) (drop_of_length-le z h) ∙ (unfold every in (and-true all))
 
 pub zero-empty : (z : List ℕ) → length z ≡ 0 → 15 ≡ zero_cause z
 unfolding zero_cause
@@ -88,8 +73,8 @@ module _ (y : Layout) (d m : List ℕ) (a : Allocation) (slot offset : ℕ) wher
   )
 
   -- its number
-  pub root-file_number : (f : OpenFile) → f ≡ root_file y d m a slot offset → f.number ≡ first_cause (directory_cause y d a ∷ file_cause y d m a slot ∷ [])
-  root-file_number f e = ap (λ (x : OpenFile). x.number) e ∙ by (eqb causes 0) refl
+  pub root-file_number : (f : OpenedFile) → f ≡ root_file y d m a slot offset → f.number ≡ first_cause (directory_cause y d a ∷ file_cause y d m a slot ∷ [])
+  root-file_number f e = ap (λ (x : OpenedFile). x.number) e ∙ by (eqb causes 0) refl
     where
       by : (t : Bool) → eqb causes 0 ≡ t → (root_file y d m a slot offset).number ≡ causes
       by true q = unfold root_file found_file in (rw q (sym (eqb-true causes 0 q)))
@@ -100,7 +85,7 @@ module _ (y : Layout) (d m : List ℕ) (a : Allocation) (slot offset : ℕ) wher
   found_is e = rw (eq-eqb causes 0 e) refl
 
   -- the file that is found where nothing refuses it
-  module _ (w : Fits y d) (f : OpenFile) (e : f ≡ root_file y d m a slot offset) (s : List ℕ) (q : s ≡ root_file_set y d a slot) (z : f.number ≡ 0) where
+  module _ (w : Fits y d) (f : OpenedFile) (e : f ≡ root_file y d m a slot offset) (s : List ℕ) (q : s ≡ root_file_set y d a slot) (z : f.number ≡ 0) where
     none : causes ≡ 0
     none = sym (root-file_number f e) ∙ z
 
@@ -114,10 +99,10 @@ module _ (y : Layout) (d m : List ℕ) (a : Allocation) (slot offset : ℕ) wher
     found_set = q ∙ sym (root_opens directory_none).1 ∙ file-read y d m a slot file-none
 
     stream_is : f.stream ≡ file_record y d (set_in y d a slot)
-    stream_is = ap (λ (x : OpenFile). x.stream) (e ∙ found_is none) ∙ (unfold found_file in refl)
+    stream_is = ap (λ (x : OpenedFile). x.stream) (e ∙ found_is none) ∙ (unfold found_file in refl)
 
     place_is : f.place ≡ start_place y d (file_record y d (set_in y d a slot)) (set_in y d a slot) offset
-    place_is = ap (λ (x : OpenFile). x.place) (e ∙ found_is none) ∙ (unfold found_file in refl)
+    place_is = ap (λ (x : OpenedFile). x.place) (e ∙ found_is none) ∙ (unfold found_file in refl)
 
     formed : well_formed y.count y.size s ≡ true
     formed =

@@ -8,10 +8,9 @@ use Rattle.stream.specs.Stream.{number_of, stream_of, clusters_in}
 use Rattle.stream.specs.Bytes.{bytes_in}
 use Rattle.entry_set.specs.Fields.{valid_length}
 use Rattle.entry_set.specs.Sound.{well_formed}
-use Rattle.directory.specs.declared.open_file.OpenFile.{OpenFile}
 use Rattle.directory.specs.Directory.{directory_cause}
 use Rattle.directory.specs.Open.{file_record, file_cause}
-use Rattle.directory.specs.Internal.{set_read, found_file, no_file}
+use Rattle.directory.specs.Internal.{OpenedFile, set_read, found_file, no_file}
 
 -- the file of set s with stream b, which is not refused, and its cluster k at an offset below the valid length
 pub record Readable (y : Layout) (d s : List ℕ) (b : Allocation) (k offset : ℕ) : Type 0 where
@@ -23,7 +22,7 @@ pub record Readable (y : Layout) (d s : List ℕ) (b : Allocation) (k offset : �
   pub seen : offset < valid_length s → k ≡ get_or (clusters_in y d b) (offset / y.size) 0
 
 -- the file at a slot of the root a as a read finds it, or the number of what refuses it
-unfoldable pub root_file : (y : Layout) (d m : List ℕ) (a : Allocation) (slot offset : ℕ) → OpenFile
+unfoldable pub root_file : (y : Layout) (d m : List ℕ) (a : Allocation) (slot offset : ℕ) → OpenedFile
 root_file y d m a slot offset =
     let n = first_cause (directory_cause y d a ∷ file_cause y d m a slot ∷ []) in
     cond (eqb n 0) (found_file y d a slot offset) (no_file n)

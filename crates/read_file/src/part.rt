@@ -37,7 +37,7 @@ fn stored_part(vol: &[u8], y: Layout, a: Allocation, k: u32, valid: usize, offse
     let n = (valid - 1) / y.size + 1 - offset / y.size;
     let together = stream::pieces::leading(vol, y, a.no_fat_chain, k, n as u32) as usize;
     let start = boot::layout::cluster_offset(y, k) + at;
-    let len = stream::bytes::lesser(valid - offset, together * y.size - at);
+    let len = (valid - offset).min(together * y.size - at);
     Part {
         zeros: false,
         start: start as u32,
@@ -50,7 +50,7 @@ fn zero_part(len: u64, zeros: usize, offset: u64) -> Part
     requires { (offset < len) × (len ≤ 1073741824) }
     ensures { result ≡ zero_part len zeros offset }
 {
-    let n = stream::bytes::lesser((len - offset) as usize, zeros);
+    let n = ((len - offset) as usize).min(zeros);
     Part {
         zeros: true,
         start: 0,

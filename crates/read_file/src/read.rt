@@ -2,41 +2,35 @@
 ghost use Rattle.std.specs.Prelude.{◌≡◌, true, ◌*◌, ◌≤◌, ◌<◌, eqb, length, replicate};
 ghost use Rattle.tables.specs.Lists.{every};
 ghost use Rattle.boot.specs.Internal.{Laid, Apart};
+ghost use Rattle.std.specs.Result.{result_unwrap_or};
+ghost use Rattle.boot.specs.Causes.{number};
+ghost use Rattle.directory.specs.Internal.{file_opened};
 ghost use Rattle.directory.specs.Directory.{root_record};
-ghost use Rattle.read_file.specs.Part.{part_bytes, part_place};
+ghost use Rattle.read_file.specs.Part.{no_part, part_bytes, part_place};
 ghost use Rattle.read_file.specs.Read.{zero_cause, read_cause, read_in, read_number, read_part};
 ghost use Rattle.read_file.specs.Internal.{root_file, root_file_set};
 
 use crate::part::Part;
+use boot::cause::Cause;
 use boot::geometry::Geometry;
 use boot::layout::Layout;
 use directory::open_file::OpenFile;
-use primitives::bits::both;
 
-// Whether all bytes of a slice are 0. With no way out of the loop, the compiler compares 16 bytes at a time.
+// Whether all bytes of a slice are 0. With no way out on the way, the compiler compares 16 bytes at a time.
 fn all_zero(zeros: &[u8]) -> bool
     ensures { result ≡ every (λ b. eqb b 0) zeros.now }
 {
-    let mut all = true;
-    let mut i: usize = 0;
-    while i < zeros.len() {
-        all = both(all, zeros[i] == 0);
-        i += 1;
-    }
-    all
+    zeros.iter().fold(true, |all, b| all & (*b == 0))
 }
 
-// What refuses a zero slice: 15 where it is empty or holds another byte.
-fn zero_cause(zeros: &[u8]) -> u32
-    ensures { result ≡ zero_cause zeros.now }
+// Refuses a zero slice that is empty or holds another byte.
+fn zero_cause(zeros: &[u8]) -> Result<(), Cause>
+    ensures { number result ≡ zero_cause zeros.now }
 {
-    if zeros.len() == 0 {
-        return 15;
+    if !zeros.is_empty() && all_zero(zeros) {
+        return Ok(());
     }
-    if all_zero(zeros) {
-        return 0;
-    }
-    15
+    Err(Cause::BadZeros)
 }
 
 // Opens the root and the file at a slot of it, and copies the file's set.
@@ -48,30 +42,30 @@ fn open_in_root(
     slot: u32,
     offset: u64,
     set: &mut [u8; 608],
-) -> OpenFile
+) -> Result<OpenFile, Cause>
     requires { Laid y × ((length vol.now ≡ y.len) × ((y.count ≤ 8 * length map.now) × (Apart y × (set.old ≡ replicate 608 0)))) }
-    ensures { let d = vol.now in (result ≡ root_file y d map.now (root_record y d root) slot offset) × (set.new ≡ root_file_set y d (root_record y d root) slot) }
+    ensures { let d = vol.now in (file_opened result ≡ root_file y d map.now (root_record y d root) slot offset) × (set.new ≡ root_file_set y d (root_record y d root) slot) }
 {
-    let dir = directory::directory::root_dir(vol, map, y, root);
-    if dir.number != 0 {
-        return directory::open_file::no_file(dir.number);
-    }
-    let a = dir.allocation;
-    directory::open_file::open_file(vol, map, y, a, slot, offset, set)
+    let dir = directory::directory::root_dir(vol, map, y, root)?;
+    directory::open_file::open_file(vol, map, y, dir, slot, offset, set)
 }
 
-// The number once the limits are known to hold. It takes no offset, so that none can change it.
-fn number_in(vol: &[u8], map: &[u8], y: Layout, root: u32, zeros: &[u8], slot: u32) -> u32
+// What refuses a read once the limits are known to hold. It takes no offset, so that none can change it.
+fn number_in(
+    vol: &[u8],
+    map: &[u8],
+    y: Layout,
+    root: u32,
+    zeros: &[u8],
+    slot: u32,
+) -> Result<(), Cause>
     requires { Laid y × ((length vol.now ≡ y.len) × ((y.count ≤ 8 * length map.now) × Apart y)) }
-    ensures { result ≡ read_cause y vol.now map.now (root_record y vol.now root) zeros.now slot }
+    ensures { number result ≡ read_cause y vol.now map.now (root_record y vol.now root) zeros.now slot }
 {
-    let number = zero_cause(zeros);
-    if number != 0 {
-        return number;
-    }
+    zero_cause(zeros)?;
     let mut set = [0u8; 608];
-    let f = open_in_root(vol, map, y, root, slot, 0, &mut set);
-    f.number
+    open_in_root(vol, map, y, root, slot, 0, &mut set)?;
+    Ok(())
 }
 
 // The part once the limits are known to hold. The walk that tests the file's chain notes the cluster of the offset.
@@ -83,51 +77,51 @@ fn part_in(
     zeros: &[u8],
     slot: u32,
     offset: u64,
-) -> Part
+) -> Result<Part, Cause>
     requires { Laid y × ((length vol.now ≡ y.len) × ((y.count ≤ 8 * length map.now) × Apart y)) }
-    ensures { result ≡ read_in y vol.now map.now (root_record y vol.now root) zeros.now slot offset }
+    ensures { (number result ≡ read_cause y vol.now map.now (root_record y vol.now root) zeros.now slot) × (result_unwrap_or result no_part ≡ read_in y vol.now map.now (root_record y vol.now root) zeros.now slot offset) }
 {
-    if zero_cause(zeros) != 0 {
-        return crate::part::no_part();
-    }
+    zero_cause(zeros)?;
     let mut set = [0u8; 608];
-    let f = open_in_root(vol, map, y, root, slot, offset, &mut set);
-    if f.number != 0 {
-        return crate::part::no_part();
-    }
-    let b = f.stream;
+    let f = open_in_root(vol, map, y, root, slot, offset, &mut set)?;
     let k = f.place.cluster;
-    crate::part::file_part(vol, y, b, k, &set, zeros.len(), offset)
+    Ok(crate::part::file_part(vol, y, f.stream, k, &set, zeros.len(), offset))
 }
 
-// The number of a read of the file at a slot of the root.
-pub fn read_number(vol: &[u8], map: &[u8], g: Geometry, zeros: &[u8], slot: u32) -> u32
-    ensures { result ≡ read_number g vol.now map.now zeros.now slot }
+// The same behind the limits.
+fn find_part(
+    vol: &[u8],
+    map: &[u8],
+    g: Geometry,
+    zeros: &[u8],
+    slot: u32,
+    offset: u64,
+) -> Result<Part, Cause>
+    ensures { (number result ≡ read_number g vol.now map.now zeros.now slot) × (result_unwrap_or result no_part ≡ read_part g vol.now map.now zeros.now slot offset) }
 {
-    let admission = boot::layout::admit(g, vol.len(), map);
-    if admission.number != 0 {
-        return admission.number;
-    }
-    number_in(vol, map, admission.layout, g.root_cluster, zeros, slot)
+    let y = boot::layout::admit(g, vol.len(), map)?;
+    part_in(vol, map, y, g.root_cluster, zeros, slot, offset)
+}
+
+// What refuses a read of the file at a slot of the root.
+pub fn read_number(
+    vol: &[u8],
+    map: &[u8],
+    g: Geometry,
+    zeros: &[u8],
+    slot: u32,
+) -> Result<(), Cause>
+    ensures { number result ≡ read_number g vol.now map.now zeros.now slot }
+{
+    let y = boot::layout::admit(g, vol.len(), map)?;
+    number_in(vol, map, y, g.root_cluster, zeros, slot)
 }
 
 // Where the bytes from an offset on of the file at a slot of the root lie, as numbers; refused, an empty part.
 pub fn read_part(vol: &[u8], map: &[u8], g: Geometry, zeros: &[u8], slot: u32, offset: u64) -> Part
     ensures { result ≡ read_part g vol.now map.now zeros.now slot offset }
 {
-    let admission = boot::layout::admit(g, vol.len(), map);
-    if admission.number != 0 {
-        return crate::part::no_part();
-    }
-    part_in(
-        vol,
-        map,
-        admission.layout,
-        g.root_cluster,
-        zeros,
-        slot,
-        offset,
-    )
+    find_part(vol, map, g, zeros, slot, offset).unwrap_or(crate::part::no_part())
 }
 
 // The bytes from an offset on of the file at a slot of the root, lent and not copied: as many as lie together. Refused, none.
@@ -142,7 +136,5 @@ pub fn read<'a>(
     ensures { let p = read_part g vol.now map.now zeros.now slot offset in (result.now ≡ part_bytes vol.now zeros.now p) × (result.ref_ptr ≡ part_place vol.entry.ref_ptr zeros.entry.ref_ptr p) }
 {
     let p = read_part(vol, map, g, zeros, slot, offset);
-    let start = p.start;
-    let len = p.len;
-    crate::part::lend(vol, zeros, p.zeros, start, len)
+    crate::part::lend(vol, zeros, p.zeros, p.start, p.len)
 }

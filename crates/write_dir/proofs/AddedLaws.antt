@@ -33,12 +33,11 @@ use Rattle.stream.proofs.StreamLaws.{Read, read_facts}
 use Rattle.stream.proofs.BytesSteps.{length_cluster}
 use Rattle.stream.proofs.BytesLaws.{cluster_cong, cluster_put, cluster_apart}
 use Rattle.stream.proofs.Distinct.{read_length, stream_frame}
-use Rattle.write_alloc.specs.declared.answer.Answer.{Answer}
-use Rattle.write_alloc.specs.Outcome.{Outcome}
+use Rattle.write_alloc.specs.Outcome.{success, Answer, Outcome}
 use Rattle.write_extend.specs.Extend.{extend_in}
 use Rattle.write_alloc.proofs.GrowLaws.{fresh_unmarked}
 use Rattle.write_extend.proofs.EnoughLaws.{Extended, extend_done, usable_grown}
-use Rattle.write_dir.specs.declared.place.Added.{Added}
+use Rattle.write_alloc.specs.declared.answer.Updated.{Updated}
 use Rattle.write_dir.specs.Place.{GrownDirectory, grow_one, grow_by}
 use Rattle.write_dir.specs.Internal.{standing, added_of, Growable}
 
@@ -302,7 +301,7 @@ module _ (y : Layout) (d m : List ℕ) (a : Allocation) (n hint : ℕ) (g : Grow
     pub last_heap : in_heap y.count (extend_in y d m a 1 hint).answer.allocation.last ≡ true
     last_heap = let b = g.enough in added_heap y m (standing d a hint) fits g.mapped ks growable_listed.1 g.hint_in (omega arith)
 
-    pub grow_turn : (r : Added) (d' : List ℕ) → r ≡ added_of (grow_one y m (standing d a hint)) → d' ≡ (grow_one y m (standing d a hint)).volume
+    pub grow_turn : (r : Updated) (d' : List ℕ) → r ≡ added_of (grow_one y m (standing d a hint)) → d' ≡ (grow_one y m (standing d a hint)).volume
         → Growable y d' m r.allocation (n - 1) r.hint × (grow_by y m (n - 1) (standing d' r.allocation r.hint) ≡ grow_by y m n (standing d a hint))
     grow_turn r d' p q =
         let s = step in
@@ -320,16 +319,16 @@ module _ (y : Layout) (d m : List ℕ) (a : Allocation) (n hint : ℕ) (g : Grow
         )
 
 -- what the call of one answers and leaves
-pub grow_is : (y : Layout) (d m : List ℕ) (a : Allocation) (hint : ℕ) (r : Answer) (d₁ d₂ : List ℕ) → r ≡ (extend_in y d m a 1 hint).answer
+pub grow_is : (y : Layout) (d m : List ℕ) (a : Allocation) (hint : ℕ) (r : Updated) (d₁ d₂ : List ℕ) → success r ≡ (extend_in y d m a 1 hint).answer
     → d₁ ≡ (extend_in y d m a 1 hint).volume → d₂ ≡ put_bytes y d₁ r.allocation.last 0 (replicate y.size 0)
-    → (record { allocation = r.allocation; hint = r.hint } ≡ added_of (grow_one y m (standing d a hint))) × (d₂ ≡ (grow_one y m (standing d a hint)).volume)
+    → (r ≡ added_of (grow_one y m (standing d a hint))) × (d₂ ≡ (grow_one y m (standing d a hint)).volume)
 unfolding grow_one
 grow_is y d m a hint r d₁ d₂ p q e = (
   λ z. record { allocation = (p z).allocation; hint = (p z).hint },
   e ∙ ap₂ (λ (l : List ℕ) (b : Answer). put_bytes y l b.allocation.last 0 (replicate y.size 0)) q p,
 )
 
-pub grow_end : (y : Layout) (m : List ℕ) (n : ℕ) (r : Added) (d : List ℕ) (v : GrownDirectory) → n ≤ 0 → grow_by y m n (standing d r.allocation r.hint) ≡ v
+pub grow_end : (y : Layout) (m : List ℕ) (n : ℕ) (r : Updated) (d : List ℕ) (v : GrownDirectory) → n ≤ 0 → grow_by y m n (standing d r.allocation r.hint) ≡ v
     → (r ≡ added_of v) × (d ≡ v.volume)
 unfolding grow_by
 grow_end y m zero r d v h e = (λ z. record { allocation = (e z).directory; hint = (e z).hint }, ap (λ (v : GrownDirectory). v.volume) e)

@@ -10,7 +10,7 @@ use lib.Dec.{eqb}
 use lib.ListN.{take}
 use Rattle.primitives.specs.Splice.{splice}
 use Rattle.tables.specs.Table.{upd}
-use Rattle.search.specs.declared.found.Found.TheVariants.{At}
+use Rattle.std.specs.Prelude.{Some}
 use Rattle.directory.specs.Entries.{entry_count}
 use Rattle.directory.specs.Internal.{sets}
 use Rattle.directory.specs.Room.{free_run, slot_of, with_zeros, growth}
@@ -40,9 +40,9 @@ module _ (C size per : ℕ) (e : size ≡ 32 * per) (pos : 1 ≤ per) (bs : List
   wide_sets : (j : ℕ) → sets wide j ≡ sets bs j
   wide_sets j = ap (λ (x : ℕ). sets (with_zeros bs x) j) whole_entries ∙ grown_sets C size bs (growth size bs n * per) o j
 
-  found : free_run wide n ≡ At at
+  found : free_run wide n ≡ Some at
   unfolding slot_of
-  found = let q = grown_at bs n o.whole _ (place_at_lem bs n o.whole) size per e pos in q ∙ ap At (ap slot_of (sym q))
+  found = let q = grown_at bs n o.whole _ (place_at_lem bs n o.whole) size per e pos in q ∙ ap Some (ap slot_of (sym q))
 
   pub insert_room : at + n ≤ entry_count wide
   insert_room = new_room C size wide at n s wide_ordered found f

@@ -7,14 +7,14 @@ use Rattle.boot.specs.Layout.{in_heap, is_bitmap_cluster}
 use Rattle.metadata.specs.Usable.{is_usable}
 use Rattle.stream.specs.declared.allocation.Allocation.{Allocation}
 use Rattle.stream.specs.Stream.{number_of, stream_of}
-use Rattle.write_dir.specs.declared.place.Added.{Added}
+use Rattle.write_alloc.specs.declared.answer.Updated.{Updated}
 use Rattle.write_dir.specs.Place.{GrownDirectory}
 
 -- a directory with its volume and hint, and what a call answers of it
 abbrev pub standing : List ℕ → Allocation → ℕ → GrownDirectory
 standing d a hint = record { volume = d; directory = a; hint = hint }
 
-abbrev pub added_of : GrownDirectory → Added
+abbrev pub added_of : GrownDirectory → Updated
 added_of w = record { allocation = w.directory; hint = w.hint }
 
 -- n clusters may be added: the record reads, so many are usable, and the map has every bitmap cluster, so that none is a bitmap's

@@ -11,13 +11,7 @@ ghost use Rattle.write_dir.specs.Place.{grow_one, grow_by};
 use boot::layout::Layout;
 use directory::spot::Spot;
 use stream::allocation::Allocation;
-
-// A directory's record after growth, and the hint.
-#[derive(Clone, Copy)]
-pub struct Added {
-    pub allocation: Allocation,
-    pub hint: u32,
-}
+use write_alloc::answer::Updated;
 
 // Stores as many of n bytes of src, from `from` on, as cluster k has room for from its byte `at` on, and answers how many.
 fn put_part(
@@ -35,13 +29,9 @@ fn put_part(
     if n == 0 {
         return 0;
     }
-    let room = y.size - at;
-    if n < room {
-        stream::bytes::put_piece(vol, y, k, at, src, from, n);
-        return n;
-    }
-    stream::bytes::put_piece(vol, y, k, at, src, from, room);
-    room
+    let stored = n.min(y.size - at);
+    stream::bytes::put_piece(vol, y, k, at, src, from, stored);
+    stored
 }
 
 // Stores the n entries of a set.
@@ -56,33 +46,26 @@ pub fn write_set(vol: &mut [u8], y: Layout, spot: Spot, set: &[u8; 608], n: usiz
 }
 
 // One cluster added, and zeroed.
-fn grow(vol: &mut [u8], map: &[u8], y: Layout, dir: Allocation, hint: u32) -> Added
+fn grow(vol: &mut [u8], map: &[u8], y: Layout, dir: Allocation, hint: u32) -> Updated
     requires { Laid y × ((length vol.old ≡ y.len) × ((y.count ≤ 8 * length map.now) × (Apart y × Growable y vol.old map.now dir 1 hint))) }
     ensures { let w = grow_one y map.now (standing vol.old dir hint) in (result ≡ added_of w) × (vol.new ≡ w.volume) }
 {
-    let o = write_extend::extend::grow_in(vol, map, y, dir, 1, hint);
-    let a = o.allocation;
-    stream::bytes::put_zeros(vol, y, a.last, 0, y.size);
-    Added {
-        allocation: a,
-        hint: o.hint,
-    }
+    let grown = write_extend::extend::grow_in(vol, map, y, dir, 1, hint);
+    stream::bytes::put_zeros(vol, y, grown.allocation.last, 0, y.size);
+    grown
 }
 
 // n clusters added, and zeroed.
-pub fn grow_by(vol: &mut [u8], map: &[u8], y: Layout, dir: Allocation, n: u32, hint: u32) -> Added
+pub fn grow_by(vol: &mut [u8], map: &[u8], y: Layout, dir: Allocation, n: u32, hint: u32) -> Updated
     requires { Laid y × ((length vol.old ≡ y.len) × ((y.count ≤ 8 * length map.now) × (Apart y × Growable y vol.old map.now dir n hint))) }
     ensures { let w = grow_by y map.now n (standing vol.old dir hint) in (result ≡ added_of w) × (vol.new ≡ w.volume) }
 {
-    let mut w = Added {
+    let mut w = Updated {
         allocation: dir,
-        hint: hint,
+        hint,
     };
-    let mut left = n;
-    while 0 < left {
-        let a = w.allocation;
-        w = grow(vol, map, y, a, w.hint);
-        left -= 1;
+    for _ in 0..n {
+        w = grow(vol, map, y, w.allocation, w.hint);
     }
     w
 }

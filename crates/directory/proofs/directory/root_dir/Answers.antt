@@ -1,29 +1,32 @@
-use mathlib.Core.Path.{◌∙◌}
-use native.Mathlib.Omega.{arith}
+use mathlib.Core.Path.{refl, sym}
+use Rattle.std.proofs.lemmas.Result.{err_from_is_err_and}
 use Rattle.boot.proofs.Apart.{in_heap_lem}
+use Rattle.boot.proofs.CauseLaws.{cause-not0}
+use Rattle.stream.proofs.ChainLaws.{cause_walk}
 use Rattle.directory.proofs.DirectoryLaws.{root_out, root-not, root_nine, root-done}
 use Rattle.directory.proofs.directory.root_dir.Goals as goal
 
-pub fat_chain-w-requires : goal.fat_chain-w-requires
-fat_chain-w-requires c =
+pub returns-then-not-in_heap : goal.returns-then-not-in_heap
+returns-then-not-in_heap c = root_out _ _ _ (cc)
+
+pub fat_chain-requires : goal.fat_chain-requires
+fat_chain-requires c =
     let p = c.requires in
     let a = c.args in
     (p.0, (p.1.0, (p.1.1, in_heap_lem a.y.count a.root (cc))))
 
-pub returns-then-number-ne0 : goal.returns-then-number-ne0
-returns-then-number-ne0 c =
-    let w = c.fat_chain-w in
-    (cc) ∙ root-not _ _ _ _ _ w.ensures (cc) _ c.walk_cause-number.ensures (λ z. omega arith)
+pub returns-in_err-w : goal.returns-in_err-w
+returns-in_err-w c =
+    let p = err_from_is_err_and c.from_residual.result c.from_residual.ensures.1 in
+    rw (p.1, p.2) (root-not _ _ _ _ _ c.in_err-w.ensures (cc) _ (sym (cause_walk _ _ _ (cause-not0 _))) (cause-not0 _))
+
+pub returns-in_err-walk_cause : goal.returns-in_err-walk_cause
+returns-in_err-walk_cause c =
+    let p = err_from_is_err_and c.from_residual-in_err-walk_cause.result c.from_residual-in_err-walk_cause.ensures.1 in
+    rw (p.1, p.2) (root-not _ _ _ _ _ c.in_ok-w.ensures (cc) _ c.in_err-walk_cause.ensures (cause-not0 _))
 
 pub returns-then-w : goal.returns-then-w
-returns-then-w c =
-    let w = c.fat_chain-w in
-    root-done _ _ _ _ _ w.ensures (cc) _ c.walk_cause-number.ensures (omega arith) (cc)
+returns-then-w c = root-done _ _ _ _ _ c.in_ok-w.ensures (cc) _ c.in_ok-walk_cause.ensures refl (cc)
 
-pub returns-then-in_heap : goal.returns-then-in_heap
-returns-then-in_heap c =
-    let w = c.fat_chain-w in
-    (cc) ∙ root_nine _ _ _ _ _ w.ensures (cc) _ c.walk_cause-number.ensures (omega arith) (cc)
-
-pub returns : goal.returns
-returns c = (cc) ∙ root_out _ _ _ (cc)
+pub returns-else-w : goal.returns-else-w
+returns-else-w c = root_nine _ _ _ _ _ c.in_ok-w.ensures (cc) _ c.in_ok-walk_cause.ensures refl (cc)

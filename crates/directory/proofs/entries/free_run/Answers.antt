@@ -149,6 +149,7 @@ overflow_sub-missing c =
     omega arith
 
 pub overflow_cast-result : goal.overflow_cast-result
+unfolding clusters_for
 overflow_cast-result c =
     let p = c.requires in
     let a = c.args in
@@ -160,10 +161,9 @@ overflow_cast-result c =
     let i = window_in (bytes_in a.y a.vol.now a.dir) l.base (m.result - l.base) t.result.slot t.ensures.0 in
     let q = div-le_self (32 * (t.result.slot + a.need - m.result) + (a.y.size - 1)) a.y.size in
     let z = p.0.size_high in
-    omega arith
+    omega (arith, c.clusters_for.ensures)
 
 pub returns : goal.returns
-unfolding clusters_for
 returns c =
     let p = c.requires in
     let a = c.args in
@@ -175,7 +175,8 @@ returns c =
     let i = window_in (bytes_in a.y a.vol.now a.dir) l.base (m.result - l.base) t.result.slot t.ensures.0 in
     let z : l.base + (m.result - l.base) ≡ entry_count (bytes_in a.y a.vol.now a.dir) = omega (arith, m.ensures.0) in
     let n : length (bytes_in a.y a.vol.now a.dir) ≡ 32 * entry_count (bytes_in a.y a.vol.now a.dir) = omega (arith, length-entries a.y a.vol.now w a.dir r, entries_is a.y a.vol.now w a.dir r) in
-    ap (λ (x : ℕ). record { slot = t.result.slot; clusters = clusters_for a.y.size (32 * (t.result.slot + a.need - x)) }) m.ensures.0
+    ap (λ (x : ℕ). record { slot = t.result.slot; clusters = x }) c.clusters_for.ensures
+    ∙ ap (λ (x : ℕ). record { slot = t.result.slot; clusters = clusters_for a.y.size (32 * (t.result.slot + a.need - x)) }) m.ensures.0
     ∙ room_past a.y.size (a.y.size / 32) p.0.whole (omega (arith, p.0.size_low)) (bytes_in a.y a.vol.now a.dir) a.need n t.result.slot (omega arith)
     (window_passed (bytes_in a.y a.vol.now a.dir) l.base (m.result - l.base) t.result.slot t.ensures.0 a.need (omega arith) l.invariant.1.1)
     (ap (λ (k : ℕ). all_from (λ i. not (in_use (bytes_in a.y a.vol.now a.dir) i)) t.result.slot (k - t.result.slot)) (sym z) ∙ window_rest (bytes_in a.y a.vol.now a.dir) l.base (m.result - l.base) t.result.slot t.ensures.0)

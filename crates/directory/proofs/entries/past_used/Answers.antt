@@ -23,8 +23,8 @@ in_use-requires c =
     let w : Fits a.y a.vol.now = record { laid = p.0; apart = p.1.1.0; long = p.1.0 } in
     (p.0, (p.1.0, cursor_in a.y a.vol.now w a.dir p.1.1.1.0 (a.base + (a.n - 1)) (omega arith) c.skip-last.result c.skip-last.ensures))
 
-pub advance-next-requires : goal.advance-next-requires
-advance-next-requires c =
+pub advance-requires : goal.advance-requires
+advance-requires c =
     let p = c.requires in
     let a = c.args in
     let w : Fits a.y a.vol.now = record { laid = p.0; apart = p.1.1.0; long = p.1.0 } in
@@ -47,7 +47,7 @@ returns-then-in_use c =
     let u : in_use (bytes_in a.y a.vol.now a.dir) (a.base + (a.n - 1)) ≡ true = sym (cursor_use a.y a.vol.now w a.dir p.1.1.1.0 (a.base + (a.n - 1)) (omega arith) k.result k.ensures) ∙ (cc) in
     let e : a.base + (a.n - 1) + 1 ≡ a.base + a.n = omega arith in (
       window_used (bytes_in a.y a.vol.now a.dir) a.base a.n (omega arith) u,
-      c.advance-next.ensures ∙ ap (next_entry a.y (fat_entry a.y a.vol.now) a.dir.no_fat_chain) k.ensures
+      c.advance.ensures ∙ ap (next_entry a.y (fat_entry a.y a.vol.now) a.dir.no_fat_chain) k.ensures
           ∙ entry_next a.y (fat_entry a.y a.vol.now) a.dir.no_fat_chain a.dir.first (a.base + (a.n - 1))
           ∙ ap (entry_at a.y (fat_entry a.y a.vol.now) a.dir.no_fat_chain a.dir.first) e,
     )

@@ -1,19 +1,39 @@
-use mathlib.Core.Path.{sym, ◌∙◌}
+use Prim.Native.Nat.{ℕ, suc, ◌+◌, ◌-◌, ◌*◌, ◌/◌, ◌%◌, ◌≤◌, ◌<◌}
+use mathlib.Core.Path.{◌≡◌, sym, ◌∙◌, ap, subst}
+use native.Mathlib.Nat.{suc-mul, mul-le-mul_right, div-add-mod', mod-lt}
 use native.Mathlib.Omega.{arith}
 use Rattle.metadata.proofs.Frame.{Fits}
 use Rattle.boot.proofs.Apart.{in_heap_lem}
-use Rattle.directory.proofs.CursorLaws.{counted_first, counted_next, counted_heap, counted_place}
-use Rattle.directory.proofs.EndLaws.{ahead_first, ahead_end, ahead_next, ahead_not, slot_ends, slot_stands}
+use Rattle.std.specs.Prelude.{Some}
+use Rattle.stream.specs.Bytes.{cluster_bytes}
+use Rattle.directory.specs.Entries.{before_end}
+use Rattle.directory.proofs.CursorLaws.{Counted, counted_first, counted_next, counted_heap, counted_place}
+use Rattle.directory.proofs.EndLaws.{Ahead, ahead_first, ahead_end, ahead_next, ahead_not, slot_ends, slot_stands}
 use Rattle.directory.proofs.entries.slot_entry.Goals as goal
 
-pub overflow_cast-per : goal.overflow_cast-per
-overflow_cast-per c = omega (arith, c.requires.0.size_high)
+-- a cluster's entries less to go
+turn : (slot per i : ℕ) → i < slot / per → (per ≤ slot - i * per) × (slot - i * per - per ≡ slot - (i + 1) * per)
+turn slot per i h =
+    let d = div-add-mod' slot per in
+    let m = mul-le-mul_right {m = suc i} {n = slot / per} per h in
+    let s = suc-mul i per in
+    let e : (i + 1) * per ≡ suc i * per = ap (λ (x : ℕ). x * per) (omega arith) in
+    (omega arith, omega arith)
 
-pub loop-left-init : goal.loop-left-init
-loop-left-init c =
+-- those of the last one
+last : (slot per i : ℕ) → 1 ≤ per → i ≤ slot / per → slot / per ≤ i → (slot - i * per ≡ slot % per) × (slot % per < per)
+last slot per i l a b =
+    let e : i ≡ slot / per = omega arith in
+    let d = div-add-mod' slot per in
+    (ap (λ (x : ℕ). slot - x * per) e ∙ (omega arith), mod-lt slot {m = per} l)
+
+pub loop-init : goal.loop-init
+loop-init c =
     let p = c.requires in
     let a = c.args in
     let w : Fits a.y a.vol.now = record { laid = p.0; apart = p.1.1.0; long = p.1.0 } in
+    let z : a.slot ≡ a.slot - 0 * (a.y.size / 32) = omega arith in
+    subst (λ (x : ℕ). Ahead a.y a.vol.now a.dir a.slot a.dir.first x × Counted a.y a.vol.now a.dir a.slot a.dir.first x) z
     (ahead_first a.y a.vol.now w a.dir a.slot p.1.1.1.0 (omega arith), counted_first a.y a.vol.now w a.dir p.1.1.1.0 a.slot)
 
 pub none_ends_in-requires : goal.none_ends_in-requires
@@ -21,8 +41,8 @@ none_ends_in-requires c =
     let p = c.requires in
     let a = c.args in
     let w : Fits a.y a.vol.now = record { laid = p.0; apart = p.1.1.0; long = p.1.0 } in
-    let l = c.loop-left in
-    let h = in_heap_lem _ _ (counted_heap a.y a.vol.now w a.dir p.1.1.1.0 a.slot l.k l.left l.invariant.1 p.1.1.1.1) in
+    let l = c.loop in
+    let h = in_heap_lem _ _ (counted_heap a.y a.vol.now w a.dir p.1.1.1.0 a.slot l.k _ l.invariant.1 p.1.1.1.1) in
     (p.0, (p.1.0, (h.0, (h.1, omega (arith, p.0.whole)))))
 
 pub next_cluster-k-requires : goal.next_cluster-k-requires
@@ -30,54 +50,57 @@ next_cluster-k-requires c =
     let p = c.requires in
     let a = c.args in
     let w : Fits a.y a.vol.now = record { laid = p.0; apart = p.1.1.0; long = p.1.0 } in
-    let l = c.loop-left in
-    let h = in_heap_lem _ _ (counted_heap a.y a.vol.now w a.dir p.1.1.1.0 a.slot l.k l.left l.invariant.1 p.1.1.1.1) in
+    let l = c.loop in
+    let h = in_heap_lem _ _ (counted_heap a.y a.vol.now w a.dir p.1.1.1.0 a.slot l.k _ l.invariant.1 p.1.1.1.1) in
     (p.0, (p.1.0, h.1))
 
-pub loop-left-smaller : goal.loop-left-smaller
-loop-left-smaller c =
-    let z = c.requires.0.size_low in
-    omega arith
-
-pub loop-left-preserved : goal.loop-left-preserved
-loop-left-preserved c =
+pub loop-preserved : goal.loop-preserved
+loop-preserved c =
     let p = c.requires in
     let a = c.args in
     let w : Fits a.y a.vol.now = record { laid = p.0; apart = p.1.1.0; long = p.1.0 } in
-    let l = c.loop-left in
-    (ahead_next a.y a.vol.now w a.dir a.slot l.k l.left l.invariant.0 (omega (arith, p.0.size_low)) (omega arith) _ c.next_cluster-k.ensures (cc), rw c.next_cluster-k.ensures (counted_next a.y a.vol.now w a.dir p.1.1.1.0 a.slot l.k l.left l.invariant.1 (omega arith)))
+    let l = c.loop in
+    let t = turn a.slot (a.y.size / 32) l.counter (omega arith) in
+    rw (sym t.1) (ahead_next a.y a.vol.now w a.dir a.slot l.k _ l.invariant.0 (omega (arith, p.0.size_low, t.0)) t.0 _ c.next_cluster-k.ensures (cc), rw c.next_cluster-k.ensures (counted_next a.y a.vol.now w a.dir p.1.1.1.0 a.slot l.k _ l.invariant.1 t.0))
 
-pub returns-else-none_ends_in : goal.returns-else-none_ends_in
-returns-else-none_ends_in c =
+pub returns-then-not-none_ends_in : goal.returns-then-not-none_ends_in
+returns-then-not-none_ends_in c =
     let p = c.requires in
     let a = c.args in
     let w : Fits a.y a.vol.now = record { laid = p.0; apart = p.1.1.0; long = p.1.0 } in
-    let l = c.loop-left in
-    slot_ends _ _ _ _ (ahead_not a.y a.vol.now w a.dir a.slot l.k l.left l.invariant.0 (omega (arith, p.0.size_low)) (omega arith) (cc))
+    let l = c.loop in
+    let t = turn a.slot (a.y.size / 32) l.counter (omega arith) in
+    slot_ends _ _ _ _ (ahead_not a.y a.vol.now w a.dir a.slot l.k _ l.invariant.0 (omega (arith, p.0.size_low, t.0)) t.0 (cc))
 
 pub none_ends_in-requires-2 : goal.none_ends_in-requires-2
 none_ends_in-requires-2 c =
     let p = c.requires in
     let a = c.args in
     let w : Fits a.y a.vol.now = record { laid = p.0; apart = p.1.1.0; long = p.1.0 } in
-    let l = c.loop-left in
-    let h = in_heap_lem _ _ (counted_heap a.y a.vol.now w a.dir p.1.1.1.0 a.slot l.k l.left l.invariant.1 p.1.1.1.1) in
+    let l = c.loop in
+    let h = in_heap_lem _ _ (counted_heap a.y a.vol.now w a.dir p.1.1.1.0 a.slot l.k _ l.invariant.1 p.1.1.1.1) in
+    let s = p.0.size_low in
+    let m = mod-lt a.slot {m = a.y.size / 32} (omega arith) in
     (p.0, (p.1.0, (h.0, (h.1, omega (arith, p.0.whole)))))
 
-pub returns-then-none_ends_in-2 : goal.returns-then-none_ends_in-2
-returns-then-none_ends_in-2 c =
+pub returns-then-not-none_ends_in-2 : goal.returns-then-not-none_ends_in-2
+returns-then-not-none_ends_in-2 c =
     let p = c.requires in
     let a = c.args in
     let w : Fits a.y a.vol.now = record { laid = p.0; apart = p.1.1.0; long = p.1.0 } in
-    let l = c.loop-left in
-    let h = ahead_end a.y a.vol.now w a.dir a.slot l.k l.left l.invariant.0 (omega arith) in
-    counted_place a.y a.vol.now w a.dir p.1.1.1.0 a.slot l.k l.left l.invariant.1 (omega arith) ∙ slot_stands a.y a.vol.now a.dir a.slot (sym h ∙ (cc))
+    let l = c.loop in
+    let m = last a.slot (a.y.size / 32) l.counter (omega (arith, p.0.size_low)) l.auto.counter-end c.loop-test.false in
+    let h = ahead_end a.y a.vol.now w a.dir a.slot l.k _ l.invariant.0 (omega (arith, m.0, m.1)) in
+    slot_ends a.y a.vol.now a.dir a.slot (sym h ∙ ap (before_end (cluster_bytes a.y a.vol.now l.k)) m.0 ∙ (cc))
 
 pub returns : goal.returns
 returns c =
     let p = c.requires in
     let a = c.args in
     let w : Fits a.y a.vol.now = record { laid = p.0; apart = p.1.1.0; long = p.1.0 } in
-    let l = c.loop-left in
-    let h = ahead_end a.y a.vol.now w a.dir a.slot l.k l.left l.invariant.0 (omega arith) in
-    slot_ends a.y a.vol.now a.dir a.slot (sym h ∙ (cc))
+    let l = c.loop in
+    let m = last a.slot (a.y.size / 32) l.counter (omega (arith, p.0.size_low)) l.auto.counter-end c.loop-test.false in
+    let h = ahead_end a.y a.vol.now w a.dir a.slot l.k _ l.invariant.0 (omega (arith, m.0, m.1)) in
+    ap (λ (x : ℕ). Some (record { cluster = l.k; at = 32 * x })) (sym m.0)
+    ∙ ap Some (counted_place a.y a.vol.now w a.dir p.1.1.1.0 a.slot l.k _ l.invariant.1 (omega (arith, m.0, m.1)))
+    ∙ slot_stands a.y a.vol.now a.dir a.slot (sym h ∙ ap (before_end (cluster_bytes a.y a.vol.now l.k)) m.0 ∙ (cc))

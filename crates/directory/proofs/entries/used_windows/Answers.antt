@@ -5,6 +5,7 @@ use native.Mathlib.Omega.{arith}
 use Rattle.directory.specs.Entries.{in_use}
 use Rattle.directory.proofs.WindowLaws.{passing_first, passing_next, passing_stop, passing_end, used_byte}
 use Rattle.directory.proofs.entries.used_windows.Goals as goal
+use Rattle.directory.proofs.entries.used_windows.Goals.{then-loop-at-test+else-bit_test, else-loop-at-test}
 
 pub loop-at-init : goal.loop-at-init
 loop-at-init c =
@@ -18,15 +19,14 @@ loop-at-preserved c =
     let u : in_use a.part.now (l.at / 32 + (a.n - 1)) ≡ true = sym (used_byte a.part.now a.n l.at l.invariant.0) ∙ (cc) in
     (omega arith, (omega arith, passing_next a.part.now a.n a.first (l.at / 32) l.invariant.1.1 (omega arith) u _ (omega arith)))
 
-pub returns-else-bit_test : goal.returns-else-bit_test
-returns-else-bit_test c =
-    let a = c.args in
-    let l = c.loop-at in
-    let u : in_use a.part.now (l.at / 32 + (a.n - 1)) ≡ false = sym (used_byte a.part.now a.n l.at l.invariant.0) ∙ (cc) in
-    passing_stop a.part.now a.n a.first (l.at / 32) l.invariant.1.1 u
-
 pub returns : goal.returns
 returns c =
     let a = c.args in
     let l = c.loop-at in
-    passing_end a.part.now a.n a.first (l.at / 32) l.invariant.1.1 (omega arith)
+    elim c.loop-at-test.branch [
+      | then-loop-at-test+else-bit_test w ↦ (
+          let u : in_use a.part.now (l.at / 32 + (a.n - 1)) ≡ false = sym (used_byte a.part.now a.n l.at l.invariant.0) ∙ (cc) in
+          passing_stop a.part.now a.n a.first (l.at / 32) l.invariant.1.1 u
+          )
+      | else-loop-at-test w ↦ passing_end a.part.now a.n a.first (l.at / 32) l.invariant.1.1 (omega arith)
+    ]

@@ -1,29 +1,35 @@
-use mathlib.Core.Path.{◌∙◌}
-use native.Mathlib.Omega.{arith}
+use mathlib.Core.Path.{refl, sym}
+use Rattle.std.proofs.lemmas.Result.{err_from_is_err_and}
 use Rattle.boot.proofs.Apart.{in_heap_lem}
+use Rattle.boot.proofs.CauseLaws.{cause-not0}
+use Rattle.stream.proofs.ChainLaws.{cause_walk}
 use Rattle.directory.proofs.OpenLaws.{chain-not, chain_nine, chain-done}
 use Rattle.directory.proofs.open_file.open_chain.Goals as goal
 
-pub fat_chain-w-requires : goal.fat_chain-w-requires
-fat_chain-w-requires c =
+pub fat_chain-requires : goal.fat_chain-requires
+fat_chain-requires c =
     let p = c.requires in
     let a = c.args in
     (p.0, (p.1.0, (p.1.1.0, in_heap_lem a.y.count a.first p.1.1.1.0)))
 
-pub returns-then-number-ne0 : goal.returns-then-number-ne0
-returns-then-number-ne0 c =
+pub returns-in_err-w : goal.returns-in_err-w
+returns-in_err-w c =
     let p = c.requires.1.1.1 in
-    let w = c.fat_chain-w in
-    c.not_opened.ensures ∙ chain-not _ _ _ _ _ _ w.result w.ensures p.0 p.1 _ c.walk_cause-number.ensures (λ z. omega arith)
+    let q = err_from_is_err_and c.from_residual.result c.from_residual.ensures.1 in
+    rw (q.1, q.2) (chain-not _ _ _ _ _ _ _ c.in_err-w.ensures p.0 p.1 _ (sym (cause_walk _ _ _ (cause-not0 _))) (cause-not0 _))
+
+pub returns-in_err-walk_cause : goal.returns-in_err-walk_cause
+returns-in_err-walk_cause c =
+    let p = c.requires.1.1.1 in
+    let q = err_from_is_err_and c.from_residual-in_err-walk_cause.result c.from_residual-in_err-walk_cause.ensures.1 in
+    rw (q.1, q.2) (chain-not _ _ _ _ _ _ _ c.in_ok-w.ensures p.0 p.1 _ c.in_err-walk_cause.ensures (cause-not0 _))
 
 pub returns-then-w : goal.returns-then-w
 returns-then-w c =
     let p = c.requires.1.1.1 in
-    let w = c.fat_chain-w in
-    chain-done _ _ _ _ _ _ w.result w.ensures p.0 p.1 _ c.walk_cause-number.ensures (omega arith) (cc)
+    chain-done _ _ _ _ _ _ _ c.in_ok-w.ensures p.0 p.1 _ c.in_ok-walk_cause.ensures refl (cc)
 
-pub returns : goal.returns
-returns c =
+pub returns-else-w : goal.returns-else-w
+returns-else-w c =
     let p = c.requires.1.1.1 in
-    let w = c.fat_chain-w in
-    c.not_opened-2.ensures ∙ chain_nine _ _ _ _ _ _ w.result w.ensures p.0 p.1 _ c.walk_cause-number.ensures (omega arith) (cc)
+    chain_nine _ _ _ _ _ _ _ c.in_ok-w.ensures p.0 p.1 _ c.in_ok-walk_cause.ensures refl (cc)

@@ -1,7 +1,9 @@
-use mathlib.Core.Path.{refl, sym, ◌∙◌}
+use mathlib.Core.Path.{refl, sym}
 use mathlib.Core.Bool.{true}
 use Prim.Native.Nat.{◌+◌, ◌-◌}
 use native.Mathlib.Omega.{arith}
+use Rattle.std.proofs.lemmas.Result.{err_from_is_err_and}
+use Rattle.boot.proofs.CauseLaws.{cause-not0}
 use Rattle.metadata.specs.Fat.{fat_entry}
 use Rattle.stream.specs.declared.allocation.Allocation.{Allocation}
 use Rattle.stream.proofs.BytesSteps.{reach_run}
@@ -9,30 +11,29 @@ use Rattle.stream.proofs.ListingLaws.{along_heap}
 use Rattle.directory.proofs.OpenLaws.{stream_not, stream_system, stream_done}
 use Rattle.directory.proofs.open_file.open_run.Goals as goal
 
-pub returns-then-number-ne0 : goal.returns-then-number-ne0
-returns-then-number-ne0 c =
+pub returns-in_err-stream_cause : goal.returns-in_err-stream_cause
+returns-in_err-stream_cause c =
     let a = c.args in
-    let s = c.stream_cause-number in
-    c.not_opened.ensures ∙ stream_not a.y a.vol.now a.map.now (record { first = a.first; last = a.first + a.n - 1; count = a.n; no_fat_chain = true }) a.goal s.result s.ensures (λ z. omega arith)
+    let b : Allocation = record { first = a.first; last = a.first + a.n - 1; count = a.n; no_fat_chain = true } in
+    let q = err_from_is_err_and c.from_residual.result c.from_residual.ensures.1 in
+    rw (q.1, q.2) (stream_not a.y a.vol.now a.map.now b a.goal _ c.in_err-stream_cause.ensures (cause-not0 _))
 
-pub system_cause-system-requires : goal.system_cause-system-requires
-system_cause-system-requires c =
+pub system_cause-requires : goal.system_cause-requires
+system_cause-requires c =
     let a = c.args in
     let p = c.requires in
-    let s = c.stream_cause-number in
-    (p.0, (p.1.0, (p.1.1.0, (along_heap a.y a.vol.now (record { first = a.first; last = a.first + a.n - 1; count = a.n; no_fat_chain = true }) (sym s.ensures ∙ (omega arith)), omega arith))))
+    let b : Allocation = record { first = a.first; last = a.first + a.n - 1; count = a.n; no_fat_chain = true } in
+    (p.0, (p.1.0, (p.1.1.0, (along_heap a.y a.vol.now b (sym c.in_ok-stream_cause.ensures), omega arith))))
 
-pub returns-then-system-ne0 : goal.returns-then-system-ne0
-returns-then-system-ne0 c =
+pub returns-in_err-system_cause : goal.returns-in_err-system_cause
+returns-in_err-system_cause c =
     let a = c.args in
-    let s = c.stream_cause-number in
-    let t = c.system_cause-system in
-    c.not_opened-then-system-ne0.ensures ∙ stream_system a.y a.vol.now a.map.now (record { first = a.first; last = a.first + a.n - 1; count = a.n; no_fat_chain = true }) a.goal (sym s.ensures ∙ (omega arith)) t.result t.ensures (λ z. omega arith)
+    let b : Allocation = record { first = a.first; last = a.first + a.n - 1; count = a.n; no_fat_chain = true } in
+    let q = err_from_is_err_and c.from_residual-in_err-system_cause.result c.from_residual-in_err-system_cause.ensures.1 in
+    rw (q.1, q.2) (stream_system a.y a.vol.now a.map.now b a.goal (sym c.in_ok-stream_cause.ensures) _ c.in_err-system_cause.ensures (cause-not0 _))
 
 pub returns : goal.returns
 returns c =
     let a = c.args in
-    let s = c.stream_cause-number in
-    let t = c.system_cause-system in
     let b : Allocation = record { first = a.first; last = a.first + a.n - 1; count = a.n; no_fat_chain = true } in
-    stream_done a.y a.vol.now a.map.now b a.goal (sym s.ensures ∙ (omega arith)) t.result t.ensures (omega arith) _ (sym (reach_run (fat_entry a.y a.vol.now) true a.first a.goal refl))
+    stream_done a.y a.vol.now a.map.now b a.goal (sym c.in_ok-stream_cause.ensures) _ c.in_ok-system_cause.ensures refl _ (sym (reach_run (fat_entry a.y a.vol.now) true a.first a.goal refl))

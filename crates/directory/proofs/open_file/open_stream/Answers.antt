@@ -18,7 +18,7 @@ returns-then-len-eq0 c =
     let a = c.args in
     let z = takes_none a.y.size (data_length a.set.now) (omega (arith, p.0.size_low)) (omega arith) in
     let e = record_none a.y a.vol.now a.set.now z in
-    c.not_opened.ensures ∙ stream_none a.y a.vol.now a.map.now (file_record a.y a.vol.now a.set.now) _ e (omega (arith, ap (λ (x : Allocation). x.count) e, start_low a.y.size (valid_length a.set.now) a.offset (file_record a.y a.vol.now a.set.now).count))
+    rw c.empty_record.ensures (stream_none a.y a.vol.now a.map.now (file_record a.y a.vol.now a.set.now) _ e (omega (arith, ap (λ (x : Allocation). x.count) e, start_low a.y.size (valid_length a.set.now) a.offset (file_record a.y a.vol.now a.set.now).count)))
 
 pub overflow_cast-n : goal.overflow_cast-n
 overflow_cast-n c =
@@ -75,8 +75,8 @@ open_chain-requires c =
     let m : 1 ≤ k.result = omega (arith, n, takes_some a.y.size (data_length a.set.now) (omega (arith, p.0.size_low)) z) in
     (p.0, (p.1.0, (p.1.1.0, (ap (in_heap a.y.count) f.ensures ∙ l.first z, omega (arith, m, g.ensures, start_low a.y.size (valid_length a.set.now) a.offset k.result)))))
 
-pub returns : goal.returns
-returns c =
+pub returns-else-no_fat_chain : goal.returns-else-no_fat_chain
+returns-else-no_fat_chain c =
     let p = c.requires in
     let a = c.args in
     let f = c.first_cluster-first in

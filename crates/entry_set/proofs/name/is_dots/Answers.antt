@@ -1,16 +1,23 @@
-use Rattle.entry_set.proofs.NameLaws.{dots_one, dots_first, dots_second, dots_other}
-use mathlib.Core.Path.{sym}
+use mathlib.Core.Path.{◌≡◌, refl}
+use mathlib.Core.Bool.{◌||◌}
+use mathlib.Core.List.{List, [], ◌∷◌}
+use Prim.Native.Nat.{ℕ}
 use native.Mathlib.Omega.{arith}
+use lib.Dec.{eqb}
+use lib.Pointwise.{pointwise}
+use Rattle.std.proofs.lemmas.Grind.{common_steps}
+use Rattle.entry_set.specs.Name.{is_dots}
 use Rattle.entry_set.proofs.name.is_dots.Goals as goal
 
-pub returns-then-name-eq1 : goal.returns-then-name-eq1
-returns-then-name-eq1 c = sym (dots_one _ c.if-name-eq1.true)
+dots_are : (l : List ℕ) → is_dots l ≡ pointwise eqb l (46 ∷ []) || pointwise eqb l (46 ∷ 46 ∷ [])
+unfolding is_dots
+dots_are [] = refl
+dots_are (x ∷ []) = grind (arith, common_steps)
+dots_are (x ∷ y ∷ []) = grind (arith, common_steps)
+dots_are (x ∷ y ∷ z ∷ l) = grind (arith, common_steps)
 
-pub returns-then-name-ne2 : goal.returns-then-name-ne2
-returns-then-name-ne2 c = sym (dots_other _ (omega arith) (omega arith))
+pub returns-then-eq : goal.returns-then-eq
+returns-then-eq c = grind (arith, dots_are)
 
-pub returns-then-name-ne46 : goal.returns-then-name-ne46
-returns-then-name-ne46 c = sym (dots_first _ (omega arith) c.if-name-ne46.true)
-
-pub returns : goal.returns
-returns c = sym (dots_second _ (omega arith) c.if-name-ne46.false)
+pub returns-else-eq : goal.returns-else-eq
+returns-else-eq c = grind (arith, dots_are)

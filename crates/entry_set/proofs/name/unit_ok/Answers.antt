@@ -1,10 +1,12 @@
-use mathlib.Core.Path.{sym, ◌∙◌}
 use native.Mathlib.Omega.{arith}
-use Rattle.entry_set.proofs.NameLaws.{unit_low, unit_rest}
+use Rattle.std.proofs.lemmas.Grind.{common_steps}
+use Rattle.entry_set.specs.Name.{unit_ok}
 use Rattle.entry_set.proofs.name.unit_ok.Goals as goal
 
-pub returns-then-u-lt32 : goal.returns-then-u-lt32
-returns-then-u-lt32 c = sym (unit_low _ (omega arith))
+pub returns-then-u-ge32 : goal.returns-then-u-ge32
+unfolding unit_ok
+returns-then-u-ge32 c = grind (arith, common_steps)
 
-pub returns : goal.returns
-returns c = (cc) ∙ sym (unit_rest _ (omega arith))
+pub returns-else-u-ge32 : goal.returns-else-u-ge32
+unfolding unit_ok
+returns-else-u-ge32 c = grind (arith, common_steps)

@@ -1,4 +1,4 @@
-use mathlib.Core.Path.{◌≡◌, refl}
+use mathlib.Core.Path.{refl}
 use Prim.Native.Nat.{◌*◌}
 use native.Mathlib.Numerals.{add-one}
 use native.Mathlib.Omega.{arith}
@@ -8,16 +8,11 @@ use Rattle.entry_set.proofs.set.cleared.Goals as goal
 
 pub loop-i-init : goal.loop-i-init
 unfolding cleared
-loop-i-init c = (omega arith, refl)
+loop-i-init c = refl
 
 pub loop-i-preserved : goal.loop-i-preserved
 unfolding cleared
 loop-i-preserved c =
     let a = c.args in
     let l = c.loop-i in
-    (omega arith, rw add-one (cc (cleared_byte a.set.now l.i (32 * l.i) (λ j h e. omega arith))))
-
-pub returns : goal.returns
-returns c =
-    let e : c.loop-i.i ≡ c.args.n = omega arith in
-    cc
+    rw add-one (cc (cleared_byte a.set.now l.i (32 * l.i) (λ j h e. omega arith)))

@@ -68,10 +68,10 @@ overflow_cast-result-2 c =
     let p = c.requires in
     let a = c.args in
     let h = piece_inside a.y a.vol.now p.0 a.a p.1.1.0 a.valid a.offset p.1.1.1.0 p.1.1.1.1.0 a.k p.1.1.1.1.1 c.leading-together.result c.leading-together.ensures in
-    omega (arith, h, p.0.len_high, c.lesser-len.ensures)
+    omega (arith, h, p.0.len_high, c.min-len.ensures)
 
 pub returns : goal.returns
 returns c =
     let p = c.requires in
     let a = c.args in
-    (cc) ∙ (part_is a.y a.vol.now p.0 a.a p.1.1.0 a.valid a.offset p.1.1.1.0 p.1.1.1.1.0 a.k p.1.1.1.1.1 c.leading-together.result c.leading-together.ensures c.lesser-len.result c.lesser-len.ensures)
+    (cc) ∙ (part_is a.y a.vol.now p.0 a.a p.1.1.0 a.valid a.offset p.1.1.1.0 p.1.1.1.1.0 a.k p.1.1.1.1.1 c.leading-together.result c.leading-together.ensures c.min-len.result c.min-len.ensures)

@@ -1,16 +1,25 @@
-use mathlib.Core.Path.{◌≡◌, sym, ◌∙◌}
-use native.Mathlib.Omega.{arith}
+use mathlib.Core.Path.{sym, ◌∙◌}
+use Rattle.std.proofs.lemmas.Result.{err_from_is_err_and}
+use Rattle.boot.proofs.CauseLaws.{cause-not0}
 use Rattle.directory.specs.Directory.{root_record}
-use Rattle.read_file.specs.Read.{zero_cause}
 use Rattle.read_file.proofs.ReadSteps.{root-file_number, cause_zeros, cause_file}
 use Rattle.read_file.proofs.read.number_in.Goals as goal
 
-pub returns-then-number-ne0 : goal.returns-then-number-ne0
-returns-then-number-ne0 c = cause_zeros _ _ _ _ _ _ _ c.zero_cause-number.ensures (λ z. omega arith)
+pub returns-in_err-zero_cause : goal.returns-in_err-zero_cause
+returns-in_err-zero_cause c =
+    let q = err_from_is_err_and c.from_residual.result c.from_residual.ensures.1 in
+    rw (q.1, q.2) (cause_zeros _ _ _ _ _ _ _ c.in_err-zero_cause.ensures (cause-not0 _))
+
+pub returns-in_err-open_in_root : goal.returns-in_err-open_in_root
+returns-in_err-open_in_root c =
+    let a = c.args in
+    let q = err_from_is_err_and c.from_residual-in_err-open_in_root.result c.from_residual-in_err-open_in_root.ensures.1 in
+    rw (q.1, q.2)
+    (root-file_number a.y a.vol.now a.map.now (root_record a.y a.vol.now a.root) a.slot 0 _ c.in_err-open_in_root.ensures.0
+    ∙ cause_file a.y a.vol.now a.map.now (root_record a.y a.vol.now a.root) a.zeros.now a.slot (sym c.in_ok-zero_cause.ensures))
 
 pub returns : goal.returns
 returns c =
     let a = c.args in
-    let f = c.open_in_root-f in
-    let z : zero_cause a.zeros.now ≡ 0 = sym c.zero_cause-number.ensures ∙ (omega arith) in
-    root-file_number a.y a.vol.now a.map.now (root_record a.y a.vol.now a.root) a.slot 0 f.result f.ensures.0 ∙ cause_file a.y a.vol.now a.map.now (root_record a.y a.vol.now a.root) a.zeros.now a.slot z
+    root-file_number a.y a.vol.now a.map.now (root_record a.y a.vol.now a.root) a.slot 0 _ c.in_ok-open_in_root.ensures.0
+    ∙ cause_file a.y a.vol.now a.map.now (root_record a.y a.vol.now a.root) a.zeros.now a.slot (sym c.in_ok-zero_cause.ensures)

@@ -1,5 +1,6 @@
-use mathlib.Core.Path.{◌≡◌, sym, ◌∙◌, ap}
-use native.Mathlib.Omega.{arith}
+use mathlib.Core.Path.{refl, ◌∙◌, sym, ap}
+use Rattle.std.proofs.lemmas.Result.{err_from_is_err_and}
+use Rattle.boot.proofs.CauseLaws.{cause-not0}
 use Rattle.stream.specs.declared.allocation.Allocation.{Allocation}
 use Rattle.stream.specs.Bytes.{bytes_in}
 use Rattle.directory.specs.Directory.{root_record}
@@ -8,28 +9,24 @@ use Rattle.directory.proofs.DirectoryLaws.{root_number, root_record_lem, root_re
 use Rattle.read_file.proofs.ReadSteps.{root_refused, root_opens}
 use Rattle.read_file.proofs.read.open_in_root.Goals as goal
 
-pub returns-then-dir-ne0 : goal.returns-then-dir-ne0
-returns-then-dir-ne0 c =
+pub returns-in_err-dir : goal.returns-in_err-dir
+returns-in_err-dir c =
     let p = c.requires in
     let a = c.args in
-    let r = c.root_dir-dir in
-    let t = root_refused a.y a.vol.now a.map.now (root_record a.y a.vol.now a.root) a.slot a.offset r.result.number (root_number a.y a.vol.now a.root r.result r.ensures) (λ z. omega arith) in
-    (c.no_file.ensures ∙ t.0, p.1.1.1.1 ∙ t.1)
+    let t = root_refused a.y a.vol.now a.map.now (root_record a.y a.vol.now a.root) a.slot a.offset _ (root_number a.y a.vol.now a.root _ c.in_err-dir.ensures) (cause-not0 _) in
+    let q = err_from_is_err_and c.from_residual.result c.from_residual.ensures.1 in
+    rw (q.1, q.2) (t.0, p.1.1.1.1 ∙ t.1)
 
 pub open_file-requires : goal.open_file-requires
 open_file-requires c =
     let p = c.requires in
     let a = c.args in
-    let r = c.root_dir-dir in
-    let z : r.result.number ≡ 0 = omega arith in
-    (p.0, (p.1.0, (p.1.1.0, (p.1.1.1.0, (root_reads a.y a.vol.now a.root r.result r.ensures z, p.1.1.1.1)))))
+    (p.0, (p.1.0, (p.1.1.0, (p.1.1.1.0, (root_reads a.y a.vol.now a.root _ c.in_ok-dir.ensures refl, p.1.1.1.1)))))
 
 pub returns : goal.returns
 returns c =
-    let p = c.requires in
     let a = c.args in
-    let r = c.root_dir-dir in
-    let z : r.result.number ≡ 0 = omega arith in
-    let x = root_record_lem a.y a.vol.now a.root r.result r.ensures z in
-    let t = root_opens a.y a.vol.now a.map.now (root_record a.y a.vol.now a.root) a.slot a.offset (sym (root_number a.y a.vol.now a.root r.result r.ensures) ∙ z) in
+    let e = c.in_ok-dir.ensures in
+    let x = root_record_lem a.y a.vol.now a.root _ e refl in
+    let t = root_opens a.y a.vol.now a.map.now (root_record a.y a.vol.now a.root) a.slot a.offset (sym (root_number a.y a.vol.now a.root _ e)) in
     (c.open_file.ensures.0 ∙ ap (λ (u : Allocation). open_file a.y a.vol.now a.map.now u a.slot a.offset) x ∙ t.0, c.open_file.ensures.1 ∙ ap (λ (u : Allocation). set_read (bytes_in a.y a.vol.now u) a.slot) x ∙ t.1)

@@ -1,16 +1,16 @@
-use native.Mathlib.Omega.{arith}
-use Rattle.boot.proofs.Admission.{admit_number, admission}
+use Rattle.std.proofs.lemmas.Result.{err_from_is_err_and}
+use Rattle.boot.proofs.CauseLaws.{cause-not0}
+use Rattle.boot.proofs.Admission.{refuses, admits}
 use Rattle.read_file.proofs.ReadSteps.{number_not-admitted, number_admitted}
 use Rattle.read_file.proofs.read.read_number.Goals as goal
 
-pub returns-then-admission-ne0 : goal.returns-then-admission-ne0
-returns-then-admission-ne0 c = number_not-admitted _ _ _ _ _ _ (admit_number _ _ _ _ c.admit-admission.ensures) (λ z. omega arith)
+pub returns-in_err-y : goal.returns-in_err-y
+returns-in_err-y c =
+    let q = err_from_is_err_and c.from_residual.result c.from_residual.ensures.1 in
+    rw (q.1, q.2) (number_not-admitted _ _ _ _ _ _ (refuses _ _ _ _ c.in_err-y.ensures) (cause-not0 _))
 
 pub number_in-requires : goal.number_in-requires
-number_in-requires c =
-    let i = c.args in
-    let a = admission i.g i.vol.now i.map.now _ c.admit-admission.ensures (omega arith) in
-    (a.laid, (a.long, (a.wide, a.apart)))
+number_in-requires c = let a = admits _ _ _ _ c.in_ok-y.ensures in (a.laid, (a.long, (a.wide, a.apart)))
 
 pub returns : goal.returns
-returns c = number_admitted _ _ _ _ _ _ (admission _ _ _ _ c.admit-admission.ensures (omega arith)) _ c.number_in.ensures
+returns c = number_admitted _ _ _ _ _ _ (admits _ _ _ _ c.in_ok-y.ensures) _ c.number_in.ensures

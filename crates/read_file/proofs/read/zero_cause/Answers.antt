@@ -1,13 +1,18 @@
+use lib.ListN.{length}
 use mathlib.Core.Path.{sym, ◌∙◌}
-use native.Mathlib.Omega.{arith}
+use borrow.Author.Tests.{eqb-true, eqb-false}
 use Rattle.read_file.proofs.ReadSteps.{zero-empty, zero_tested}
 use Rattle.read_file.proofs.read.zero_cause.Goals as goal
-
-pub returns-then-zeros-eq0 : goal.returns-then-zeros-eq0
-returns-then-zeros-eq0 c = zero-empty _ (omega arith)
+use Rattle.read_file.proofs.read.zero_cause.Goals.{else-not-is_empty-via-then-not-is_empty+else-all_zero, else-not-is_empty-via-else-not-is_empty}
 
 pub returns-then-all_zero : goal.returns-then-all_zero
-returns-then-all_zero c = zero_tested _ _ (λ z. omega arith) (sym c.all_zero.ensures ∙ c.if-all_zero.true)
+returns-then-all_zero c =
+    zero_tested _ _ (eqb-false (length c.args.zeros.now) 0 (sym c.is_empty.ensures ∙ c.if-not-is_empty.true)) (sym c.all_zero.ensures ∙ c.if-all_zero.true)
 
 pub returns : goal.returns
-returns c = zero_tested _ _ (λ z. omega arith) (sym c.all_zero.ensures ∙ c.if-all_zero.false)
+returns c =
+    elim c.else-not-is_empty.branch [
+      | else-not-is_empty-via-then-not-is_empty+else-all_zero w ↦
+          zero_tested _ _ (eqb-false (length c.args.zeros.now) 0 (sym c.is_empty.ensures ∙ w.if-not-is_empty.true)) (sym w.all_zero.ensures ∙ w.if-all_zero.false)
+      | else-not-is_empty-via-else-not-is_empty w ↦ zero-empty _ (eqb-true (length c.args.zeros.now) 0 (sym c.is_empty.ensures ∙ w.if-not-is_empty.false))
+    ]

@@ -18,10 +18,3 @@ put_piece-requires c =
     let p = c.requires in
     let h = in_heap_lem _ _ (p.1.1.1.1 (omega arith)) in
     (p.0, (p.1.0, (h.0, (h.1, (omega (arith, cluster_in _ _ p.0 h.0 h.1), omega arith)))))
-
-pub put_piece-requires-2 : goal.put_piece-requires-2
-unfolding cluster_at
-put_piece-requires-2 c =
-    let p = c.requires in
-    let h = in_heap_lem _ _ (p.1.1.1.1 (omega arith)) in
-    (p.0, (p.1.0, (h.0, (h.1, (omega (arith, cluster_in _ _ p.0 h.0 h.1), omega arith)))))
