@@ -1,11 +1,13 @@
 // One call of the claim over lists, given by its kind and plain arguments.
 ghost use Rattle.std.specs.Prelude.{◌≡◌};
+ghost use Rattle.file.specs.Outcome.{file_answer};
 ghost use Rattle.write.specs.Calls.{step};
 ghost use Rattle.carry_out.specs.CallOf.{call_of};
 
+use boot::cause::Cause;
 use boot::geometry::Geometry;
 use entry_set::stamp::Stamps;
-use file::answer::FileAnswer;
+use file::answer::Carried;
 
 // The four calls that change files.
 #[derive(Clone, Copy)]
@@ -30,8 +32,8 @@ pub fn carry_out(
     data: &[u8],
     t: Stamps,
     hint: u32,
-) -> FileAnswer
-    ensures { let o = step g map.now vol.old (call_of kind name.now attributes hash slot number «data».now t hint) in (result ≡ o.answer) × (vol.new ≡ o.volume) }
+) -> Result<Carried, Cause>
+    ensures { let o = step g map.now vol.old (call_of kind name.now attributes hash slot number «data».now t hint) in (file_answer hint result ≡ o.answer) × (vol.new ≡ o.volume) }
 {
     match kind {
         Kind::NewFile => {

@@ -11,8 +11,7 @@ use Rattle.stream.specs.declared.allocation.Allocation.{Allocation}
 use Rattle.stream.specs.Stream.{number_of, stream_of, clusters_of, clusters_in}
 use Rattle.stream.proofs.ListingLaws.{stream_read}
 use Rattle.directory.specs.Directory.{bitmap_cause, directory_cause}
-use Rattle.file.specs.declared.answer.FileAnswer.{FileAnswer}
-use Rattle.file.specs.Outcome.{refuse}
+use Rattle.file.specs.Outcome.{FileAnswer, refuse}
 
 -- ---- a directory that opens
 

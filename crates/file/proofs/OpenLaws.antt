@@ -22,16 +22,14 @@ use Rattle.entry_set.specs.declared.stamp.Stamp.{Stamp}
 use Rattle.entry_set.specs.Fields.{valid_length, data_length, clusters_for}
 use Rattle.entry_set.proofs.LengthLaws.{clusters_hold}
 use Rattle.entry_set.proofs.SetLaws.{formed_lengths}
-use Rattle.file.specs.declared.answer.FileAnswer.{FileAnswer}
-use Rattle.file.specs.Outcome.{Outcome, refuse, carried}
+use Rattle.file.specs.Outcome.{FileAnswer, Outcome, refuse, carried}
 use Rattle.directory.specs.Directory.{bitmap_cause, directory_cause}
-use Rattle.directory.specs.Internal.{spot_of, spot_clusters, Reaches, no_file, start_place, found_file, open_file, set_read}
+use Rattle.directory.specs.Internal.{OpenedFile, spot_of, spot_clusters, Reaches, no_file, start_place, found_file, open_file, set_read}
 use Rattle.directory.proofs.DirectoryLaws.{clusters_length}
 use Rattle.directory.specs.Entries.{entry_count, entries_at, set_at, is_sound}
 use Rattle.directory.proofs.EntryLaws.{sound_few, sound_room, sound_formed, set-count}
 use Rattle.directory.proofs.FileLaws.{record_count, file_sound, file-read}
 use Rattle.directory.proofs.StartLaws.{start_known}
-use Rattle.directory.specs.declared.open_file.OpenFile.{OpenFile}
 use Rattle.directory.proofs.CursorLaws.{length_in, count_few}
 use Rattle.directory.specs.declared.spot.Spot.{Spot}
 use Rattle.directory.proofs.SpotLaws.{spot_reaches, spot_store}
@@ -55,7 +53,7 @@ system-drop m n ks e = rw (every_drop (λ k. not (in_map m k)) n ks (system-ever
 
 -- ---- a file that opens
 
-module _ (y : Layout) (d m : List ℕ) (a : Allocation) (slot : ℕ) (s : List ℕ) (f : OpenFile) (hint : ℕ) (o : Opens y d m a slot s f hint) where
+module _ (y : Layout) (d m : List ℕ) (a : Allocation) (slot : ℕ) (s : List ℕ) (f : OpenedFile) (hint : ℕ) (o : Opens y d m a slot s f hint) where
   abbrev b : Allocation
   b = f.stream
 
@@ -177,7 +175,7 @@ module _ (y : Layout) (d m : List ℕ) (a : Allocation) (slot hint : ℕ) where
 
 -- ---- the set of a file that opens, stored at its spot
 
-module _ (y : Layout) (d m : List ℕ) (a : Allocation) (slot : ℕ) (s : List ℕ) (f : OpenFile) (hint : ℕ) (o : Opens y d m a slot s f hint) where
+module _ (y : Layout) (d m : List ℕ) (a : Allocation) (slot : ℕ) (s : List ℕ) (f : OpenedFile) (hint : ℕ) (o : Opens y d m a slot s f hint) where
   pub open_reaches : Reaches y f.spot (entries_of s)
   open_reaches = stands_reaches y d a slot o.laid (entries_of s) f.spot (open_stands y d m a slot s f hint o) o.spot
 
@@ -192,7 +190,7 @@ module _ (y : Layout) (d m : List ℕ) (a : Allocation) (slot : ℕ) (s : List �
 
 -- ---- bytes stored in the directory leave the stream of a file that opens as it was
 
-module _ (y : Layout) (d m : List ℕ) (a : Allocation) (slot : ℕ) (s : List ℕ) (f : OpenFile) (hint : ℕ) (o : Opens y d m a slot s f hint) (at : ℕ) (bs e : List ℕ)
+module _ (y : Layout) (d m : List ℕ) (a : Allocation) (slot : ℕ) (s : List ℕ) (f : OpenedFile) (hint : ℕ) (o : Opens y d m a slot s f hint) (at : ℕ) (bs e : List ℕ)
     (q : e ≡ store_at y d (clusters_in y d a) at bs) where
   heap_in : every (in_heap y.count) (clusters_in y d a) ≡ true
   heap_in = unfold clusters_in in (stream_read y d a (open_directory y d m a slot s f hint o)).heap
@@ -301,10 +299,10 @@ module _ (y : Layout) (d m : List ℕ) (a : Allocation) (slot offset hint : ℕ)
       by true q = q
       by false q = absurd (let z = heap_met y.count hint q in omega arith)
 
-  module _ (w : Fits y d) (k : y.count ≤ 8 * length m) (f : OpenFile) (e : f ≡ target y d m a slot offset hint) (s : List ℕ) (q : s ≡ target_set y d a slot hint)
+  module _ (w : Fits y d) (k : y.count ≤ 8 * length m) (f : OpenedFile) (e : f ≡ target y d m a slot offset hint) (s : List ℕ) (q : s ≡ target_set y d a slot hint)
       (z : f.number ≡ 0) where
     open_none : open_cause y d m a slot hint ≡ 0
-    open_none = sym target_number ∙ ap (λ (x : OpenFile). x.number) (sym e) ∙ z
+    open_none = sym target_number ∙ ap (λ (x : OpenedFile). x.number) (sym e) ∙ z
 
     pub found_opens : Opens y d m a slot s f hint
     found_opens =
@@ -320,8 +318,8 @@ module _ (y : Layout) (d m : List ℕ) (a : Allocation) (slot offset hint : ℕ)
           directory = u.0;
           file = v.0;
           set = i;
-          spot = ap (λ (x : OpenFile). x.spot) (e ∙ target_is open_none) ∙ found_spot;
-          stream = ap (λ (x : OpenFile). x.stream) (e ∙ target_is open_none) ∙ found_stream ∙ ap (file_record y d) (sym i);
+          spot = ap (λ (x : OpenedFile). x.spot) (e ∙ target_is open_none) ∙ found_spot;
+          stream = ap (λ (x : OpenedFile). x.stream) (e ∙ target_is open_none) ∙ found_stream ∙ ap (file_record y d) (sym i);
           hint_in = hint_of_lem c.0;
         }
 
@@ -330,6 +328,6 @@ module _ (y : Layout) (d m : List ℕ) (a : Allocation) (slot offset hint : ℕ)
     found_known =
         let o = found_opens in
         let i : f.place ≡ start_place y d f.stream s offset =
-        ap (λ (x : OpenFile). x.place) (e ∙ target_is open_none) ∙ found_place ∙ ap (λ (x : List ℕ). start_place y d (file_record y d x) x offset) (sym o.set)
+        ap (λ (x : OpenedFile). x.place) (e ∙ target_is open_none) ∙ found_place ∙ ap (λ (x : List ℕ). start_place y d (file_record y d x) x offset) (sym o.set)
         ∙ ap (λ (x : Allocation). start_place y d x s offset) (sym o.stream) in
         rw i (start_known y d f.stream s offset)

@@ -24,8 +24,7 @@ use Rattle.stream.proofs.Distinct.{read_length}
 use Rattle.stream.proofs.BytesLaws.{along_store}
 use Rattle.entry_set.specs.Fields.{clusters_for}
 use Rattle.entry_set.proofs.LengthLaws.{clusters_hold}
-use Rattle.write_alloc.specs.declared.answer.Answer.{Answer}
-use Rattle.write_alloc.specs.Outcome.{Outcome}
+use Rattle.write_alloc.specs.Outcome.{Answer, Outcome}
 use Rattle.write_extend.specs.Extend.{extend_in}
 use Rattle.write_extend.proofs.EnoughLaws.{Extended, extend_done}
 use Rattle.write_alloc.proofs.AllocateLaws.{space_met, space_kept}
@@ -38,9 +37,6 @@ module _ (y : Layout) (b : Allocation) (len : ℕ) where
   pub missing_is : missing y b len ≡ clusters_for y.size len - b.count
   unfolding missing
   missing_is = refl
-
-  pub missing-none : clusters_for y.size len ≤ b.count → missing y b len ≡ 0
-  missing-none h = missing_is ∙ (omega arith)
 
   module _ (d m : List ℕ) where
     pub length_met : count (is_usable y d m) 2 y.count < clusters_for y.size len - b.count → length_cause y d m b len ≡ 7

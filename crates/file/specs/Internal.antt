@@ -9,10 +9,9 @@ use Rattle.stream.specs.declared.bytes.Place.{Place}
 use Rattle.stream.specs.Bytes.{bytes_in}
 use Rattle.stream.specs.Internal.{place_at}
 use Rattle.stream.specs.Stream.{number_of, stream_of}
-use Rattle.directory.specs.declared.open_file.OpenFile.{OpenFile}
 use Rattle.directory.specs.Directory.{directory_cause}
 use Rattle.directory.specs.Open.{file_record, file_cause, set_in}
-use Rattle.directory.specs.Internal.{spot_of, set_read, found_file, no_file}
+use Rattle.directory.specs.Internal.{OpenedFile, spot_of, set_read, found_file, no_file}
 use Rattle.file.specs.Refresh.{open_cause}
 
 -- where usable clusters for a stream are looked for first
@@ -26,7 +25,7 @@ pub record Stands (y : Layout) (d : List ℕ) (a : Allocation) (slot n : ℕ) : 
   pub room : 32 * (slot + n) ≤ a.count * y.size
 
 -- file f with set s at a slot of directory a, where nothing refuses directory, file and hint
-pub record Opens (y : Layout) (d m : List ℕ) (a : Allocation) (slot : ℕ) (s : List ℕ) (f : OpenFile) (hint : ℕ) : Type 0 where
+pub record Opens (y : Layout) (d m : List ℕ) (a : Allocation) (slot : ℕ) (s : List ℕ) (f : OpenedFile) (hint : ℕ) : Type 0 where
   pub laid : Laid y
   pub apart : Apart y
   pub long : length d ≡ y.len
@@ -40,7 +39,7 @@ pub record Opens (y : Layout) (d m : List ℕ) (a : Allocation) (slot : ℕ) (s 
 
 -- the file at a slot of directory a as a call on its bytes from an offset on finds it: where its set stands, its stream's record and where
 -- the call begins in it, or the number of what refuses it
-unfoldable pub target : (y : Layout) (d m : List ℕ) (a : Allocation) (slot offset hint : ℕ) → OpenFile
+unfoldable pub target : (y : Layout) (d m : List ℕ) (a : Allocation) (slot offset hint : ℕ) → OpenedFile
 target y d m a slot offset hint =
     let n = open_cause y d m a slot hint in
     cond (n == 0) (found_file y d a slot offset) (no_file n)

@@ -5,17 +5,20 @@ ghost use Rattle.boot.specs.Layout.{in_heap};
 ghost use Rattle.stream.specs.Stream.{number_of, stream_of, clusters_in};
 ghost use Rattle.stream.specs.Bytes.{store_at};
 ghost use Rattle.stream.specs.Internal.{Known};
+ghost use Rattle.boot.specs.Causes.{number};
+ghost use Rattle.write_alloc.specs.Outcome.{success};
 ghost use Rattle.write_extend.specs.Extend.{extend_in};
 ghost use Rattle.directory.specs.Internal.{spot_clusters, Reaches};
 ghost use Rattle.file.specs.Refresh.{entries_of, recorded, missing, length_cause};
 ghost use Rattle.file.specs.Internal.{grown_place, zeroed_place, near_of};
 
+use boot::cause::Cause;
 use boot::layout::Layout;
 use directory::spot::Spot;
 use entry_set::stamp::Stamp;
 use stream::allocation::Allocation;
 use stream::bytes::Place;
-use write_alloc::answer::Answer;
+use write_alloc::answer::Updated;
 
 // The entries of a set.
 pub fn entries_of(set: &[u8; 608]) -> usize
@@ -31,24 +34,31 @@ fn near_of(b: Allocation, hint: u32) -> u32
     if b.count == 0 {
         return hint;
     }
-    std::num::wrapping_add_u32(b.last, 1)
+    b.last.wrapping_add(1)
 }
 
-// What refuses a length: more clusters are missing than are usable. They are searched only where some are missing.
-pub fn length_cause(vol: &[u8], map: &[u8], y: Layout, b: Allocation, len: u64, hint: u32) -> u32
+// Refuses a length for which more clusters are missing than are usable. They are searched only where some are missing.
+pub fn length_cause(
+    vol: &[u8],
+    map: &[u8],
+    y: Layout,
+    b: Allocation,
+    len: u64,
+    hint: u32,
+) -> Result<(), Cause>
     requires { Laid y × ((length vol.now ≡ y.len) × (y.count ≤ 8 * length map.now)) }
-    ensures { result ≡ length_cause y vol.now map.now b len }
+    ensures { number result ≡ length_cause y vol.now map.now b len }
 {
     let needed = entry_set::entry::clusters_for(y.size, len);
     let there = b.count as u64;
     if needed <= there {
-        return 0;
+        return Ok(());
     }
     let near = near_of(b, hint);
     if choice::choice::enough(vol, map, y, near, needed - there) {
-        return 0;
+        return Ok(());
     }
-    7
+    Err(Cause::NoSpace)
 }
 
 // The clusters that a stream must add for a length.
@@ -56,12 +66,7 @@ fn missing(y: Layout, b: Allocation, len: u64) -> u32
     requires { Laid y × (missing y b len ≤ 32768) }
     ensures { result ≡ missing y b len }
 {
-    let needed = entry_set::entry::clusters_for(y.size, len);
-    let there = b.count as u64;
-    if needed <= there {
-        return 0;
-    }
-    (needed - there) as u32
+    entry_set::entry::clusters_for(y.size, len).saturating_sub(b.count as u64) as u32
 }
 
 // Fills a stream with zeros from one byte up to another; nothing where that is not above it (Rust: `zero_range`). Answers the place that
@@ -97,9 +102,9 @@ pub fn grown_place(b: Allocation, known: Place, a: Allocation) -> Place
 }
 
 // Adds the clusters that a stream misses for a length; then it reads, and holds the length.
-pub fn grow_to(vol: &mut [u8], map: &[u8], y: Layout, b: Allocation, len: u64, hint: u32) -> Answer
+pub fn grow_to(vol: &mut [u8], map: &[u8], y: Layout, b: Allocation, len: u64, hint: u32) -> Updated
     requires { Laid y × ((length vol.old ≡ y.len) × ((y.count ≤ 8 * length map.now) × (Apart y × ((in_heap y.count hint ≡ true) × ((number_of (stream_of y vol.old b) ≡ 0) × (length_cause y vol.old map.now b len ≡ 0)))))) }
-    ensures { let o = extend_in y vol.old map.now b (missing y b len) hint in (result ≡ o.answer) × ((vol.new ≡ o.volume) × ((number_of (stream_of y vol.new result.allocation) ≡ 0) × (len ≤ result.allocation.count * y.size))) }
+    ensures { let o = extend_in y vol.old map.now b (missing y b len) hint in (success result ≡ o.answer) × ((vol.new ≡ o.volume) × ((number_of (stream_of y vol.new result.allocation) ≡ 0) × (len ≤ result.allocation.count * y.size))) }
 {
     let n = missing(y, b, len);
     write_extend::extend::grow_in(vol, map, y, b, n, hint)

@@ -2,9 +2,10 @@
 ghost use Rattle.std.specs.Prelude.{◌≡◌, ◌*◌, ◌≤◌, length, replicate};
 ghost use Rattle.boot.specs.Internal.{Laid, Apart};
 ghost use Rattle.directory.specs.Directory.{root_record};
+ghost use Rattle.directory.specs.Internal.{file_opened};
 ghost use Rattle.file.specs.Internal.{target, target_set};
 
-use crate::answer::FileAnswer;
+use boot::cause::Cause;
 use boot::layout::Layout;
 use directory::open_file::OpenFile;
 
@@ -18,28 +19,13 @@ pub fn open_target(
     offset: u64,
     hint: u32,
     set: &mut [u8; 608],
-) -> OpenFile
+) -> Result<OpenFile, Cause>
     requires { Laid y × ((length vol.now ≡ y.len) × ((y.count ≤ 8 * length map.now) × (Apart y × (set.old ≡ replicate 608 0)))) }
-    ensures { (result ≡ target y vol.now map.now (root_record y vol.now root) slot offset hint) × (set.new ≡ target_set y vol.now (root_record y vol.now root) slot hint) }
+    ensures { (file_opened result ≡ target y vol.now map.now (root_record y vol.now root) slot offset hint) × (set.new ≡ target_set y vol.now (root_record y vol.now root) slot hint) }
 {
-    if boot::layout::in_heap(y.count, hint) {
-        let dir = directory::directory::root_dir(vol, map, y, root);
-        if dir.number != 0 {
-            return directory::open_file::no_file(dir.number);
-        }
-        let a = dir.allocation;
-        return directory::open_file::open_file(vol, map, y, a, slot, offset, set);
+    if !boot::layout::in_heap(y.count, hint) {
+        return Err(Cause::OutsideHeap);
     }
-    directory::open_file::no_file(2)
-}
-
-// A refusal: slot 0, and the hint as given.
-pub fn refused(number: u32, hint: u32) -> FileAnswer
-    ensures { result ≡ record { number = number; slot = 0; hint = hint } }
-{
-    FileAnswer {
-        number: number,
-        slot: 0,
-        hint: hint,
-    }
+    let dir = directory::directory::root_dir(vol, map, y, root)?;
+    directory::open_file::open_file(vol, map, y, dir, slot, offset, set)
 }

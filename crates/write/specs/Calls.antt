@@ -3,8 +3,7 @@ use Rattle.std.specs.Prelude.{List, [], ◌∷◌, ℕ}
 use Rattle.boot.specs.declared.geometry.Geometry.{Geometry}
 use Rattle.entry_set.specs.declared.stamp.Stamp.{Stamp}
 use Rattle.entry_set.specs.declared.stamp.Stamps.{Stamps}
-use Rattle.file.specs.declared.answer.FileAnswer.{FileAnswer}
-use Rattle.file.specs.Outcome.{Outcome}
+use Rattle.file.specs.Outcome.{FileAnswer, Outcome}
 use Rattle.write_file.specs.NewFile.{new_file}
 use Rattle.write_file.specs.Write.{write_into}
 use Rattle.write_length.specs.SetLength.{set_length}

@@ -1,8 +1,8 @@
 -- The model (01: plain tapes): a table from slots to lists of bytes, fed only the calls, their numbers and new slots.
+use Rattle.file.specs.Outcome.{FileAnswer}
 use Rattle.std.specs.Prelude.{Bool, true, false, not, cond, List, [], ◌∷◌, ◌++◌, ℕ, ◌+◌, ◌-◌, eqb, length, take, drop, replicate}
 use Rattle.std.proofs.Math.Option.{Option, none, some}
 use Rattle.tables.specs.Table.{upd}
-use Rattle.file.specs.declared.answer.FileAnswer.{FileAnswer}
 use Rattle.write.specs.Calls.{Call, New, Write, SetLength, Remove}
 
 -- zeros up to the offset if the list is shorter, then the data from there on, past the end if need be

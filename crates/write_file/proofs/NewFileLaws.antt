@@ -10,7 +10,7 @@ use Rattle.boot.specs.Causes.{first_cause, admit_cause, heap_cause, space_cause}
 use Rattle.tables.proofs.Cases.{and_left, and_right}
 use Rattle.boot.proofs.Admission.{Admits}
 use Rattle.boot.proofs.CauseLaws.{cause_skip, cause_met, cause_last, heap_met, heap_kept}
-use Rattle.search.specs.declared.found.Found.TheVariants.{At}
+use Rattle.std.specs.Prelude.{Some}
 use Rattle.metadata.specs.Usable.{is_usable}
 use Rattle.metadata.proofs.Frame.{Fits, fits_kept}
 use Rattle.stream.specs.declared.allocation.Allocation.{Allocation}
@@ -22,19 +22,18 @@ use Rattle.entry_set.specs.declared.stamp.Stamps.{Stamps}
 use Rattle.entry_set.specs.Name.{name_ok, name_cause, attributes_ok, attribute_cause}
 use Rattle.entry_set.specs.Fields.{name_entries}
 use Rattle.entry_set.specs.New.{new_entries, new_set}
-use Rattle.write_alloc.proofs.AllocateLaws.{space_met, space_kept}
+use Rattle.write_alloc.proofs.AllocateLaws.{space_met}
 use Rattle.search.proofs.Lowest.{run_at}
-use Rattle.directory.specs.declared.directory.Directory.{Directory}
 use Rattle.directory.specs.declared.entries.Room.{Room}
 use Rattle.directory.specs.Directory.{root_record, directory_cause}
-use Rattle.directory.specs.Internal.{open_root, room_for, spot_of, spot_clusters}
+use Rattle.directory.specs.Internal.{Directory, open_root, room_for, spot_of, spot_clusters}
 use Rattle.directory.specs.Entries.{entry_count, in_use}
 use Rattle.directory.specs.Room.{free_run, slot_of, with_zeros, growth}
 use Rattle.directory.proofs.CursorLaws.{length-entries, entries_is, slot_bytes}
 use Rattle.directory.proofs.GrowthLaws.{place_at_lem, grown_at}
 use Rattle.directory.proofs.DirectoryLaws.{clusters_length}
 use Rattle.directory.specs.declared.spot.Spot.{Spot}
-use Rattle.write_dir.specs.declared.place.Added.{Added}
+use Rattle.write_alloc.specs.declared.answer.Updated.{Updated}
 use Rattle.file.specs.Outcome.{refuse, carried}
 use Rattle.write_dir.specs.Place.{GrownDirectory, grow_by}
 use Rattle.write_dir.specs.Internal.{Growable, standing, added_of}
@@ -94,15 +93,15 @@ module _ (y : Layout) (d m : List ℕ) (a : Allocation) (hint : ℕ) (r : Ready 
     whole : length bs ≡ 32 * entry_count bs
     whole = length-entries y d ready_fits a ready_reads ∙ ap (λ (x : ℕ). 32 * x) (entries_is y d ready_fits a ready_reads)
 
-    wide_found : free_run (with_zeros bs (growth y.size bs n * y.size)) n ≡ At (slot_of (free_run (with_zeros bs (growth y.size bs n * y.size)) n))
+    wide_found : free_run (with_zeros bs (growth y.size bs n * y.size)) n ≡ Some (slot_of (free_run (with_zeros bs (growth y.size bs n * y.size)) n))
     unfolding slot_of
     wide_found =
         let l = r.laid in
         let q = grown_at bs n whole _ (place_at_lem bs n whole) y.size (y.size / 32) (sym l.whole) (let b = l.size_low in omega arith) in
-        q ∙ ap At (ap slot_of (sym q))
+        q ∙ ap Some (ap slot_of (sym q))
 
-    found : free_run (bytes_in y w.volume w.directory) n ≡ At room.slot
-    found = ap (λ (x : List ℕ). free_run x n) bytes_are ∙ wide_found ∙ ap At (sym slot_is)
+    found : free_run (bytes_in y w.volume w.directory) n ≡ Some room.slot
+    found = ap (λ (x : List ℕ). free_run x n) bytes_are ∙ wide_found ∙ ap Some (sym slot_is)
 
     slot_there : slot_of (free_run (bytes_in y w.volume w.directory) n) ≡ room.slot
     unfolding slot_of
@@ -126,7 +125,7 @@ module _ (y : Layout) (d m : List ℕ) (a : Allocation) (hint : ℕ) (r : Ready 
       room = omega (arith, slot_bytes y w.volume grown_fits w.directory grown_reads room.slot n grown_room);
     }
 
-    module _ (v : Added) (e : List ℕ) (p : v ≡ added_of (grow_by y m room.clusters (standing d a hint)))
+    module _ (v : Updated) (e : List ℕ) (p : v ≡ added_of (grow_by y m room.clusters (standing d a hint)))
         (q : e ≡ (grow_by y m room.clusters (standing d a hint)).volume) where
       same : standing e v.allocation v.hint ≡ w
       same = λ z. record { volume = q z; directory = (p z).allocation; hint = (p z).hint }
@@ -167,9 +166,6 @@ entries_are n k e = ap (λ (x : ℕ). 2 + x) e
 
 pub space_enough : (n k : ℕ) → space_cause n k ≡ 0 → n ≤ k
 space_enough n k e = elim (dec_lt k n) [ yes h ↦ absurd (let q = space_met n k h in omega arith) | no h ↦ omega arith ]
-
-space_seven : (n k : ℕ) → space_cause n k ≢ 0 → space_cause n k ≡ 7
-space_seven n k e = elim (dec_lt k n) [ yes h ↦ space_met n k h | no h ↦ absurd (e (space_kept n k (omega arith))) ]
 
 -- ---- what refuses a new file
 
@@ -231,8 +227,8 @@ module _ (y : Layout) (d m : List ℕ) (a : Allocation) (name : List ℕ) (attri
             ∙ ap (λ (x : ℕ). space_cause x (count (is_usable y d m) 2 y.count)) (sym growth_is)
 
         pub new_space : (c : ℕ) → c ≡ space_cause room.clusters (count (is_usable y d m) 2 y.count) → c ≢ 0
-            → new_file_in y d m a name attributes hash t hint ≡ refuse 7 hint d
-        new_space c e z = refused_is 7 (last_cause ∙ space_seven _ _ (λ q. z (e ∙ q))) (λ q. omega arith)
+            → new_file_in y d m a name attributes hash t hint ≡ refuse c hint d
+        new_space c e z = refused_is c (last_cause ∙ sym e) z
 
         pub new-done : (c : ℕ) → c ≡ space_cause room.clusters (count (is_usable y d m) 2 y.count) → c ≡ 0 → (s : List ℕ) → s ≡ new_set name attributes hash t
             → new_file_in y d m a name attributes hash t hint ≡ placed y (grow_by y m room.clusters (standing d a hint)) k s

@@ -11,7 +11,7 @@ use Rattle.stream.specs.declared.allocation.Allocation.{Allocation}
 use Rattle.stream.specs.Bytes.{store_at}
 use Rattle.entry_set.specs.declared.stamp.Stamp.{Stamp}
 use Rattle.entry_set.specs.Fields.{valid_length, data_length}
-use Rattle.write_alloc.specs.declared.answer.Answer.{Answer}
+use Rattle.write_alloc.specs.Outcome.{Answer}
 use Rattle.write_alloc.specs.Outcome as Alloc
 use Rattle.write_extend.specs.Extend.{extend_in}
 use Rattle.directory.specs.Directory.{root_record}
@@ -19,8 +19,7 @@ use Rattle.stream.specs.Stream.{clusters_in}
 use Rattle.file.specs.Outcome.{Outcome, carried, refuse}
 use Rattle.directory.specs.Open.{file_record, set_in}
 use Rattle.file.specs.Refresh.{stored, missing, length_cause, open_cause, refreshed_only}
-use Rattle.write_file.specs.declared.write.DataAnswer.{DataAnswer}
-use Rattle.write_file.specs.Internal.{DataOutcome, store_cause, unstored, data_stored}
+use Rattle.write_file.specs.Internal.{DataAnswer, DataOutcome, store_cause, unstored, data_stored}
 use Rattle.write_file.specs.Write.{end_cause, data_cause, with_data, written, write_cause, write_in, write_into}
 
 -- zeros, then data

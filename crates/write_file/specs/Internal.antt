@@ -1,16 +1,17 @@
 -- What only contracts of inner functions, and proofs, speak of: no promise of a public call and no clause of the claim needs it.
-use Rattle.std.specs.Prelude.{◌≡◌, ℕ, ◌+◌, ◌*◌, ◌≤◌, max, true, cond, List, [], ◌∷◌, length, ◌==◌}
+use Rattle.std.specs.Prelude.{◌≡◌, ℕ, ◌+◌, ◌*◌, ◌≤◌, max, true, cond, List, [], ◌∷◌, length, ◌==◌, Result, Ok, Err}
 use Rattle.boot.specs.declared.layout.Layout.{Layout}
 use Rattle.boot.specs.Limits.{in_map}
 use Rattle.boot.specs.Internal.{Laid, Apart}
 use Rattle.boot.specs.Layout.{in_heap, is_bitmap_cluster}
 use Rattle.stream.specs.declared.allocation.Allocation.{Allocation}
-use Rattle.boot.specs.Causes.{first_cause}
+use Rattle.boot.specs.declared.cause.Cause.{Cause}
+use Rattle.boot.specs.Causes.{cause_number, first_cause}
 use Rattle.stream.specs.Stream.{clusters_in}
 use Rattle.write_extend.specs.Extend.{extend_in}
 use Rattle.directory.specs.Directory.{directory_cause}
 use Rattle.file.specs.Refresh.{missing, length_cause}
-use Rattle.write_file.specs.declared.write.DataAnswer.{DataAnswer}
+use Rattle.write_file.specs.declared.write.Stored.{Stored}
 use Rattle.write_file.specs.Write.{end_cause, with_data}
 
 -- what internal functions require: a volume in the limits, a directory that opens, and a hint in the heap
@@ -22,6 +23,19 @@ pub record Ready (y : Layout) (d m : List ℕ) (a : Allocation) (hint : ℕ) : T
   pub mapped : (k : ℕ) → is_bitmap_cluster y k ≡ true → in_map m k ≡ true
   pub directory : directory_cause y d a ≡ 0
   pub hint_in : in_heap y.count hint ≡ true
+
+-- what storing data answers: a number, and the stream, both lengths and the hint
+pub record DataAnswer : Type 0 where
+  pub number : ℕ
+  pub allocation : Allocation
+  pub valid : ℕ
+  pub len : ℕ
+  pub hint : ℕ
+
+-- by what its function gives: refused, what the file has
+abbrev pub data_answer : (b : Allocation) (valid len hint : ℕ) → Result Stored Cause → DataAnswer
+data_answer b valid len hint (Ok w) = record { number = 0; allocation = w.allocation; valid = w.valid; len = w.len; hint = w.hint }
+data_answer b valid len hint (Err c) = record { number = cause_number c; allocation = b; valid = valid; len = len; hint = hint }
 
 -- what storing data answers, and the volume after it
 pub record DataOutcome : Type 0 where

@@ -1,5 +1,5 @@
 // Write: data stored in a file at an offset (Rust: `write_into`).
-ghost use Rattle.std.specs.Prelude.{◌≡◌, ◌+◌, ◌-◌, ◌*◌, ◌<◌, ◌≤◌, min, max, true, length};
+ghost use Rattle.std.specs.Prelude.{◌≡◌, ◌+◌, ◌-◌, ◌*◌, ◌<◌, ◌≤◌, min, true, length};
 ghost use Rattle.boot.specs.Internal.{Laid, Apart};
 ghost use Rattle.boot.specs.Layout.{in_heap};
 ghost use Rattle.stream.specs.Stream.{number_of, stream_of, clusters_in};
@@ -7,35 +7,27 @@ ghost use Rattle.stream.specs.Internal.{Known};
 ghost use Rattle.write_extend.specs.Extend.{extend_in};
 ghost use Rattle.directory.specs.Directory.{root_record};
 ghost use Rattle.file.specs.Refresh.{missing, length_cause};
-ghost use Rattle.write_file.specs.Internal.{data_stored};
+ghost use Rattle.write_alloc.specs.Outcome.{success};
+ghost use Rattle.file.specs.Outcome.{file_answer};
+ghost use Rattle.write_file.specs.Internal.{data_answer, data_stored};
 ghost use Rattle.write_file.specs.Write.{with_data, write_in, write_into};
 
+use boot::cause::Cause;
 use boot::geometry::Geometry;
 use boot::layout::Layout;
 use entry_set::stamp::Stamp;
-use file::answer::FileAnswer;
+use file::answer::Carried;
 use stream::allocation::Allocation;
 use stream::bytes::Place;
-use write_alloc::answer::Answer;
+use write_alloc::answer::Updated;
 
-// What storing data makes of a file but its set: the stream, both lengths and the hint; or the number of what refuses it.
+// What storing data makes of a file but its set: the stream, both lengths and the hint.
 #[derive(Clone, Copy)]
-struct DataAnswer {
-    number: u32,
+struct Stored {
     allocation: Allocation,
     valid: u64,
     len: u64,
     hint: u32,
-}
-
-// The larger of two numbers.
-fn max(a: u64, b: u64) -> u64
-    ensures { result ≡ max a b }
-{
-    if a < b {
-        return b;
-    }
-    a
 }
 
 // Puts data into a stream: zeros from valid up to the offset where it passes valid, from the known place on, then the data, from the place
@@ -68,9 +60,9 @@ fn put_grown(
     offset: u64,
     src: &[u8],
     hint: u32,
-) -> Answer
+) -> Updated
     requires { Laid y × ((length vol.old ≡ y.len) × ((y.count ≤ 8 * length map.now) × (Apart y × ((in_heap y.count hint ≡ true) × ((number_of (stream_of y vol.old b) ≡ 0) × ((length_cause y vol.old map.now b len ≡ 0) × ((offset + length src.now ≤ len) × (Known y vol.old b known (min valid offset) × (1 ≤ length src.now))))))))) }
-    ensures { let o = extend_in y vol.old map.now b (missing y b len) hint in (result ≡ o.answer) × (vol.new ≡ with_data y o.volume (clusters_in y o.volume result.allocation) valid offset src.now) }
+    ensures { let o = extend_in y vol.old map.now b (missing y b len) hint in (success result ≡ o.answer) × (vol.new ≡ with_data y o.volume (clusters_in y o.volume result.allocation) valid offset src.now) }
 {
     let r = file::refresh::grow_to(vol, map, y, b, len, hint);
     let place = file::refresh::grown_place(b, known, r.allocation);
@@ -78,20 +70,8 @@ fn put_grown(
     r
 }
 
-// No data stored: a number, and what the file has.
-fn unstored(number: u32, b: Allocation, valid: u64, len: u64, hint: u32) -> DataAnswer
-    ensures { result ≡ record { number = number; allocation = b; valid = valid; len = len; hint = hint } }
-{
-    DataAnswer {
-        number: number,
-        allocation: b,
-        valid: valid,
-        len: len,
-        hint: hint,
-    }
-}
-
-// Stores data in the stream of a file with these lengths: 8, 7, or the stream grown, zeroed and stored to; nothing for empty data.
+// Stores data in the stream of a file with these lengths: refused by its end or by its length, else the stream grown, zeroed and stored to;
+// nothing for empty data.
 fn write_data(
     vol: &mut [u8],
     map: &[u8],
@@ -103,31 +83,30 @@ fn write_data(
     offset: u64,
     src: &[u8],
     hint: u32,
-) -> DataAnswer
+) -> Result<Stored, Cause>
     requires { Laid y × ((length vol.old ≡ y.len) × ((y.count ≤ 8 * length map.now) × (Apart y × ((in_heap y.count hint ≡ true) × ((number_of (stream_of y vol.old b) ≡ 0) × Known y vol.old b known (min valid offset)))))) }
-    ensures { let o = data_stored y vol.old map.now b valid len offset src.now hint in (result ≡ o.answer) × (vol.new ≡ o.volume) }
+    ensures { let o = data_stored y vol.old map.now b valid len offset src.now hint in (data_answer b valid len hint result ≡ o.answer) × (vol.new ≡ o.volume) }
 {
-    if src.len() == 0 {
-        return unstored(0, b, valid, len, hint);
+    if src.is_empty() {
+        return Ok(Stored {
+            allocation: b,
+            valid,
+            len,
+            hint,
+        });
     }
-    if 18446744073709551615 - offset < src.len() as u64 {
-        return unstored(8, b, valid, len, hint);
-    }
-    let end = offset + src.len() as u64;
-    let goal = max(len, end);
-    let number = file::refresh::length_cause(vol, map, y, b, goal, hint);
-    if number != 0 {
-        return unstored(number, b, valid, len, hint);
-    }
+    let Some(end) = offset.checked_add(src.len() as u64) else {
+        return Err(Cause::PastEnd);
+    };
+    let goal = len.max(end);
+    file::refresh::length_cause(vol, map, y, b, goal, hint)?;
     let r = put_grown(vol, map, y, b, known, goal, valid, offset, src, hint);
-    let a = r.allocation;
-    DataAnswer {
-        number: 0,
-        allocation: a,
-        valid: max(valid, end),
+    Ok(Stored {
+        allocation: r.allocation,
+        valid: valid.max(end),
         len: goal,
         hint: r.hint,
-    }
+    })
 }
 
 // Write on a volume that keeps the limits.
@@ -141,31 +120,22 @@ fn write_in(
     src: &[u8],
     t: Stamp,
     hint: u32,
-) -> FileAnswer
+) -> Result<Carried, Cause>
     requires { Laid y × ((length vol.old ≡ y.len) × ((y.count ≤ 8 * length map.now) × Apart y)) }
-    ensures { let o = write_in y vol.old map.now (root_record y vol.old root) slot offset src.now t hint in (result ≡ o.answer) × (vol.new ≡ o.volume) }
+    ensures { let o = write_in y vol.old map.now (root_record y vol.old root) slot offset src.now t hint in (file_answer hint result ≡ o.answer) × (vol.new ≡ o.volume) }
 {
     let mut set = [0u8; 608];
-    let f = file::target::open_target(vol, map, y, root, slot, offset, hint, &mut set);
-    if f.number != 0 {
-        return file::target::refused(f.number, hint);
-    }
-    let b = f.stream;
+    let f = file::target::open_target(vol, map, y, root, slot, offset, hint, &mut set)?;
     let valid = entry_set::entry::valid_length(&set);
     let len = entry_set::entry::data_length(&set);
-    let place = f.place;
-    let w = write_data(vol, map, y, b, place, valid, len, offset, src, hint);
-    if w.number != 0 {
-        return file::target::refused(w.number, hint);
-    }
-    let spot = f.spot;
-    let a = w.allocation;
-    file::refresh::record_set(vol, y, spot, &mut set, a, w.valid, w.len, t);
-    FileAnswer {
-        number: 0,
+    let w = write_data(
+        vol, map, y, f.stream, f.place, valid, len, offset, src, hint,
+    )?;
+    file::refresh::record_set(vol, y, f.spot, &mut set, w.allocation, w.valid, w.len, t);
+    Ok(Carried {
         slot: 0,
         hint: w.hint,
-    }
+    })
 }
 
 // Writes data to a file of the root at an offset.
@@ -178,22 +148,9 @@ pub fn write_into(
     src: &[u8],
     t: Stamp,
     hint: u32,
-) -> FileAnswer
-    ensures { let o = write_into g vol.old map.now slot offset src.now t hint in (result ≡ o.answer) × (vol.new ≡ o.volume) }
+) -> Result<Carried, Cause>
+    ensures { let o = write_into g vol.old map.now slot offset src.now t hint in (file_answer hint result ≡ o.answer) × (vol.new ≡ o.volume) }
 {
-    let admission = boot::layout::admit(g, vol.len(), map);
-    if admission.number != 0 {
-        return file::target::refused(admission.number, hint);
-    }
-    write_in(
-        vol,
-        map,
-        admission.layout,
-        g.root_cluster,
-        slot,
-        offset,
-        src,
-        t,
-        hint,
-    )
+    let y = boot::layout::admit(g, vol.len(), map)?;
+    write_in(vol, map, y, g.root_cluster, slot, offset, src, t, hint)
 }

@@ -3,11 +3,12 @@ use mathlib.Core.Path.{◌≡◌, refl, sym, ◌∙◌, ap, ap₂}
 use mathlib.Core.Bool.{true}
 use mathlib.Core.List.{List, [], ◌∷◌}
 use Prim.Native.Nat.{ℕ, ◌+◌, ◌-◌, ◌*◌, ◌/◌, ◌%◌, ◌≤◌, ◌<◌, min}
-use native.Mathlib.Nat.{div-add-mod', add-mul, one-mul}
-use native.Mathlib.Decide.{ℕ_discrete, dec_lt}
+use native.Mathlib.Nat.{div-add-mod', add-mul, one-mul, mod-lt, mod-le, mod_self, mod-eq_of_lt, sub-zero}
+use native.Mathlib.Decide.{ℕ_discrete, dec_lt, dec_le}
 use native.Mathlib.Omega.{arith}
 use lib.ListN.{take, drop, replicate}
 use borrow.Author.Tests.{eq-eqb, ne_eqb, lt-ltb, le-ltb}
+use Rattle.std.specs.Int.{next_multiple_of}
 use Rattle.tables.specs.Lists.{every}
 use Rattle.tables.proofs.ListLaws.{every_mem}
 use Rattle.boot.specs.declared.layout.Layout.{Layout}
@@ -27,7 +28,7 @@ use Rattle.stream.proofs.ListingLaws.{along_heap}
 use Rattle.entry_set.specs.declared.stamp.Stamp.{Stamp}
 use Rattle.entry_set.specs.Fields.{valid_length, data_length, clusters_for}
 use Rattle.entry_set.proofs.SoundLaws.{clusters_even, clusters_rest}
-use Rattle.write_alloc.specs.declared.answer.Answer.{Answer}
+use Rattle.write_alloc.specs.Outcome.{Answer}
 use Rattle.write_alloc.specs.Outcome as Alloc
 use Rattle.write_extend.specs.Extend.{extend_in}
 use Rattle.write_shrink.specs.declared.shrink.Kept.{Kept}
@@ -40,8 +41,7 @@ use Rattle.file.specs.Outcome.{Outcome, carried, refuse}
 use Rattle.directory.specs.Open.{file_record, set_in}
 use Rattle.file.specs.Refresh.{entries_of, recorded, stored, missing, length_cause, open_cause, refreshed_only}
 use Rattle.write_length.specs.SetLength.{zero_end, shorter, longer_file, resized, set_length_cause, set_length_in, set_length}
-use Rattle.directory.specs.declared.open_file.OpenFile.{OpenFile}
-use Rattle.directory.specs.Internal.{spot_clusters}
+use Rattle.directory.specs.Internal.{OpenedFile, spot_clusters}
 use Rattle.file.specs.Internal.{Opens}
 use Rattle.write_length.specs.declared.set_length.Cut.{Cut}
 use Rattle.write_length.specs.Internal.{cut_plan, cut_to, lengthened}
@@ -60,6 +60,20 @@ module _ (size valid len : ℕ) (h : 1 ≤ size) where
       let z : clusters_for size valid * size ≡ valid - valid % size + size =
       ap (λ (k : ℕ). k * size) (clusters_rest size valid h e) ∙ (omega (arith, div-add-mod' valid size, add-mul (valid / size) 1 size, one-mul size)) in
       ap (λ (x : ℕ). min x len) z
+
+  pub end_is : valid ≤ len → min (next_multiple_of valid size) len ≡ zero_end size valid len
+  end_is f =
+      elim (dec_le (valid % size) 0) [
+        | yes b ↦ (
+            let e : valid % size ≡ 0 = omega arith in
+            let z : (size - valid % size) % size ≡ 0 = ap (λ (x : ℕ). (size - x) % size) e ∙ ap (λ (x : ℕ). x % size) (sub-zero size) ∙ mod_self size in
+            omega (arith, z, end_whole f e)
+            )
+        | no b ↦ (
+            let z : (size - valid % size) % size ≡ size - valid % size = mod-eq_of_lt (omega arith) in
+            omega (arith, z, mod-lt valid {m = size} h, mod-le valid size, end_rest (λ e. omega arith))
+            )
+      ]
 
   pub end_le : zero_end size valid len ≤ len
   unfolding zero_end
@@ -184,7 +198,7 @@ plan_is y d b len keep part kept reads k h p q =
 
 -- ---- the set of a file that opens stored, then its stream cut
 
-module _ (y : Layout) (d m : List ℕ) (a : Allocation) (slot : ℕ) (s : List ℕ) (f : OpenFile) (hint : ℕ) (o : Opens y d m a slot s f hint) (len : ℕ) (t : Stamp)
+module _ (y : Layout) (d m : List ℕ) (a : Allocation) (slot : ℕ) (s : List ℕ) (f : OpenedFile) (hint : ℕ) (o : Opens y d m a slot s f hint) (len : ℕ) (t : Stamp)
     (valid : ℕ) (c : Cut) (ec : c ≡ cut_plan y d f.stream len) (e : List ℕ)
     (r : e ≡ store_at y d (spot_clusters f.spot) f.spot.at (take (32 * entries_of s) (recorded s c.kept valid len t))) where
   there : e ≡ stored y d (clusters_in y d a) slot s c.kept valid len t

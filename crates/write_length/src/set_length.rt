@@ -1,5 +1,5 @@
 // Set length: a file cut, refreshed or made longer (Rust: `set_length`).
-ghost use Rattle.std.specs.Prelude.{◌≡◌, true, ◌+◌, ◌-◌, ◌*◌, ◌≤◌, ◌<◌, min, length, replicate};
+ghost use Rattle.std.specs.Prelude.{◌≡◌, true, ◌-◌, ◌*◌, ◌≤◌, ◌<◌, length, replicate};
 ghost use Rattle.boot.specs.Internal.{Laid, Apart};
 ghost use Rattle.boot.specs.Layout.{in_heap};
 ghost use Rattle.metadata.specs.Fat.{fat_entry};
@@ -10,17 +10,20 @@ ghost use Rattle.entry_set.specs.Fields.{clusters_for};
 ghost use Rattle.write_extend.specs.Extend.{extend_in};
 ghost use Rattle.write_shrink.specs.Internal.{kept_part};
 ghost use Rattle.directory.specs.Directory.{root_record};
+ghost use Rattle.write_alloc.specs.Outcome.{success};
+ghost use Rattle.file.specs.Outcome.{file_answer};
 ghost use Rattle.file.specs.Refresh.{missing, length_cause};
 ghost use Rattle.write_length.specs.Internal.{cut_plan, cut_to, lengthened};
 ghost use Rattle.write_length.specs.SetLength.{zero_end, set_length_in, set_length};
 
+use boot::cause::Cause;
 use boot::geometry::Geometry;
 use boot::layout::Layout;
 use entry_set::stamp::Stamp;
-use file::answer::FileAnswer;
+use file::answer::Carried;
 use stream::allocation::Allocation;
 use stream::bytes::Place;
-use write_alloc::answer::Answer;
+use write_alloc::answer::Updated;
 use write_shrink::shrink::Kept;
 
 // What a cut keeps: how many clusters, what a walk of them tells, and their record.
@@ -31,27 +34,12 @@ struct Cut {
     kept: Allocation,
 }
 
-// The smaller of two numbers.
-fn min(a: u64, b: u64) -> u64
-    ensures { result ≡ min a b }
-{
-    if a < b {
-        return a;
-    }
-    b
-}
-
 // Where the zeros of a longer file end.
 fn zero_end(y: Layout, valid: u64, len: u64) -> u64
     requires { Laid y × ((valid ≤ len) × (valid ≤ 1073741824)) }
     ensures { result ≡ zero_end y.size valid len }
 {
-    let size = y.size as u64;
-    let rest = valid % size;
-    if rest == 0 {
-        return valid;
-    }
-    min(valid - rest + size, len)
+    valid.next_multiple_of(y.size as u64).min(len)
 }
 
 // A stream cut to a length: the clusters kept, what a walk of them tells, and their record, a run where their numbers rise by one.
@@ -62,11 +50,7 @@ fn cut_plan(vol: &[u8], y: Layout, b: Allocation, len: u64) -> Cut
     let keep = entry_set::entry::clusters_for(y.size, len) as u32;
     let part = write_shrink::shrink::kept_part(vol, y, b.no_fat_chain, b.first, keep);
     let kept = write_shrink::shrink::kept_record(b.first, keep, part);
-    Cut {
-        keep: keep,
-        part: part,
-        kept: kept,
-    }
+    Cut { keep, part, kept }
 }
 
 // Frees the clusters of a stream that are not kept, where there are any.
@@ -90,9 +74,9 @@ fn grow_zeroed(
     len: u64,
     valid: u64,
     hint: u32,
-) -> Answer
+) -> Updated
     requires { Laid y × ((length vol.old ≡ y.len) × ((y.count ≤ 8 * length map.now) × (Apart y × ((in_heap y.count hint ≡ true) × ((number_of (stream_of y vol.old b) ≡ 0) × ((length_cause y vol.old map.now b len ≡ 0) × ((valid ≤ len) × ((valid ≤ 1073741824) × Known y vol.old b known valid)))))))) }
-    ensures { let o = extend_in y vol.old map.now b (missing y b len) hint in (result ≡ o.answer) × (vol.new ≡ store_at y o.volume (clusters_in y o.volume result.allocation) valid (replicate (zero_end y.size valid len - valid) 0)) }
+    ensures { let o = extend_in y vol.old map.now b (missing y b len) hint in (success result ≡ o.answer) × (vol.new ≡ store_at y o.volume (clusters_in y o.volume result.allocation) valid (replicate (zero_end y.size valid len - valid) 0)) }
 {
     let to = zero_end(y, valid, len);
     let r = file::refresh::grow_to(vol, map, y, b, len, hint);
@@ -112,15 +96,14 @@ fn lengthen(
     len: u64,
     valid: u64,
     hint: u32,
-) -> Answer
+) -> Updated
     requires { Laid y × ((length vol.old ≡ y.len) × ((y.count ≤ 8 * length map.now) × (Apart y × ((in_heap y.count hint ≡ true) × ((number_of (stream_of y vol.old b) ≡ 0) × ((length_cause y vol.old map.now b len ≡ 0) × ((valid ≤ len) × ((valid ≤ 1073741824) × Known y vol.old b known valid)))))))) }
-    ensures { let o = lengthened y vol.old map.now b old len valid hint in (result ≡ o.answer) × (vol.new ≡ o.volume) }
+    ensures { let o = lengthened y vol.old map.now b old len valid hint in (success result ≡ o.answer) × (vol.new ≡ o.volume) }
 {
     if len == old {
-        return Answer {
-            number: 0,
+        return Updated {
             allocation: b,
-            hint: hint,
+            hint,
         };
     }
     grow_zeroed(vol, map, y, b, known, len, valid, hint)
@@ -136,45 +119,29 @@ fn set_length_in(
     len: u64,
     t: Stamp,
     hint: u32,
-) -> FileAnswer
+) -> Result<Carried, Cause>
     requires { Laid y × ((length vol.old ≡ y.len) × ((y.count ≤ 8 * length map.now) × Apart y)) }
-    ensures { let o = set_length_in y vol.old map.now (root_record y vol.old root) slot len t hint in (result ≡ o.answer) × (vol.new ≡ o.volume) }
+    ensures { let o = set_length_in y vol.old map.now (root_record y vol.old root) slot len t hint in (file_answer hint result ≡ o.answer) × (vol.new ≡ o.volume) }
 {
     let mut set = [0u8; 608];
-    let f = file::target::open_target(vol, map, y, root, slot, len, hint, &mut set);
-    if f.number != 0 {
-        return file::target::refused(f.number, hint);
-    }
+    let f = file::target::open_target(vol, map, y, root, slot, len, hint, &mut set)?;
     let b = f.stream;
-    let spot = f.spot;
-    let number = file::refresh::length_cause(vol, map, y, b, len, hint);
-    if number != 0 {
-        return file::target::refused(number, hint);
-    }
+    file::refresh::length_cause(vol, map, y, b, len, hint)?;
     let valid = entry_set::entry::valid_length(&set);
     let old = entry_set::entry::data_length(&set);
     if len < old {
         let c = cut_plan(vol, y, b, len);
-        let kept = c.kept;
-        let part = c.part;
-        let capped = min(valid, len);
-        file::refresh::record_set(vol, y, spot, &mut set, kept, capped, len, t);
-        cut_to(vol, y, b, c.keep, part);
-        return FileAnswer {
-            number: 0,
-            slot: 0,
-            hint: hint,
-        };
+        let capped = valid.min(len);
+        file::refresh::record_set(vol, y, f.spot, &mut set, c.kept, capped, len, t);
+        cut_to(vol, y, b, c.keep, c.part);
+        return Ok(Carried { slot: 0, hint });
     }
-    let place = f.place;
-    let r = lengthen(vol, map, y, b, place, old, len, valid, hint);
-    let a = r.allocation;
-    file::refresh::record_set(vol, y, spot, &mut set, a, valid, len, t);
-    FileAnswer {
-        number: 0,
+    let r = lengthen(vol, map, y, b, f.place, old, len, valid, hint);
+    file::refresh::record_set(vol, y, f.spot, &mut set, r.allocation, valid, len, t);
+    Ok(Carried {
         slot: 0,
         hint: r.hint,
-    }
+    })
 }
 
 // Sets the length of a file of the root.
@@ -186,21 +153,9 @@ pub fn set_length(
     len: u64,
     t: Stamp,
     hint: u32,
-) -> FileAnswer
-    ensures { let o = set_length g vol.old map.now slot len t hint in (result ≡ o.answer) × (vol.new ≡ o.volume) }
+) -> Result<Carried, Cause>
+    ensures { let o = set_length g vol.old map.now slot len t hint in (file_answer hint result ≡ o.answer) × (vol.new ≡ o.volume) }
 {
-    let admission = boot::layout::admit(g, vol.len(), map);
-    if admission.number != 0 {
-        return file::target::refused(admission.number, hint);
-    }
-    set_length_in(
-        vol,
-        map,
-        admission.layout,
-        g.root_cluster,
-        slot,
-        len,
-        t,
-        hint,
-    )
+    let y = boot::layout::admit(g, vol.len(), map)?;
+    set_length_in(vol, map, y, g.root_cluster, slot, len, t, hint)
 }

@@ -29,8 +29,7 @@ use Rattle.directory.proofs.DirectoryLaws.{clusters_length}
 use Rattle.file.specs.Outcome.{refuse, carried}
 use Rattle.directory.specs.Open.{file_record, set_in}
 use Rattle.directory.specs.declared.spot.Spot.{Spot}
-use Rattle.directory.specs.declared.open_file.OpenFile.{OpenFile}
-use Rattle.directory.specs.Internal.{spot_clusters}
+use Rattle.directory.specs.Internal.{OpenedFile, spot_clusters}
 use Rattle.directory.proofs.SpotLaws.{spot_store}
 use Rattle.file.specs.Refresh.{entries_of, open_cause}
 use Rattle.file.specs.Internal.{Opens}
@@ -59,7 +58,7 @@ module _ (y : Layout) (d m : List ℕ) (a : Allocation) (slot hint : ℕ) where
         shown_as removed (carried-shown 0 hint left e' (q ∙ ap₂ (λ (u : List ℕ) (x : Allocation). (shrink_in y u m x 0 hint).volume) z eb))
 
 -- the set of a file that opens, stored at its spot with its entries cleared
-module _ (y : Layout) (d m : List ℕ) (a : Allocation) (slot : ℕ) (s : List ℕ) (f : OpenFile) (hint : ℕ) (o : Opens y d m a slot s f hint) (e : List ℕ)
+module _ (y : Layout) (d m : List ℕ) (a : Allocation) (slot : ℕ) (s : List ℕ) (f : OpenedFile) (hint : ℕ) (o : Opens y d m a slot s f hint) (e : List ℕ)
     (r : e ≡ store_at y d (spot_clusters f.spot) f.spot.at (take (32 * entries_of s) (cleared s (entries_of s)))) where
   abbrev bs : List ℕ
   bs = take (32 * entries_of s) (cleared s (entries_of s))

@@ -5,13 +5,15 @@ ghost use Rattle.stream.specs.Bytes.{store_at};
 ghost use Rattle.entry_set.specs.Put.{cleared};
 ghost use Rattle.directory.specs.Directory.{root_record};
 ghost use Rattle.directory.specs.Internal.{spot_clusters, Reaches};
+ghost use Rattle.file.specs.Outcome.{file_answer};
 ghost use Rattle.file.specs.Refresh.{entries_of};
 ghost use Rattle.write_remove.specs.Remove.{remove_in, remove};
 
+use boot::cause::Cause;
 use boot::geometry::Geometry;
 use boot::layout::Layout;
 use directory::spot::Spot;
-use file::answer::FileAnswer;
+use file::answer::Carried;
 
 // Clears the InUse bit of each entry of a set, and stores it.
 fn unset(vol: &mut [u8], y: Layout, spot: Spot, set: &mut [u8; 608])
@@ -24,35 +26,37 @@ fn unset(vol: &mut [u8], y: Layout, spot: Spot, set: &mut [u8; 608])
 }
 
 // Remove on a volume that keeps the limits: the entries first, then the clusters.
-fn remove_in(vol: &mut [u8], map: &[u8], y: Layout, root: u32, slot: u32, hint: u32) -> FileAnswer
+fn remove_in(
+    vol: &mut [u8],
+    map: &[u8],
+    y: Layout,
+    root: u32,
+    slot: u32,
+    hint: u32,
+) -> Result<Carried, Cause>
     requires { Laid y × ((length vol.old ≡ y.len) × ((y.count ≤ 8 * length map.now) × Apart y)) }
-    ensures { let o = remove_in y vol.old map.now (root_record y vol.old root) slot hint in (result ≡ o.answer) × (vol.new ≡ o.volume) }
+    ensures { let o = remove_in y vol.old map.now (root_record y vol.old root) slot hint in (file_answer hint result ≡ o.answer) × (vol.new ≡ o.volume) }
 {
     let mut set = [0u8; 608];
-    let f = file::target::open_target(vol, map, y, root, slot, 0, hint, &mut set);
-    if f.number != 0 {
-        return file::target::refused(f.number, hint);
-    }
-    let spot = f.spot;
+    let f = file::target::open_target(vol, map, y, root, slot, 0, hint, &mut set)?;
     let b = f.stream;
     let keep: u32 = 0;
-    unset(vol, y, spot, &mut set);
+    unset(vol, y, f.spot, &mut set);
     let part = write_shrink::shrink::kept_part(vol, y, b.no_fat_chain, b.first, keep);
     write_shrink::shrink::cut_in(vol, y, b, keep, part);
-    FileAnswer {
-        number: 0,
-        slot: 0,
-        hint: hint,
-    }
+    Ok(Carried { slot: 0, hint })
 }
 
 // Removes a file of the root.
-pub fn remove(vol: &mut [u8], map: &[u8], g: Geometry, slot: u32, hint: u32) -> FileAnswer
-    ensures { let o = remove g vol.old map.now slot hint in (result ≡ o.answer) × (vol.new ≡ o.volume) }
+pub fn remove(
+    vol: &mut [u8],
+    map: &[u8],
+    g: Geometry,
+    slot: u32,
+    hint: u32,
+) -> Result<Carried, Cause>
+    ensures { let o = remove g vol.old map.now slot hint in (file_answer hint result ≡ o.answer) × (vol.new ≡ o.volume) }
 {
-    let admission = boot::layout::admit(g, vol.len(), map);
-    if admission.number != 0 {
-        return file::target::refused(admission.number, hint);
-    }
-    remove_in(vol, map, admission.layout, g.root_cluster, slot, hint)
+    let y = boot::layout::admit(g, vol.len(), map)?;
+    remove_in(vol, map, y, g.root_cluster, slot, hint)
 }

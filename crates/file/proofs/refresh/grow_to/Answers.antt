@@ -1,5 +1,6 @@
 use Rattle.std.proofs.Common.{arith}
 use Rattle.metadata.proofs.Frame.{Fits}
+use Rattle.write_alloc.specs.Outcome.{success}
 use Rattle.file.proofs.RefreshLaws.{length_enough, usable_few, grow_shown}
 use Rattle.file.proofs.refresh.grow_to.Goals as goal
 
@@ -21,4 +22,4 @@ returns c =
     let a = c.args in
     let p = c.requires in
     let w : Fits a.y a.vol.now = record { laid = p.0; apart = p.1.1.1.0; long = p.1.0 } in
-    grow_shown a.y a.vol.now a.map.now w a.b a.len a.hint p.1.1.1.1.1.0 p.1.1.1.1.0 p.1.1.1.1.1.1 _ c.missing-n.ensures _ _ c.grow_in.ensures
+    grow_shown a.y a.vol.now a.map.now w a.b a.len a.hint p.1.1.1.1.1.0 p.1.1.1.1.0 p.1.1.1.1.1.1 _ c.missing-n.ensures (success c.grow_in.result) _ c.grow_in.ensures

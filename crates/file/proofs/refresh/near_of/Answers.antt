@@ -8,4 +8,4 @@ returns-then-b-eq0 c = simp (eq-eqb _ _ c.if-b-eq0.true)
 
 pub returns : goal.returns
 unfolding near_of
-returns c = simp (ne_eqb _ _ c.if-b-eq0.false) c.wrapping_add_u32.ensures.value
+returns c = simp (ne_eqb _ _ c.if-b-eq0.false)

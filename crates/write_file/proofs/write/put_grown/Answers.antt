@@ -2,6 +2,7 @@ use Rattle.std.proofs.Common.{ℕ, List, ap, ◌∙◌, arith}
 use Rattle.metadata.proofs.Frame.{Fits}
 use Rattle.stream.specs.Stream.{clusters_in}
 use Rattle.file.proofs.RefreshLaws.{grow_known}
+use Rattle.write_alloc.specs.Outcome.{success}
 use Rattle.write_file.specs.Write.{with_data}
 use Rattle.write_file.proofs.write.put_grown.Goals as goal
 
@@ -17,7 +18,7 @@ put_data-requires c =
     let w : Fits a.y a.vol.now = record { laid = p.0; apart = p.1.1.1.0; long = p.1.0 } in
     let g = c.grow_to-r in
     let k = c.grown_place-place in
-    let n = grow_known a.y a.vol.now a.map.now w a.b a.len a.hint p.1.1.1.1.1.0 p.1.1.1.1.0 p.1.1.1.1.1.1.0 g.result _ g.ensures.0 g.ensures.1.0 a.known _ p.1.1.1.1.1.1.1.1.0 in
+    let n = grow_known a.y a.vol.now a.map.now w a.b a.len a.hint p.1.1.1.1.1.0 p.1.1.1.1.0 p.1.1.1.1.1.1.0 (success g.result) _ g.ensures.0 g.ensures.1.0 a.known _ p.1.1.1.1.1.1.1.1.0 in
     (p.0, (omega arith, (p.1.1.1.0, (g.ensures.1.1.0, (omega (arith, g.ensures.1.1.1, p.1.1.1.1.1.1.1.0), (rw k.ensures n, p.1.1.1.1.1.1.1.1.1))))))
 
 pub returns : goal.returns

@@ -1,36 +1,35 @@
-use Rattle.std.proofs.Common.{◌≡◌, sym, ◌∙◌, arith}
+use lib.ListN.{length}
+use borrow.Author.Tests.{eqb-true, eqb-false}
+use Rattle.std.proofs.Common.{refl, sym, ◌∙◌, arith}
+use Rattle.std.proofs.lemmas.Result.{err_from_is_err_and}
+use Rattle.boot.proofs.CauseLaws.{cause-not0}
 use Rattle.write_file.proofs.WriteLaws.{stored-none, stored_past, stored_refused, stored-done}
 use Rattle.write_file.proofs.write.write_data.Goals as goal
 
-pub returns-then-src-eq0 : goal.returns-then-src-eq0
-returns-then-src-eq0 c =
+pub returns-then-is_empty : goal.returns-then-is_empty
+returns-then-is_empty c =
     let i = c.args in
-    let p = c.requires in
-    stored-none i.y i.vol.now i.map.now i.b i.valid i.len i.offset i.src.now i.hint (omega arith) _ c.unstored.ensures
+    stored-none i.y i.vol.now i.map.now i.b i.valid i.len i.offset i.src.now i.hint (eqb-true (length i.src.now) 0 (sym c.is_empty.ensures ∙ c.if-is_empty.true)) _ refl
 
-pub returns-then-offset-src : goal.returns-then-offset-src
-returns-then-offset-src c =
+pub returns-in_default : goal.returns-in_default
+returns-in_default c =
     let i = c.args in
-    let p = c.requires in
-    stored_past i.y i.vol.now i.map.now i.b i.valid i.len i.offset i.src.now i.hint (λ z. omega arith) (omega arith) _ c.unstored-then-offset-src.ensures
+    stored_past i.y i.vol.now i.map.now i.b i.valid i.len i.offset i.src.now i.hint (eqb-false (length i.src.now) 0 (sym c.is_empty.ensures ∙ c.if-is_empty.false)) (omega arith) _ refl
 
-pub returns-then-number-ne0 : goal.returns-then-number-ne0
-returns-then-number-ne0 c =
+pub returns-in_err-length_cause : goal.returns-in_err-length_cause
+returns-in_err-length_cause c =
     let i = c.args in
-    let p = c.requires in
-    stored_refused i.y i.vol.now i.map.now i.b i.valid i.len i.offset i.src.now i.hint (λ z. omega arith) (omega arith) c.max-goal.result c.max-goal.ensures c.length_cause-number.result c.length_cause-number.ensures (λ z. omega arith) _ c.unstored-then-number-ne0.ensures
+    let q = err_from_is_err_and c.from_residual.result c.from_residual.ensures.1 in
+    rw (q.1, q.2) (stored_refused i.y i.vol.now i.map.now i.b i.valid i.len i.offset i.src.now i.hint (eqb-false (length i.src.now) 0 (sym c.is_empty.ensures ∙ c.if-is_empty.false)) (omega arith) c.max-goal.result (omega (arith, c.max-goal.ensures)) _ c.in_err-length_cause.ensures (cause-not0 _) _ refl)
 
 pub put_grown-r-requires : goal.put_grown-r-requires
 put_grown-r-requires c =
     let i = c.args in
     let p = c.requires in
     let q = c.max-goal.ensures in
-    let z : c.length_cause-number.result ≡ 0 = omega arith in
-    (p.0, (p.1.0, (p.1.1.0, (p.1.1.1.0, (p.1.1.1.1.0, (p.1.1.1.1.1.0, (sym c.length_cause-number.ensures ∙ z, (omega (arith, q), (p.1.1.1.1.1.1, omega arith)))))))))
+    (p.0, (p.1.0, (p.1.1.0, (p.1.1.1.0, (p.1.1.1.1.0, (p.1.1.1.1.1.0, (sym c.in_ok-length_cause.ensures, (omega (arith, q), (p.1.1.1.1.1.1, omega (arith, (eqb-false (length i.src.now) 0 (sym c.is_empty.ensures ∙ c.if-is_empty.false))))))))))))
 
 pub returns : goal.returns
 returns c =
     let i = c.args in
-    let p = c.requires in
-    let z : c.length_cause-number.result ≡ 0 = omega arith in
-    stored-done i.y i.vol.now i.map.now i.b i.valid i.len i.offset i.src.now i.hint (λ z. omega arith) (omega arith) c.max-goal.result c.max-goal.ensures (sym c.length_cause-number.ensures ∙ z) c.max.result c.max.ensures _ _ c.put_grown-r.ensures.0 c.put_grown-r.ensures.1
+    stored-done i.y i.vol.now i.map.now i.b i.valid i.len i.offset i.src.now i.hint (eqb-false (length i.src.now) 0 (sym c.is_empty.ensures ∙ c.if-is_empty.false)) (omega arith) c.max-goal.result (omega (arith, c.max-goal.ensures)) (sym c.in_ok-length_cause.ensures) c.max.result (omega (arith, c.max.ensures)) _ _ c.put_grown-r.ensures.0 c.put_grown-r.ensures.1

@@ -6,6 +6,7 @@ use lib.ListN.{replicate}
 use Rattle.stream.specs.Bytes.{store_at}
 use Rattle.metadata.proofs.Frame.{Fits}
 use Rattle.stream.specs.Stream.{clusters_in}
+use Rattle.write_alloc.specs.Outcome.{success}
 use Rattle.write_extend.specs.Extend.{extend_in}
 use Rattle.file.specs.Refresh.{missing}
 use Rattle.file.proofs.RefreshLaws.{grow_known}
@@ -26,7 +27,7 @@ zero_range-requires c =
     let k = c.grown_place-place in
     let l = p.0 in
     let h : 1 ≤ a.y.size = omega (arith, l.size_low) in
-    let n = grow_known a.y a.vol.now a.map.now w a.b a.len a.hint p.1.1.1.1.1.0 p.1.1.1.1.0 p.1.1.1.1.1.1.0 g.result _ g.ensures.0 g.ensures.1.0 a.known _ p.1.1.1.1.1.1.1.1.1 in
+    let n = grow_known a.y a.vol.now a.map.now w a.b a.len a.hint p.1.1.1.1.1.0 p.1.1.1.1.0 p.1.1.1.1.1.1.0 (success g.result) _ g.ensures.0 g.ensures.1.0 a.known _ p.1.1.1.1.1.1.1.1.1 in
     (l, (omega arith, (p.1.1.1.0, (g.ensures.1.1.0, (omega (arith, g.ensures.1.1.1, c.zero_end-to.ensures, end_le a.y.size a.valid a.len h), rw k.ensures n)))))
 
 pub returns : goal.returns

@@ -1,17 +1,18 @@
-use native.Mathlib.Omega.{arith}
-use Rattle.boot.proofs.Admission.{admit_number, admission}
+use mathlib.Core.Path.{refl}
+use Rattle.std.proofs.lemmas.Result.{err_from_is_err_and}
+use Rattle.boot.proofs.CauseLaws.{cause-not0}
+use Rattle.boot.proofs.Admission.{refuses, admits}
 use Rattle.file.proofs.OpenLaws.{shown_as, refuse-shown}
 use Rattle.write_length.proofs.SetLengthLaws.{set_is, set-not-admitted}
 use Rattle.write_length.proofs.set_length.set_length.Goals as goal
 
-pub returns-then-admission-ne0 : goal.returns-then-admission-ne0
-returns-then-admission-ne0 c = shown_as (set-not-admitted _ _ _ _ _ _ _ _ (admit_number _ _ _ _ c.admit-admission.ensures) (λ z. omega arith)) (refuse-shown _ _ _ _ c.refused.ensures)
+pub returns-in_err-y : goal.returns-in_err-y
+returns-in_err-y c =
+    let q = err_from_is_err_and c.from_residual.result c.from_residual.ensures.1 in
+    rw (q.1, q.2) (shown_as (set-not-admitted _ _ _ _ _ _ _ _ (refuses _ _ _ _ c.in_err-y.ensures) (cause-not0 _)) (refuse-shown _ _ _ _ refl))
 
 pub set_length_in-requires : goal.set_length_in-requires
-set_length_in-requires c =
-    let i = c.args in
-    let a = admission i.g i.vol.now i.map.now _ c.admit-admission.ensures (omega arith) in
-    (a.laid, (a.long, (a.wide, a.apart)))
+set_length_in-requires c = let a = admits _ _ _ _ c.in_ok-y.ensures in (a.laid, (a.long, (a.wide, a.apart)))
 
 pub returns : goal.returns
-returns c = shown_as (set_is _ _ _ _ _ _ _ _ (admission _ _ _ _ c.admit-admission.ensures (omega arith))) c.set_length_in.ensures
+returns c = shown_as (set_is _ _ _ _ _ _ _ _ (admits _ _ _ _ c.in_ok-y.ensures)) c.set_length_in.ensures
