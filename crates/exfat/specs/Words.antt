@@ -1,9 +1,9 @@
 -- The words in which arguments and answers cross the C boundary.
+use Rattle.file.specs.Outcome.{FileAnswer}
 use Rattle.std.specs.Prelude.{Bool, not, cond, List, [], ◌∷◌, ℕ, eqb, get_or}
 use Rattle.stream.specs.declared.allocation.Allocation.{Allocation}
 use Rattle.read_file.specs.declared.part.Part.{Part}
-use Rattle.write_alloc.specs.declared.answer.Answer.{Answer}
-use Rattle.file.specs.declared.answer.FileAnswer.{FileAnswer}
+use Rattle.write_alloc.specs.Outcome.{Answer}
 
 -- a flag in a word: 0 is clear, any other value set
 unfoldable pub flag_of : ℕ → Bool

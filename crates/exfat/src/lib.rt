@@ -20,6 +20,7 @@ ghost use Rattle.write_length.specs.SetLength.{set_length};
 ghost use Rattle.write_remove.specs.Remove.{remove};
 ghost use Rattle.exfat.specs.Words.{flag_of, allocation_of, count_words, part_words, answer_words, slot_words, hint_words};
 
+use boot::cause::number;
 use boot::geometry::GEOMETRY_WORDS;
 
 // How many clusters are free.
@@ -33,8 +34,7 @@ pub extern "C" fn exfat_free_count(
     ensures { let f = free_clusters (geometry_of geometry.now) vol.now map.now in (result ≡ f.number) × (out.new ≡ count_words f.count) }
 {
     let g = boot::geometry::geometry_of(geometry);
-    let r = metadata::free::free_clusters(vol, map, g);
-    words::put_count(out, r)
+    words::put_count(out, metadata::free::free_clusters(vol, map, g))
 }
 
 // The clusters of a record, written to a list.
@@ -50,7 +50,7 @@ pub extern "C" fn exfat_clusters(
 {
     let g = boot::geometry::geometry_of(geometry);
     let a = words::allocation_of(allocation);
-    stream::list::clusters(vol, map, g, a, list)
+    number(&stream::list::clusters(vol, map, g, a, list))
 }
 
 // The number of a read of the file at a slot.
@@ -65,7 +65,7 @@ pub extern "C" fn exfat_read_number(
     ensures { result ≡ read_number (geometry_of geometry.now) vol.now map.now zeros.now slot }
 {
     let g = boot::geometry::geometry_of(geometry);
-    read_file::read::read_number(vol, map, g, zeros, slot)
+    number(&read_file::read::read_number(vol, map, g, zeros, slot))
 }
 
 // Where the bytes of the file at a slot lie, from an offset on: the slice, the start in it and the length. No reference can be returned
@@ -102,9 +102,9 @@ pub extern "C" fn exfat_allocate(
     ensures { let o = allocate_clusters (geometry_of geometry.now) vol.old map.now count (flag_of has_near) near hint in (result ≡ o.answer.number) × ((vol.new ≡ o.volume) × (out.new ≡ answer_words o.answer)) }
 {
     let g = boot::geometry::geometry_of(geometry);
-    let given = words::flag_of(has_near);
-    let r = write_alloc::allocate::allocate_clusters(vol, map, g, count, given, near, hint);
-    words::put_answer(out, r)
+    let near = words::near_of(has_near, near);
+    let r = write_alloc::allocate::allocate_clusters(vol, map, g, count, near, hint);
+    words::put_answer(out, stream::allocation::empty_record(), hint, r)
 }
 
 // A record with `more` clusters added.
@@ -123,7 +123,7 @@ pub extern "C" fn exfat_extend(
     let g = boot::geometry::geometry_of(geometry);
     let a = words::allocation_of(allocation);
     let r = write_extend::extend::extend_clusters(vol, map, g, a, more, hint);
-    words::put_answer(out, r)
+    words::put_answer(out, a, hint, r)
 }
 
 // A record cut to its first `keep` clusters.
@@ -142,7 +142,7 @@ pub extern "C" fn exfat_shrink(
     let g = boot::geometry::geometry_of(geometry);
     let a = words::allocation_of(allocation);
     let r = write_shrink::shrink::shrink_clusters(vol, map, g, a, keep, hint);
-    words::put_answer(out, r)
+    words::put_answer(out, a, hint, r)
 }
 
 // A new, empty file in the root.
@@ -163,7 +163,7 @@ pub extern "C" fn exfat_new_file(
     let g = boot::geometry::geometry_of(geometry);
     let t = words::stamps_of(stamps);
     let r = write_file::new_file::make_in(vol, map, g, name, attributes, hash, t, hint);
-    words::put_slot(out, r)
+    words::put_slot(out, hint, r)
 }
 
 // Data written to the file at a slot.
@@ -184,7 +184,7 @@ pub extern "C" fn exfat_write(
     let g = boot::geometry::geometry_of(geometry);
     let t = words::stamp_of(stamp);
     let r = write_file::write::write_into(vol, map, g, slot, offset, src, t, hint);
-    words::put_hint(out, r)
+    words::put_hint(out, hint, r)
 }
 
 // A new length for the file at a slot.
@@ -204,7 +204,7 @@ pub extern "C" fn exfat_set_length(
     let g = boot::geometry::geometry_of(geometry);
     let t = words::stamp_of(stamp);
     let r = write_length::set_length::set_length(vol, map, g, slot, len, t, hint);
-    words::put_hint(out, r)
+    words::put_hint(out, hint, r)
 }
 
 // The file at a slot removed.
@@ -221,5 +221,5 @@ pub extern "C" fn exfat_remove(
 {
     let g = boot::geometry::geometry_of(geometry);
     let r = write_remove::remove::remove(vol, map, g, slot, hint);
-    words::put_hint(out, r)
+    words::put_hint(out, hint, r)
 }

@@ -5,6 +5,6 @@ pub returns-then-flag : goal.returns-then-flag
 unfolding flag_word
 returns-then-flag c = cc
 
-pub returns : goal.returns
+pub returns-else-flag : goal.returns-else-flag
 unfolding flag_word
-returns c = cc
+returns-else-flag c = cc

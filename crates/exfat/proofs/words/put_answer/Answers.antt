@@ -1,7 +1,5 @@
-use mathlib.Core.Path.{refl}
-use Rattle.exfat.specs.Words.{answer_words}
+use Rattle.exfat.proofs.WordLaws.{answer_put}
 use Rattle.exfat.proofs.words.put_answer.Goals as goal
 
 pub returns : goal.returns
-unfolding answer_words
-returns c = (refl, cc)
+returns c = rw (c.number.ensures, c.flag_word-flag.ensures, c.unwrap_or-x.ensures) (answer_put c.args.allocation c.args.hint c.args.r)
