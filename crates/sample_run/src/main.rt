@@ -2,10 +2,8 @@
 // it was made; the file stdout has a line for each call, as the Rust answered it.
 #![tactic(auto)]
 
-mod files;
-mod out;
+mod call;
 mod row;
-mod streams;
 mod tape;
 
 fn main(rt: HostRuntime) {

@@ -1,18 +1,42 @@
-// What a call is given: words from byte 41088 on, after the answer and the volume. tests/sample/README.md has their order.
-ghost use Rattle.std.specs.Prelude.{◌≡◌, ◌+◌};
+// A row: the answer, the volume, and what a call is given. tests/sample/README.md has their order.
+ghost use Rattle.std.specs.Prelude.{◌≡◌, ◌+◌, ◌==◌};
 ghost use Rattle.primitives.specs.Words.{get_le};
 ghost use Rattle.entry_set.specs.Stamps.{stamps_at};
 
-use entry_set::stamp::Stamps;
+use entry_set::stamp::{Stamps, stamps_at};
 use primitives::words::{u16_at, u32_at, u64_at};
+use stream::allocation::Allocation;
 
-// The arguments of a call on streams. Allocate has the near cluster in `first`, whether it is given in `flag` and the count in `number`.
+// The bytes of a row.
+pub type Row = [u8; 65792];
+
+// Where its parts begin: the volume after the answer, the words of a call, its arguments, the map, the name, the data and the geometry.
+pub const VOLUME: usize = 128;
+
+pub const WORDS: usize = 41088;
+
+const HINT: usize = WORDS + 28;
+
+const STREAM: usize = 41164;
+
+const FILE: usize = 41184;
+
+pub const MAP: usize = 41224;
+
+pub const NAME: usize = 41240;
+
+pub const DATA: usize = 41840;
+
+pub const GEOMETRY: usize = 46960;
+
+// The units of the longest name.
+pub const UNITS: usize = 300;
+
+// The arguments of a call on streams. Allocate has the near cluster in place of the record's first one, and whether it is given in place of
+// its flag; `number` is a count of clusters.
 #[derive(Clone, Copy)]
 pub struct StreamArguments {
-    pub first: u32,
-    pub last: u32,
-    pub count: u32,
-    pub flag: u32,
+    pub record: Allocation,
     pub number: u32,
     pub hint: u32,
 }
@@ -24,6 +48,7 @@ pub struct FileArguments {
     pub hash: u16,
     pub slot: u32,
     pub number: u64,
+    pub stamps: Stamps,
     pub hint: u32,
 }
 
@@ -37,47 +62,43 @@ pub struct Ends {
 }
 
 // The arguments of a call on streams.
-pub fn of_stream(row: &[u8; 65792]) -> StreamArguments
-    ensures { (result.first ≡ get_le 4 row.now 41164) × ((result.last ≡ get_le 4 row.now 41168) × ((result.count ≡ get_le 4 row.now 41172) × ((result.flag ≡ get_le 4 row.now 41176) × ((result.number ≡ get_le 4 row.now 41180) × (result.hint ≡ get_le 4 row.now 41116))))) }
+pub fn of_stream(row: &Row) -> StreamArguments
+    ensures { (result.record ≡ record { first = get_le 4 row.now STREAM; last = get_le 4 row.now (STREAM + 4); count = get_le 4 row.now (STREAM + 8); no_fat_chain = (get_le 4 row.now (STREAM + 12) == 1) }) × ((result.number ≡ get_le 4 row.now (STREAM + 16)) × (result.hint ≡ get_le 4 row.now HINT)) }
 {
     StreamArguments {
-        first: u32_at(row, 41164),
-        last: u32_at(row, 41168),
-        count: u32_at(row, 41172),
-        flag: u32_at(row, 41176),
-        number: u32_at(row, 41180),
-        hint: u32_at(row, 41116),
+        record: Allocation {
+            first: u32_at(row, STREAM),
+            last: u32_at(row, STREAM + 4),
+            count: u32_at(row, STREAM + 8),
+            no_fat_chain: u32_at(row, STREAM + 12) == 1,
+        },
+        number: u32_at(row, STREAM + 16),
+        hint: u32_at(row, HINT),
     }
 }
 
 // The arguments of a call on files.
-pub fn of_file(row: &[u8; 65792]) -> FileArguments
-    ensures { (result.attributes ≡ get_le 2 row.now 41184) × ((result.hash ≡ get_le 2 row.now 41186) × ((result.slot ≡ get_le 4 row.now 41188) × ((result.number ≡ get_le 8 row.now 41192) × (result.hint ≡ get_le 4 row.now 41116)))) }
+pub fn of_file(row: &Row) -> FileArguments
+    ensures { (result.attributes ≡ get_le 2 row.now FILE) × ((result.hash ≡ get_le 2 row.now (FILE + 2)) × ((result.slot ≡ get_le 4 row.now (FILE + 4)) × ((result.number ≡ get_le 8 row.now (FILE + 8)) × ((result.stamps ≡ stamps_at row.now (FILE + 16)) × (result.hint ≡ get_le 4 row.now HINT))))) }
 {
     FileArguments {
-        attributes: u16_at(row, 41184),
-        hash: u16_at(row, 41186),
-        slot: u32_at(row, 41188),
-        number: u64_at(row, 41192),
-        hint: u32_at(row, 41116),
+        attributes: u16_at(row, FILE),
+        hash: u16_at(row, FILE + 2),
+        slot: u32_at(row, FILE + 4),
+        number: u64_at(row, FILE + 8),
+        stamps: stamps_at(row, FILE + 16),
+        hint: u32_at(row, HINT),
     }
 }
 
 // The ends of a call's slices.
-pub fn ends_of(row: &[u8; 65792]) -> Ends
-    ensures { (result.volume ≡ 128 + get_le 4 row.now 41100) × ((result.map ≡ 41224 + get_le 4 row.now 41104) × ((result.«data» ≡ 41840 + get_le 4 row.now 41108) × (result.units ≡ get_le 4 row.now 41112))) }
+pub fn ends_of(row: &Row) -> Ends
+    ensures { (result.volume ≡ VOLUME + get_le 4 row.now (WORDS + 12)) × ((result.map ≡ MAP + get_le 4 row.now (WORDS + 16)) × ((result.«data» ≡ DATA + get_le 4 row.now (WORDS + 20)) × (result.units ≡ get_le 4 row.now (WORDS + 24)))) }
 {
     Ends {
-        volume: 128 + u32_at(row, 41100) as usize,
-        map: 41224 + u32_at(row, 41104) as usize,
-        data: 41840 + u32_at(row, 41108) as usize,
-        units: u32_at(row, 41112) as usize,
+        volume: VOLUME + u32_at(row, WORDS + 12) as usize,
+        map: MAP + u32_at(row, WORDS + 16) as usize,
+        data: DATA + u32_at(row, WORDS + 20) as usize,
+        units: u32_at(row, WORDS + 24) as usize,
     }
-}
-
-// The stamps of a call on files.
-pub fn stamps(row: &[u8; 65792]) -> Stamps
-    ensures { result ≡ stamps_at row.now 41200 }
-{
-    entry_set::stamp::stamps_at(row, 41200)
 }

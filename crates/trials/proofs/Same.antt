@@ -1,4 +1,5 @@
 -- What passes the tests of sameness is the same.
+use Rattle.file.specs.Outcome.{FileAnswer}
 use mathlib.Core.Path.{◌≡◌, refl, sym}
 use mathlib.Core.Bool.{Bool, true, false, ◌&&◌}
 use mathlib.Core.List.{List, [], ◌∷◌, map}
@@ -7,8 +8,7 @@ use lib.Dec.{eqb}
 use borrow.Author.Tests.{eqb-true}
 use Rattle.tables.proofs.Cases.{and_left, and_right}
 use Rattle.stream.specs.declared.allocation.Allocation.{Allocation}
-use Rattle.write_alloc.specs.declared.answer.Answer.{Answer}
-use Rattle.file.specs.declared.answer.FileAnswer.{FileAnswer}
+use Rattle.write_alloc.specs.Outcome.{Answer}
 use Rattle.read_file.specs.declared.part.Part.{Part}
 use Rattle.trials.specs.Trial.{Result, answered, listed, carried, Trial, same_flag, same_list, same_record, same_answer, same_file_answer, same_result, said, wanted, agrees, all_agree}
 use Rattle.trials.specs.ReadTable.{Read, said_of, wanted_of, same_part, same_read, read_agrees, all_reads_agree}

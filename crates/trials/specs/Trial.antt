@@ -1,14 +1,13 @@
 -- A trial: a volume, a call with its arguments, and what is expected of it.
+use Rattle.file.specs.Outcome.{FileAnswer}
 use Rattle.std.specs.Prelude.{Bool, true, false, ◌&&◌, List, [], ◌∷◌, ℕ, eqb, length}
 use Rattle.stream.specs.declared.allocation.Allocation.{Allocation}
 use Rattle.stream.specs.Listing.{listing_number, listing_list}
-use Rattle.write_alloc.specs.declared.answer.Answer.{Answer}
-use Rattle.write_alloc.specs.Outcome.{Outcome}
+use Rattle.write_alloc.specs.Outcome.{Answer, Outcome}
 use Rattle.write_alloc.specs.Allocate.{allocate_clusters}
 use Rattle.write_extend.specs.Extend.{extend_clusters}
 use Rattle.write_shrink.specs.Shrink.{shrink_clusters}
 use Rattle.entry_set.specs.declared.stamp.Stamp.{Stamp}
-use Rattle.file.specs.declared.answer.FileAnswer.{FileAnswer}
 use Rattle.file.specs.Outcome as file
 use Rattle.write_length.specs.SetLength.{set_length}
 use Rattle.trials.specs.Volume.{Volume, geometry, system, trial_bytes}
