@@ -6,7 +6,9 @@ every field of it, and each `&mut` afterwards stand in an equation whose other s
 settles. So `result ≡ result` and `result ≡ f result` say nothing, and an equation behind an arrow does not count. A result that is lent
 is settled by two: its bytes and where they lie. `main` is left out. A public call (one of the calls of 01 and 02, listed here, or a
 function that is exported to C) has no `requires`, and each of its equations cites the definition that is named for it here, applied to
-every argument of the call. Contracts that are wrong on purpose are tried first.
+every argument of the call. An equation for a map that shows different results differently, listed here, settles the result; one for every
+number settles what it speaks of; `MatchOption` settles an option that it settles case by case, `IfOk` what is returned. Contracts that are
+wrong on purpose are tried first.
 """
 
 import pathlib
@@ -48,6 +50,24 @@ EXPORTED = {
     "exfat::exfat_set_length": "write_length::set_length::set_length",
     "exfat::exfat_remove": "write_remove::remove::remove",
 }
+
+# The maps that show different results differently, each by the type that it shows (None: the one that it takes): the record of the specs
+# that a result is shown as. What refuses a call has a number of its own, which is not 0, and where there is none the result is shown whole.
+SHOWN = {
+    "boot.specs.Causes.number": "Result<(), Cause>",
+    "metadata.specs.Free.free_answer": None,
+    "stream.specs.Internal.walked_of": None,
+    "directory.specs.Internal.directory_opened": None,
+    "directory.specs.Internal.stream_opened": None,
+    "directory.specs.Internal.file_opened": None,
+    "write_alloc.specs.Outcome.success": None,
+    "write_alloc.specs.Outcome.answer_of": None,
+    "file.specs.Outcome.file_answer": None,
+    "write_file.specs.Internal.data_answer": None,
+}
+
+# What does so together: the number, and what is returned where it is 0, as a map or as `IfOk` shows it.
+SHOWN_TOGETHER = ("boot.specs.Causes.number", "std.specs.Result.result_unwrap_or")
 
 # what settles a result that is lent: its bytes, and where they lie
 LENT = ((".now",), (".ref_ptr",))
@@ -135,6 +155,9 @@ def with_let(term):
     if len(term) > 3 and term[0] == "let" and term[2] == "=" and "in" in term:
         at = term.index("in")
         return with_let(put(term[at + 1 :], term[1], term[3:at]))
+    if "let" in term and term[term.index("let") - 1] == "→":
+        at = term.index("let")
+        return [with_let(t) for t in term[:at]] + [with_let(term[at:])]
     return [with_let(t) for t in term]
 
 
@@ -161,14 +184,24 @@ def claims_of(term):
         term = term[0]
     if isinstance(term, str):
         return [("fact", term)]
-    if len(parted(term, "→")) > 1:
-        return [("fact", term)]
+    under = parted(term, "→")
+    if len(under) > 1:
+        return claims_of(under[-1]) if all(map(for_each_number, under[:-1])) else [("fact", term)]
     if len(parted(term, "×")) > 1:
         return [c for part in parted(term, "×") for c in claims_of(part)]
+    if term[0] == "MatchOption" and len(term) == 4 and isinstance(term[3], list) and term[3][0] == "λ" and term[3][1].endswith("."):
+        return [("cases", bare(term[1]), claims_of([term[2]]), term[3][1][:-1], claims_of(term[3][2:]))]
+    if term[0] == "IfOk" and len(term) == 3 and isinstance(term[2], list) and term[2][0] == "λ" and term[2][1].endswith("."):
+        return [("returned", bare(term[1]), term[2][1][:-1], claims_of(term[2][2:]))]
     sides = parted(term, "≡")
     if len(sides) == 2:
         return [("equation", bare(sides[0]), bare(sides[1]))]
     return [("fact", term)]
+
+
+def for_each_number(term):
+    """Whether what stands before an arrow is no hypothesis, but a number that the rest is said of."""
+    return len(term) == 1 and isinstance(term[0], list) and len(term[0]) == 3 and term[0][1:] == [":", "ℕ"]
 
 
 def same_sides(term):
@@ -187,10 +220,17 @@ def words_of(term):
     return [term] if isinstance(term, str) else [w for t in term for w in words_of(t)]
 
 
-def path_of(term, result):
+def path_of(term, result, kind, uses):
     """What an equation's side is, if it is something that the function gives: ("result", field, ..), of a result that is lent
-    ("result", ".now") and ("result", ".ref_ptr"), or (lent,)."""
+    ("result", ".now") and ("result", ".ref_ptr"), or (lent,). A result that is shown by a map that shows it whole is the result; by one
+    of two that do so together, the result and the map."""
     words = words_of(term)
+    if isinstance(term, list) and len(gives(term[1:], result)) == 1 and (result in term or ["Ok", result] in term):
+        full = uses.get(term[0]) if isinstance(term[0], str) else None
+        if full in SHOWN and SHOWN[full] in (None, kind):
+            return ("result",)
+        if full in SHOWN_TOGETHER:
+            return ("result", full)
     if words and words[0] == result and all(w.startswith(".") for w in words[1:]):
         return ("result",) + tuple(words[1:])
     if len(words) == 2 and words[1] == ".new":
@@ -218,17 +258,26 @@ def settled(path, told, kind, structs):
         return True
     if kind and kind.startswith("&"):
         return all(path + part in told for part in LENT)
+    if all(path + (full,) in told for full in SHOWN_TOGETHER):
+        return True
     fields = structs.get(kind)
     return bool(fields) and all(settled(path + ("." + f,), told, t, structs) for f, t in fields)
 
 
-def told_by(claims, result, structs):
+def told_by(claims, result, kind, structs, uses):
     """What the equations settle, each from what went in and from what is settled already."""
     told, left = set(), [c for c in claims if c[0] == "equation"]
+    for claim in claims:
+        if claim[0] == "cases" and claim[1] == result:
+            none = told_by(claim[2], None, None, structs, uses)
+            some = told_by(claim[4], claim[3], None, structs, uses)
+            told |= {path for path in some if path == ("result",) or path in none}
+        if claim[0] == "returned" and claim[1] == result and ("result",) in told_by(claim[3], claim[2], None, structs, uses):
+            told.add(("result", SHOWN_TOGETHER[1]))
     while True:
         for claim in left:
             for mine, other in ((claim[1], claim[2]), (claim[2], claim[1])):
-                path = path_of(mine, result)
+                path = path_of(mine, result, kind, uses)
                 if path and all(settled(p, told, None, structs) for p in gives(other, result)):
                     told.add(path)
                     left.remove(claim)
@@ -269,7 +318,7 @@ def uses_of(text):
     return uses
 
 
-def cite_faults(head, claims, result, parts, lent, names, uses, cited):
+def cite_faults(claims, result, kind, parts, lent, names, uses, cited):
     """Whether each equation of a public call cites its definition, applied to every argument of the call."""
     faults = []
 
@@ -294,7 +343,7 @@ def cite_faults(head, claims, result, parts, lent, names, uses, cited):
         for claim in claims:
             if claim[0] == "equation":
                 for mine, other in ((claim[1], claim[2]), (claim[2], claim[1])):
-                    path = path_of(mine, result)
+                    path = path_of(mine, result, kind, uses)
                     if path and path[: len(thing)] == thing:
                         sides.append(other)
         cites(thing[0], sides)
@@ -304,18 +353,18 @@ def cite_faults(head, claims, result, parts, lent, names, uses, cited):
 def promise_faults(signature, promises, structs, uses, cited):
     """The faults of a function's `ensures`; `cited` is the table's entry of a public call, or None."""
     gives_back = re.search(r"\)\s*->\s*([^{]+?)\s*$", signature.strip())
-    lent = re.findall(r"(\w+): &(?:'\w+ )?mut ", signature)
+    lent = re.findall(r"(\w+): &(?:'\w+ )?mut ", signature) + ["self"] * bool(re.search(r"\(\s*&(?:'\w+ )?mut self\b", signature))
     names = re.findall(r"(\w+):", signature[signature.index("(") :])
-    result = "result" if gives_back else None
+    result, kind = ("result", gives_back[1]) if gives_back else (None, None)
     try:
         whole = [with_let(term_of(promise.strip()[1:-1])) for promise in promises]
         claims = [claim for one in whole for claim in claims_of(one)]
     except ValueError as e:
         return ["has an `ensures` that cannot be read: %s" % e]
     faults = ["has an equation with the same text on both sides"] if any(map(same_sides, whole)) else []
-    told = told_by(claims, result, structs)
-    if result and not settled(("result",), told, gives_back[1], structs):
-        if gives_back[1].startswith("&"):
+    told = told_by(claims, result, kind, structs, uses)
+    if result and not settled(("result",), told, kind, structs):
+        if kind.startswith("&"):
             faults.append("does not say which bytes it lends and where they lie")
         else:
             faults.append("does not say what its result equals, whole or every field of it")
@@ -323,8 +372,8 @@ def promise_faults(signature, promises, structs, uses, cited):
         if (one,) not in told:
             faults.append("does not say what `%s` equals afterwards" % one)
     if cited:
-        parts = LENT if result and gives_back[1].startswith("&") else ((),)
-        faults += cite_faults(signature, claims, result, parts, lent, names, uses, cited)
+        parts = LENT if result and kind.startswith("&") else ((),)
+        faults += cite_faults(claims, result, kind, parts, lent, names, uses, cited)
     return faults
 
 
@@ -366,7 +415,7 @@ def text_faults(path, text, structs, calls):
 
 # ---- contracts that are wrong on purpose: what each must be reported for
 
-USES = "ghost use Rattle.c.specs.D.{right};\nghost use Rattle.c.specs.E.{other};\npub struct Pair {\n    pub a: u32,\n    pub b: u32,\n}\n"
+USES = "ghost use Rattle.c.specs.D.{right};\nghost use Rattle.c.specs.E.{other};\nghost use Rattle.boot.specs.Causes.{number};\nghost use Rattle.std.specs.Result.{result_unwrap_or};\nghost use Rattle.file.specs.Outcome.{file_answer};\npub struct Pair {\n    pub a: u32,\n    pub b: u32,\n}\n"
 CALLS = {"c::f": "c.specs.D.right"}
 BAD = [
     ("fn h(x: u32) -> u32 ensures { result ≡ result } {", "same text on both sides"),
@@ -395,9 +444,28 @@ BAD = [
     ("pub fn f(v: &mut [u8]) -> u32 ensures { (result ≡ right v.old) × (v.new ≡ v.old) } {", "for `v`"),
     ("pub fn f(x: u32) -> u32 requires { x ≤ 1 } ensures { result ≡ right x } {", "has a `requires`"),
     ("fn f(x: u32) -> u32 ensures { result ≡ right x } {", "is not `pub`"),
+    ("fn h(x: u32) -> Result<Pair, Cause> ensures { number result ≡ right x } {", "what its result equals"),
+    ("fn h(x: u32) -> Result<Pair, Cause> ensures { result_unwrap_or result other ≡ right x } {", "what its result equals"),
+    ("fn h(x: u32) -> Result<Pair, Cause> ensures { IfOk result (λ p. p ≡ right x) } {", "what its result equals"),
+    ("fn h(x: u32) -> Result<Pair, Cause> ensures { (number result ≡ 0) × IfOk result (λ p. p ≡ right p) } {", "what its result equals"),
+    ("fn h(x: u32) -> Result<(), Cause> ensures { number result ≡ right result } {", "what its result equals"),
+    ("fn h(x: u32) -> Result<Pair, Cause> ensures { other result ≡ right x } {", "what its result equals"),
+    ("fn h(x: u32) -> Result<Pair, Cause> ensures { file_answer result result ≡ right x } {", "what its result equals"),
+    ("fn h(x: u32) -> u32 ensures { (n : Fin x) → result ≡ right x } {", "what its result equals"),
+    ("fn h(x: u32) -> Option<u32> ensures { MatchOption result (x ≡ 0) (λ p. p ≤ x) } {", "what its result equals"),
+    ("fn h(&mut self) -> Option<u32> ensures { MatchOption result (self.old ≡ 0) (λ p. (p ≡ right self.old) × (self.new ≡ 0)) } {", "what `self` equals"),
+    ("fn h(&mut self) ensures { right self.old ≡ 0 } {", "what `self` equals"),
+    ("pub fn f(x: u32, y: u32) -> Result<Pair, Cause> ensures { file_answer y result ≡ right x } {", "does not cite `right`"),
     ('pub extern "C" fn e(x: u32) -> u32 ensures { result ≡ right x } {', "no public call for it"),
 ]
 GOOD = [
+    "pub fn f(x: u32) -> Result<(), Cause> ensures { number result ≡ right x } {",
+    "pub fn f(x: u32, y: u32) -> Result<Pair, Cause> ensures { file_answer y result ≡ right x y } {",
+    "fn h(x: u32) -> Pair ensures { file_answer x (Ok result) ≡ right x } {",
+    "fn h(x: u32) -> Result<Pair, Cause> ensures { (number result ≡ right x) × (result_unwrap_or result other ≡ right x) } {",
+    "fn h(x: u32) -> Result<Pair, Cause> ensures { (number result ≡ right x) × IfOk result (λ p. p ≡ right x) } {",
+    "fn h(x: u32) -> Result<Pair, Cause> ensures { ((n : ℕ) → let o = right x n in file_answer n result ≡ o) × other x } {",
+    "fn h(&mut self) -> Option<u32> ensures { MatchOption result ((self.old ≡ 0) × (self.new ≡ self.old)) (λ p. (p ≡ right self.old) × (self.new ≡ 0)) } {",
     "fn h(x: u32) -> Pair ensures a { result.a ≡ right x } ensures b { other x result.a ≡ result.b } {",
     "fn h(x: u32) -> Pair ensures { (other x result.a ≡ result.b) × (result.a ≡ right x) } {",
     "pub fn f(v: &mut [u8]) -> u32 ensures { (let o = right v.old in (result ≡ o.a) × (v.new ≡ o.b)) } {",

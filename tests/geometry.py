@@ -38,7 +38,8 @@ def array(*words):
 # Each text that tells the count or the fields: its file, and the patterns of the part, of a field with its place, and of the count.
 TOLD = (
     ("crates/boot/src/geometry.rt", r"pub struct Geometry \{(.*?)\n\}", r"pub (\w+): u32"),
-    ("crates/boot/src/geometry.rt", r"fn geometry_of(.*?)\n\}", r"(\w+): w\[(\d+)\]"),
+    ("crates/boot/src/geometry.rt", r"fn geometry_of[^{]*\{[^}]*\}\n\{\n    let \[(.*?)\] = \*w;", r"(\w+),"),
+    ("crates/boot/src/geometry.rt", r"\] = \*w;\n    Geometry \{(.*?)\n    \}", r"(\w+),"),
     ("crates/boot/specs/Geometry.antt", r"\ngeometry_of ws =(.*?)\}", r"(\w+) = get_or ws (\d+) 0"),
     ("binding/src/geometry.rs", r"pub struct Geometry \{(.*?)\n\}", r"pub (\w+): u32"),
     ("binding/src/geometry.rs", r"fn words\(.*?\[\n(.*?)\]", r"self\.(\w+),"),
