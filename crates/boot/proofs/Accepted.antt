@@ -1,9 +1,8 @@
 -- Where the limits hold, the geometry's facts hold. Assumes nothing.
-use mathlib.Core.Path.{◌≡◌, refl}
-use mathlib.Core.Logic.{◌⊎◌, inl, inr}
-use mathlib.Core.Bool.{Bool, true, false, ◌&&◌, false≢true}
+use mathlib.Core.Path.{◌≡◌}
+use mathlib.Core.Bool.{true, ◌&&◌}
 use mathlib.Core.List.{List}
-use Prim.Native.Nat.{ℕ, ◌+◌, ◌≤◌}
+use Prim.Native.Nat.{ℕ, ◌+◌, ◌*◌, ◌≤◌}
 use native.Mathlib.Omega.{arith}
 use lib.Dec.{leb}
 use lib.ListN.{length}
@@ -11,6 +10,7 @@ use borrow.Author.Tests.{leb-true, eqb-true, ne_eqb}
 use Rattle.boot.specs.declared.geometry.Geometry.{Geometry}
 use Rattle.boot.specs.Geometry.{number_of_fats, cluster_count, bitmap0, bitmap1, bitmap_bytes, bitmap_clusters}
 use Rattle.boot.specs.Limits.{all, shape_tests, room_tests, map_tests, all_in_map, run_in_map, apart, second_bitmap, limits}
+use Rattle.boot.specs.Layout.{layout_of}
 use Rattle.boot.specs.Internal.{Bitmaps, Accepted}
 use Rattle.tables.proofs.Cases.{and_left, and_right}
 use Rattle.boot.proofs.Tests.{each_of}
@@ -24,12 +24,6 @@ run_facts m count first n e =
       leb-true _ _ (and_left (leb 2 first) (leb (first + n) (count + 2) && all_in_map m first n) e),
       leb-true _ _ (and_left (leb (first + n) (count + 2)) (all_in_map m first n) r),
     )
-
-apart_facts : (a b n : ℕ) (s t : Bool) → leb (a + n) b ≡ s → leb (b + n) a ≡ t → apart a b n ≡ true → (a + n ≤ b) ⊎ (b + n ≤ a)
-unfolding apart
-apart_facts a b n true t p q e = inl (leb-true _ _ p)
-apart_facts a b n false true p q e = inr (leb-true _ _ q)
-apart_facts a b n false false p q e = absurd (false≢true (rw (p, q) at e))
 
 -- what is said of a second bitmap
 second_facts : (g : Geometry) (m : List ℕ) → number_of_fats g ≡ 2 → second_bitmap g m ≡ true
@@ -52,7 +46,7 @@ maps_of g m e =
         high0 = r.1;
         low1 = λ h. (run_facts m _ _ _ (second_facts g m h t.1.1.0).0).0;
         high1 = λ h. (run_facts m _ _ _ (second_facts g m h t.1.1.0).0).1;
-        share_none = λ h. apart_facts _ _ _ _ _ refl refl (second_facts g m h t.1.1.0).1;
+        share_none = λ h. (second_facts g m h t.1.1.0).1;
       },
     )
 
@@ -70,3 +64,8 @@ module _ (g : Geometry) (len : ℕ) (m : List ℕ) (e : limits g len m ≡ true)
 
   pub map-length : length m ≡ bitmap_bytes (cluster_count g)
   map-length = (maps_of g m tests.2).0
+
+  -- the map has a bit for each cluster
+  pub map_wide : (layout_of g len).count ≤ 8 * length m
+  unfolding layout_of
+  map_wide = omega (arith, map-length)

@@ -1,5 +1,5 @@
 -- What admits a call: the cause that is tested before all else, and every fact of a volume that is admitted. Assumes nothing.
-use mathlib.Core.Path.{◌≡◌, refl, sym, ◌∙◌, subst}
+use mathlib.Core.Path.{◌≡◌, refl, sym}
 use mathlib.Core.Bool.{Bool, true, false}
 use mathlib.Core.List.{List}
 use Prim.Native.Nat.{ℕ, ◌*◌, ◌≤◌}
@@ -9,14 +9,12 @@ use Rattle.boot.specs.declared.geometry.Geometry.{Geometry}
 use Rattle.boot.specs.declared.layout.Layout.{Layout}
 use Rattle.boot.specs.declared.cause.Cause.{Cause}
 use Rattle.boot.specs.declared.cause.Cause.TheVariants.{Limits}
-use Rattle.std.specs.Prelude.{Result, Ok, Err}
 use Rattle.boot.specs.Geometry.{bitmap_bytes}
 use Rattle.boot.specs.Limits.{in_map, limits}
 use Rattle.boot.specs.Layout.{layout_of, is_bitmap_cluster}
 use Rattle.boot.specs.Causes.{cause_number, first_cause, limits_cause, admit_cause}
-use Rattle.boot.specs.Internal.{Laid, Apart, admitted}
-use Rattle.tables.proofs.Cases.{clash}
-use Rattle.boot.proofs.Accepted.{accepted_of, map-length}
+use Rattle.boot.specs.Internal.{Laid, Apart}
+use Rattle.boot.proofs.Accepted.{accepted_of, map-length, map_wide}
 use Rattle.boot.proofs.Places.{laid_of}
 use Rattle.boot.proofs.Apart.{apart_of}
 use Rattle.boot.proofs.Mapped.{mapped}
@@ -64,30 +62,14 @@ module _ (g : Geometry) (d m : List ℕ) where
         apart = apart_of g (length d) p;
         long = unfold layout_of in refl;
         map = unfold layout_of in (map-length g (length d) m e);
-        wide = unfold layout_of in (omega (arith, map-length g (length d) m e));
+        wide = map_wide g (length d) m e;
         mapped = mapped g (length d) m e;
       }
 
   -- an admission that refuses gives the cause
-  pub refuses : (e : Cause) → Err e ≡ admitted g (length d) m → cause_number e ≡ admit_cause g d m
-  unfolding admitted
-  refuses e q = by (limits g (length d) m) refl
-    where
-      by : (b : Bool) → limits g (length d) m ≡ b → cause_number e ≡ admit_cause g d m
-      by true l = let z : ◌≡◌ {A = Result Layout Cause} (Err e) (Ok (layout_of g (length d))) = q ∙ rw l refl in clash (cc)
-      by false l =
-          let z : ◌≡◌ {A = Result Layout Cause} (Err e) (Err Limits) = q ∙ rw l refl in
-          let w : Limits ≡ e = cc in
-          rw (← w) (sym (limits_refused g d m l))
+  pub refuses : (e : Cause) → (e ≡ Limits) × (limits g (length d) m ≡ false) → cause_number e ≡ admit_cause g d m
+  refuses e q = rw q.0 (sym (limits_refused g d m q.1))
 
   -- and one that does not gives a layout that has every fact above
-  pub admits : (y : Layout) → Ok y ≡ admitted g (length d) m → Admits g d m y
-  unfolding admitted
-  admits y q = by (limits g (length d) m) refl
-    where
-      by : (b : Bool) → limits g (length d) m ≡ b → Admits g d m y
-      by true l =
-          let z : ◌≡◌ {A = Result Layout Cause} (Ok y) (Ok (layout_of g (length d))) = q ∙ rw l refl in
-          let w : layout_of g (length d) ≡ y = cc in
-          subst (Admits g d m) w (limits_admits l)
-      by false l = let z : ◌≡◌ {A = Result Layout Cause} (Ok y) (Err Limits) = q ∙ rw l refl in clash (cc)
+  pub admits : {P : Type 0} (y : Layout) (n : List ℕ) → (y ≡ layout_of g (length d)) × ((n ≡ m) × (P × (limits g (length d) m ≡ true))) → Admits g d n y
+  admits y n q = rw (q.0, q.1.0) (limits_admits q.1.1.1)

@@ -1,17 +1,18 @@
 -- The regions of a layout are apart: FATs, bitmaps, and clusters that are no bitmap's. Assumes nothing.
 use mathlib.Core.Path.{◌≡◌, refl, sym, ◌∙◌, ap, subst}
 use mathlib.Core.Logic.{◌≢◌, ◌⊎◌, inl, inr, ⊎_elim}
-use mathlib.Core.Bool.{Bool, true, false, ◌||◌, false≢true}
+use mathlib.Core.Bool.{Bool, true, false, ◌&&◌, ◌||◌, false≢true}
 use Prim.Native.Nat.{ℕ, zero, suc, ◌+◌, ◌-◌, ◌*◌, ◌≤◌, ◌<◌}
 use native.Mathlib.Decide.{dec_lt}
 use native.Mathlib.Nat.{add-mul, mul-le-mul_right}
 use native.Mathlib.Omega.{arith}
 use lib.Dec.{eqb, leb, ltb}
-use borrow.Author.Tests.{eqb-true, leb-true, ltb-true, le-leb, lt-ltb}
-use Rattle.tables.proofs.Cases.{and_left, and_right, and_both}
+use borrow.Author.Tests.{eqb-true, eq-eqb, leb-true, ltb-true, le-leb, lt-ltb}
+use Rattle.tables.proofs.Cases.{and_left, and_right, and_both, or-true}
 use Rattle.boot.specs.declared.geometry.Geometry.{Geometry}
 use Rattle.boot.specs.declared.layout.Layout.{Layout}
 use Rattle.boot.specs.Geometry.{number_of_fats, active_fat, cluster_count, bitmap0, bitmap_bytes, bitmap_clusters}
+use Rattle.boot.specs.Limits.{apart}
 use Rattle.boot.specs.Internal.{Accepted, Laid, Apart}
 use Rattle.boot.specs.Layout.{fat_start, cluster_start, bitmap_first, layout_of, cluster_at, in_heap, in_run, is_bitmap_cluster}
 use Rattle.boot.proofs.Clusters.{mul-step}
@@ -25,10 +26,11 @@ start_at g len k = omega arith
 
 module _ (g : Geometry) (len : ℕ) (p : Accepted g len) where
   active_is : (i n : ℕ) → active_fat g ≡ i → number_of_fats g ≡ n → i < n → n ≤ 2
-      → ((fat_start g i ≡ fat_start g 0) × (cluster_start g (bitmap_first g i) ≡ cluster_start g (bitmap0 g)))
-      ⊎ ((eqb n 2 ≡ true) × (fat_start g i ≡ fat_start g (n - 1)) × (cluster_start g (bitmap_first g i) ≡ cluster_start g (bitmap_first g (n - 1))))
-  active_is zero n a b h l = inl (refl, ap (cluster_start g) (first_zero g))
-  active_is (suc zero) (suc (suc zero)) a b h l = inr (refl, refl, refl)
+      → eqb (fat_start g i) (fat_start g 0) && eqb (cluster_start g (bitmap_first g i)) (cluster_start g (bitmap0 g))
+      || eqb n 2 && (eqb (fat_start g i) (fat_start g (n - 1)) && eqb (cluster_start g (bitmap_first g i)) (cluster_start g (bitmap_first g (n - 1)))) ≡ true
+  active_is zero n a b h l = rw (first_zero g, eq-eqb (fat_start g 0) (fat_start g 0) refl, eq-eqb (cluster_start g (bitmap0 g)) (cluster_start g (bitmap0 g)) refl) refl
+  active_is (suc zero) (suc (suc zero)) a b h l =
+      rw (eq-eqb (fat_start g 1) (fat_start g 1) refl, eq-eqb (cluster_start g (bitmap_first g 1)) (cluster_start g (bitmap_first g 1)) refl) (or-true _)
   active_is (suc zero) zero a b h l = absurd (omega arith)
   active_is (suc zero) (suc zero) a b h l = absurd (omega arith)
   active_is (suc zero) (suc (suc (suc n))) a b h l = absurd (omega arith)
@@ -52,9 +54,32 @@ module _ (g : Geometry) (len : ℕ) (p : Accepted g len) where
         low0 = p.bitmaps.low0;
         low1 = first_low g len p (number_of_fats g - 1) (omega arith);
         holds = bytes_le g;
-        bitmaps = λ t. subst (λ (x : ℕ). (bitmap0 g + bitmap_clusters g ≤ x) ⊎ (x + bitmap_clusters g ≤ bitmap0 g))
+        bitmaps = λ t. subst (λ (x : ℕ). apart (bitmap0 g) x (bitmap_clusters g) ≡ true)
             (sym (ap (bitmap_first g) (last t) ∙ first_suc g 0)) (p.bitmaps.share_none (eqb-true (number_of_fats g) 2 t));
       }
+
+-- ---- the tests of a layout that is apart, as facts
+
+pub apart_lem : (a b n : ℕ) → apart a b n ≡ true → (a + n ≤ b) ⊎ (b + n ≤ a)
+unfolding apart
+apart_lem a b n e = by (leb (a + n) b) refl
+  where
+    by : (s : Bool) → leb (a + n) b ≡ s → (a + n ≤ b) ⊎ (b + n ≤ a)
+    by true p = inl (leb-true _ _ p)
+    by false p = inr (leb-true _ _ (rw p at e))
+
+pub active_lem : (y : Layout) → Apart y → ((y.fat ≡ y.fat0) × (y.bitmap ≡ y.bitmap0)) ⊎ ((y.two ≡ true) × (y.fat ≡ y.fat1) × (y.bitmap ≡ y.bitmap1))
+active_lem y a = by (eqb y.fat y.fat0 && eqb y.bitmap y.bitmap0) refl
+  where
+    both : (p q r s : ℕ) → eqb p q && eqb r s ≡ true → (p ≡ q) × (r ≡ s)
+    both p q r s e = (eqb-true p q (and_left (eqb p q) (eqb r s) e), eqb-true r s (and_right (eqb p q) (eqb r s) e))
+
+    by : (t : Bool) → eqb y.fat y.fat0 && eqb y.bitmap y.bitmap0 ≡ t → ((y.fat ≡ y.fat0) × (y.bitmap ≡ y.bitmap0)) ⊎ ((y.two ≡ true) × (y.fat ≡ y.fat1) × (y.bitmap ≡ y.bitmap1))
+    by true p = inl (both _ _ _ _ p)
+    by false p =
+        let e : y.two && (eqb y.fat y.fat1 && eqb y.bitmap y.bitmap1) ≡ true = rw p at a.active in
+        let b = both _ _ _ _ (and_right y.two (eqb y.fat y.fat1 && eqb y.bitmap y.bitmap1) e) in
+        inr (and_left y.two (eqb y.fat y.fat1 && eqb y.bitmap y.bitmap1) e, b.0, b.1)
 
 -- ---- membership tests and their facts
 
@@ -162,7 +187,7 @@ module _ (y : Layout) (l : Laid y) (a : Apart y) where
       let w = a.holds in
       ⊎_elim (λ u. omega (arith, a.at0, a.at1, run_before y.first0 y.span y.first1 a.low0 u))
       (λ u. omega (arith, a.at0, a.at1, run_before y.first1 y.span y.first0 a.low1 u))
-      (a.bitmaps t)
+      (apart_lem _ _ _ (a.bitmaps t))
 
   -- every bitmap byte lies past every FAT entry
   pub fat_bitmap : (i : ℕ) → (y.heap ≤ y.bitmap0 + i) × (y.heap ≤ y.bitmap1 + i)

@@ -7,7 +7,7 @@ use native.Mathlib.Omega.{arith}
 use Rattle.boot.specs.declared.layout.Layout.{Layout}
 use Rattle.boot.specs.Layout.{cluster_at, in_heap, in_run, is_bitmap_cluster}
 use Rattle.boot.specs.Internal.{Laid, Apart}
-use Rattle.boot.proofs.Apart.{run_out, or_left, or_right, in_heap_lem, cluster_apart, run_before}
+use Rattle.boot.proofs.Apart.{run_out, or_left, or_right, in_heap_lem, cluster_apart, run_before, apart_lem}
 
 module _ (y : Layout) (l : Laid y) (a : Apart y) where
   -- a byte of a bitmap's clusters from first on, and one of a cluster outside them
@@ -35,4 +35,4 @@ module _ (y : Layout) (l : Laid y) (a : Apart y) where
   span_span i j t b c =
       ⊎_elim (λ u. omega (arith, a.at0, a.at1, run_before y l a y.first0 y.span y.first1 a.low0 u))
       (λ u. omega (arith, a.at0, a.at1, run_before y l a y.first1 y.span y.first0 a.low1 u))
-      (a.bitmaps t)
+      (apart_lem _ _ _ (a.bitmaps t))

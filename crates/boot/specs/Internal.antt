@@ -1,11 +1,10 @@
 -- What only contracts of inner functions, and proofs, speak of: no promise of a public call and no clause of the claim needs it.
-use Rattle.std.specs.Prelude.{◌≡◌, ◌⊎◌, ℕ, ◌+◌, ◌*◌, ◌≤◌, ◌<◌, ◌/◌, true, cond, List, Result, Ok, Err}
+use Rattle.std.specs.Prelude.{◌≡◌, ℕ, ◌+◌, ◌*◌, ◌≤◌, ◌<◌, ◌/◌, true, ◌&&◌, ◌||◌, eqb}
 use Rattle.boot.specs.declared.geometry.Geometry.{Geometry}
 use Rattle.boot.specs.Geometry.{sector_shift, cluster_shift, fat_offset, fat_length, number_of_fats, active_fat, cluster_heap_offset, cluster_count, bitmap0, bitmap1, sector_size, cluster_size, bitmap_clusters, bitmap_bytes}
 use Rattle.boot.specs.declared.layout.Layout.{Layout}
-use Rattle.boot.specs.declared.cause.Cause.{Cause}
-use Rattle.boot.specs.Limits.{limits}
-use Rattle.boot.specs.Layout.{cluster_at, layout_of}
+use Rattle.boot.specs.Limits.{apart}
+use Rattle.boot.specs.Layout.{cluster_at}
 
 -- the numbers by themselves
 pub record Shape (g : Geometry) : Type 0 where
@@ -32,7 +31,7 @@ pub record Bitmaps (g : Geometry) : Type 0 where
   pub high0 : bitmap0 g + bitmap_clusters g ≤ cluster_count g + 2
   pub low1 : number_of_fats g ≡ 2 → 2 ≤ bitmap1 g
   pub high1 : number_of_fats g ≡ 2 → bitmap1 g + bitmap_clusters g ≤ cluster_count g + 2
-  pub share_none : number_of_fats g ≡ 2 → (bitmap0 g + bitmap_clusters g ≤ bitmap1 g) ⊎ (bitmap1 g + bitmap_clusters g ≤ bitmap0 g)
+  pub share_none : number_of_fats g ≡ 2 → apart (bitmap0 g) (bitmap1 g) (bitmap_clusters g) ≡ true
 
 -- a geometry that keeps the limits with a volume of len bytes
 pub record Accepted (g : Geometry) (len : ℕ) : Type 0 where
@@ -62,7 +61,7 @@ pub record Laid (y : Layout) : Type 0 where
 -- FATs, bitmaps and clusters are apart: what internal functions that store require besides
 pub record Apart (y : Layout) : Type 0 where
   -- the active FAT and bitmap are the first ones or, where there are two, the second ones
-  pub active : ((y.fat ≡ y.fat0) × (y.bitmap ≡ y.bitmap0)) ⊎ ((y.two ≡ true) × (y.fat ≡ y.fat1) × (y.bitmap ≡ y.bitmap1))
+  pub active : eqb y.fat y.fat0 && eqb y.bitmap y.bitmap0 || y.two && (eqb y.fat y.fat1 && eqb y.bitmap y.bitmap1) ≡ true
   pub fats : y.two ≡ true → y.fat0 + 4 * (y.count + 2) ≤ y.fat1
   pub fat0_heap : y.fat0 + 4 * (y.count + 2) ≤ y.heap
   pub fat1_heap : y.fat1 + 4 * (y.count + 2) ≤ y.heap
@@ -71,8 +70,4 @@ pub record Apart (y : Layout) : Type 0 where
   pub low0 : 2 ≤ y.first0
   pub low1 : 2 ≤ y.first1
   pub holds : bitmap_bytes y.count ≤ y.span * y.size
-  pub bitmaps : y.two ≡ true → (y.first0 + y.span ≤ y.first1) ⊎ (y.first1 + y.span ≤ y.first0)
-
--- what an admission gives: the layout, or the cause that refuses the call
-unfoldable pub admitted : (g : Geometry) (len : ℕ) (m : List ℕ) → Result Layout Cause
-admitted g len m = cond (limits g len m) (Ok (layout_of g len)) (Err Cause.Limits)
+  pub bitmaps : y.two ≡ true → apart y.first0 y.first1 y.span ≡ true

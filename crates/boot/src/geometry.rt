@@ -1,5 +1,5 @@
 // The geometry, by value, and the test of its limits (01: number 1).
-ghost use Rattle.std.specs.Prelude.{◌≡◌, ◌+◌, ◌-◌, ◌*◌, ◌/◌, ◌^◌, ◌≤◌, ◌<◌, length};
+ghost use Rattle.std.specs.Prelude.{◌≡◌, ◌+◌, ◌-◌, ◌*◌, ◌/◌, ◌^◌, ◌≤◌, ◌<◌, true, false, length, MatchOption};
 ghost use Rattle.boot.specs.Geometry.{geometry_of, sector_size, cluster_size, bitmap_bytes, bitmap_clusters};
 ghost use Rattle.boot.specs.Limits.{all, shape_tests, room_tests, map_tests, in_map, all_in_map, run_in_map, apart, second_bitmap, limits};
 ghost use Rattle.boot.specs.Internal.{Shape};
@@ -18,6 +18,13 @@ pub struct Geometry {
     pub root_cluster: u32,
     pub bitmap_0: u32,
     pub bitmap_1: u32,
+}
+
+// A geometry whose numbers by themselves keep the limits.
+#[derive(Clone, Copy)]
+pub struct Shaped {
+    pub g: Geometry,
+    pub ghost shape: { Shape g },
 }
 
 // The words of a geometry: one for each field.
@@ -55,46 +62,80 @@ pub fn geometry_of(w: &[u32; GEOMETRY_WORDS]) -> Geometry
     }
 }
 
-// Bytes of a sector.
-fn bytes_per_sector(g: Geometry) -> u64
-    requires { Shape g }
-    ensures { (result ≡ sector_size g) × ((1 ≤ result) × (result ≤ 4096)) }
-{
-    1u64 << g.sector_shift
-}
+impl Shaped {
+    // Bytes of a sector.
+    fn bytes_per_sector(self) -> u64
+        ensures { (result ≡ sector_size self.g) × ((1 ≤ result) × (result ≤ 4096)) }
+    {
+        1u64 << self.g.sector_shift
+    }
 
-// n sectors in bytes.
-pub fn in_sectors(g: Geometry, n: u64) -> u64
-    requires { Shape g × (n < 2 ^ 48) }
-    ensures { (result ≡ n * sector_size g) × (result ≤ 4096 * n) }
-{
-    n * bytes_per_sector(g)
-}
+    // n sectors in bytes.
+    pub fn in_sectors(self, n: u64) -> u64
+        requires { n < 2 ^ 48 }
+        ensures { (result ≡ n * sector_size self.g) × (result ≤ 4096 * n) }
+    {
+        n * self.bytes_per_sector()
+    }
 
-// Bytes of a cluster.
-pub fn cluster_size(g: Geometry) -> u64
-    requires { Shape g }
-    ensures { (result ≡ cluster_size g) × ((1 ≤ result) × (result ≤ 32768)) }
-{
-    1u64 << (g.sector_shift + g.cluster_shift)
-}
+    // Bytes of a cluster.
+    pub fn cluster_size(self) -> u64
+        ensures { (result ≡ cluster_size self.g) × ((1 ≤ result) × (result ≤ 32768)) }
+    {
+        1u64 << (self.g.sector_shift + self.g.cluster_shift)
+    }
 
-// n clusters in bytes.
-pub fn in_clusters(g: Geometry, n: u32) -> u64
-    requires { Shape g }
-    ensures { (result ≡ n * cluster_size g) × (result ≤ 32768 * n) }
-{
-    n as u64 * cluster_size(g)
-}
+    // n clusters in bytes.
+    pub fn in_clusters(self, n: u32) -> u64
+        ensures { (result ≡ n * cluster_size self.g) × (result ≤ 32768 * n) }
+    {
+        n as u64 * self.cluster_size()
+    }
 
-// Clusters of one bitmap.
-pub fn bitmap_clusters(g: Geometry) -> u32
-    requires { Shape g }
-    ensures { (result ≡ bitmap_clusters g) × (result ≤ 65536) }
-{
-    let size = cluster_size(g);
-    let bytes = (g.cluster_count as u64 + 7) / 8;
-    ((bytes + (size - 1)) / size) as u32
+    // Clusters of one bitmap.
+    pub fn bitmap_clusters(self) -> u32
+        ensures { (result ≡ bitmap_clusters self.g) × (result ≤ 65536) }
+    {
+        let size = self.cluster_size();
+        let bytes = (self.g.cluster_count as u64 + 7) / 8;
+        ((bytes + (size - 1)) / size) as u32
+    }
+
+    // Each FAT holds its entries, the heap stands past the FATs, and the volume holds the heap.
+    #[tactic(auto, unfolding(crate::specs::Limits::room_tests))]
+    fn room_ok(self, len: usize) -> bool
+        ensures { result ≡ all (room_tests self.g len) }
+    {
+        let fats = self.g.number_of_fats as u64 * self.g.fat_length as u64;
+        4 * (self.g.cluster_count as u64 + 2) <= self.in_sectors(self.g.fat_length as u64)
+            && self.g.fat_offset as u64 + fats <= self.g.cluster_heap_offset as u64
+            && self.in_sectors(self.g.cluster_heap_offset as u64)
+                + self.in_clusters(self.g.cluster_count)
+                <= len as u64
+            && len <= 16777216
+    }
+
+    // Whether a second bitmap, where there is one, keeps the limits.
+    #[tactic(auto, unfolding(crate::specs::Limits::second_bitmap))]
+    fn second_ok(self, map: &[u8], n: u32) -> bool
+        requires { (length map.now ≡ bitmap_bytes self.g.cluster_count) × ((n ≡ bitmap_clusters self.g) × (n ≤ 65536)) }
+        ensures { result ≡ second_bitmap self.g map.now }
+    {
+        self.g.number_of_fats == 1
+            || (run_in_map(map, self.g.cluster_count, self.g.bitmap_1, n)
+                && runs_apart(self.g.bitmap_0, self.g.bitmap_1, n))
+    }
+
+    // Whether the system map's length and the bitmaps keep the limits.
+    #[tactic(auto, unfolding(crate::specs::Limits::map_tests))]
+    fn maps_ok(self, map: &[u8]) -> bool
+        ensures { result ≡ all (map_tests self.g map.now) }
+    {
+        let n = self.bitmap_clusters();
+        map.len() == ((self.g.cluster_count + 7) / 8) as usize
+            && run_in_map(map, self.g.cluster_count, self.g.bitmap_0, n)
+            && self.second_ok(map, n)
+    }
 }
 
 // The limits of the numbers by themselves.
@@ -111,20 +152,6 @@ fn shape_ok(g: Geometry) -> bool
         && g.active_fat < g.number_of_fats
         && 1 <= g.cluster_count
         && g.cluster_count <= 32768
-}
-
-// Each FAT holds its entries, the heap stands past the FATs, and the volume holds the heap.
-#[tactic(auto, unfolding(crate::specs::Limits::room_tests))]
-fn room_ok(g: Geometry, len: usize) -> bool
-    requires { Shape g }
-    ensures { result ≡ all (room_tests g len) }
-{
-    let fats = g.number_of_fats as u64 * g.fat_length as u64;
-    4 * (g.cluster_count as u64 + 2) <= in_sectors(g, g.fat_length as u64)
-        && g.fat_offset as u64 + fats <= g.cluster_heap_offset as u64
-        && in_sectors(g, g.cluster_heap_offset as u64) + in_clusters(g, g.cluster_count)
-            <= len as u64
-        && len <= 16777216
 }
 
 // Cluster k's bit in a slice laid out like the bitmap.
@@ -163,33 +190,25 @@ fn runs_apart(a: u32, b: u32, n: u32) -> bool
     a + n <= b || b + n <= a
 }
 
-// Whether a second bitmap, where there is one, keeps the limits.
-#[tactic(auto, unfolding(crate::specs::Limits::second_bitmap))]
-fn second_ok(g: Geometry, map: &[u8], n: u32) -> bool
-    requires { Shape g × ((length map.now ≡ bitmap_bytes g.cluster_count) × ((n ≡ bitmap_clusters g) × (n ≤ 65536))) }
-    ensures { result ≡ second_bitmap g map.now }
+// The geometry, where it, a volume of len bytes and a system map keep the limits.
+#[tactic(auto, unfolding(crate::specs::Limits::limits))]
+pub fn accepted(g: Geometry, len: usize, map: &[u8]) -> Option<Shaped>
+    ensures { MatchOption result (limits g len map.now ≡ false) (λ s. (s.g ≡ g) × (limits g len map.now ≡ true)) }
 {
-    g.number_of_fats == 1
-        || (run_in_map(map, g.cluster_count, g.bitmap_1, n)
-            && runs_apart(g.bitmap_0, g.bitmap_1, n))
-}
-
-// Whether the system map's length and the bitmaps keep the limits.
-#[tactic(auto, unfolding(crate::specs::Limits::map_tests))]
-fn maps_ok(g: Geometry, map: &[u8]) -> bool
-    requires { Shape g }
-    ensures { result ≡ all (map_tests g map.now) }
-{
-    let n = bitmap_clusters(g);
-    map.len() == ((g.cluster_count + 7) / 8) as usize
-        && run_in_map(map, g.cluster_count, g.bitmap_0, n)
-        && second_ok(g, map, n)
+    if !shape_ok(g) {
+        return None;
+    }
+    let shaped = Shaped { g };
+    if shaped.room_ok(len) && shaped.maps_ok(map) {
+        Some(shaped)
+    } else {
+        None
+    }
 }
 
 // Whether a geometry, a volume of len bytes and a system map keep the limits: where not, the number is 1.
-#[tactic(auto, unfolding(crate::specs::Limits::limits))]
 pub fn validate(g: Geometry, len: usize, map: &[u8]) -> bool
     ensures { result ≡ limits g len map.now }
 {
-    shape_ok(g) && room_ok(g, len) && maps_ok(g, map)
+    accepted(g, len, map).is_some()
 }

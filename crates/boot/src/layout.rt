@@ -1,11 +1,9 @@
-// Where the parts of a volume lie, in bytes: computed once from a geometry that keeps the limits. And what admits a call: its first tests.
+// Where the parts of a volume lie, in bytes: computed once from a geometry that keeps the limits.
 ghost use Rattle.std.specs.Prelude.{◌≡◌, ◌+◌, ◌-◌, ◌*◌, ◌≤◌, ◌<◌};
-ghost use Rattle.boot.specs.Internal.{Shape, Accepted, Laid, admitted};
-ghost use Rattle.boot.specs.Layout.{fat_start, cluster_start, bitmap_first, layout_of, cluster_at, in_heap, in_run, is_bitmap_cluster};
+ghost use Rattle.boot.specs.Internal.{Accepted};
+ghost use Rattle.boot.specs.Layout.{fat_start, cluster_start, bitmap_first, layout_of, in_heap, in_run, is_bitmap_cluster};
 
-use crate::cause::Cause;
-use crate::geometry;
-use crate::geometry::Geometry;
+use crate::geometry::{Geometry, Shaped};
 
 // Whether there are two FATs; the first byte of the active FAT, of the first and the second one, and of their bitmaps in the same
 // order; the first cluster of each bitmap and how many clusters a bitmap spans; the first byte of the heap; the bytes of a cluster;
@@ -36,23 +34,6 @@ fn fats(i: u32, n: u32) -> u64
     i as u64 * n as u64
 }
 
-// The first byte of FAT i.
-fn fat_start(g: Geometry, i: u32) -> usize
-    requires { Shape g × (i < 2) }
-    ensures { result ≡ fat_start g i }
-{
-    geometry::in_sectors(g, g.fat_offset as u64 + fats(i, g.fat_length)) as usize
-}
-
-// The first byte of cluster k.
-fn cluster_start(g: Geometry, k: u32) -> usize
-    requires { Shape g × (2 ≤ k) }
-    ensures { result ≡ cluster_start g k }
-{
-    (geometry::in_sectors(g, g.cluster_heap_offset as u64)
-        + geometry::in_clusters(g, k - 2)) as usize
-}
-
 // The first cluster of FAT i's bitmap.
 #[tactic(auto, unfolding(crate::specs::Layout::bitmap_first))]
 fn bitmap_first(g: Geometry, i: u32) -> u32
@@ -61,48 +42,47 @@ fn bitmap_first(g: Geometry, i: u32) -> u32
     if i == 0 { g.bitmap_0 } else { g.bitmap_1 }
 }
 
-// The layout of a geometry in a volume of len bytes.
-fn layout_of(g: Geometry, len: usize) -> Layout
-    requires { Accepted g len }
-    ensures { result ≡ layout_of g len }
-{
-    let last = g.number_of_fats - 1;
-    Layout {
-        two: g.number_of_fats == 2,
-        fat: fat_start(g, g.active_fat),
-        fat0: fat_start(g, 0),
-        fat1: fat_start(g, last),
-        bitmap: cluster_start(g, bitmap_first(g, g.active_fat)),
-        bitmap0: cluster_start(g, g.bitmap_0),
-        bitmap1: cluster_start(g, bitmap_first(g, last)),
-        first0: g.bitmap_0,
-        first1: bitmap_first(g, last),
-        span: geometry::bitmap_clusters(g),
-        heap: cluster_start(g, 2),
-        size: geometry::cluster_size(g) as usize,
-        count: g.cluster_count,
-        len,
+impl Shaped {
+    // The first byte of FAT i.
+    fn fat_start(self, i: u32) -> usize
+        requires { i < 2 }
+        ensures { result ≡ fat_start self.g i }
+    {
+        self.in_sectors(self.g.fat_offset as u64 + fats(i, self.g.fat_length)) as usize
     }
-}
 
-// What every public call begins with: the layout, or the cause that refuses it before all else.
-#[tactic(auto, unfolding(crate::specs::Internal::admitted))]
-pub fn admit(g: Geometry, len: usize, map: &[u8]) -> Result<Layout, Cause>
-    ensures { result ≡ admitted g len map.now }
-{
-    if geometry::validate(g, len, map) {
-        Ok(layout_of(g, len))
-    } else {
-        Err(Cause::Limits)
+    // The first byte of cluster k.
+    fn cluster_start(self, k: u32) -> usize
+        requires { 2 ≤ k }
+        ensures { result ≡ cluster_start self.g k }
+    {
+        (self.in_sectors(self.g.cluster_heap_offset as u64) + self.in_clusters(k - 2)) as usize
     }
-}
 
-// The first byte of cluster k (Rust: `cluster_offset`).
-pub fn cluster_offset(y: Layout, k: u32) -> usize
-    requires { Laid y × ((2 ≤ k) × (k < y.count + 2)) }
-    ensures { (result ≡ cluster_at y k) × (result + y.size ≤ y.len) }
-{
-    y.heap + ((k - 2) as usize) * y.size
+    // The layout in a volume of len bytes.
+    pub fn layout(self, len: usize) -> Layout
+        requires { Accepted self.g len }
+        ensures { result ≡ layout_of self.g len }
+    {
+        let g = self.g;
+        let last = g.number_of_fats - 1;
+        Layout {
+            two: g.number_of_fats == 2,
+            fat: self.fat_start(g.active_fat),
+            fat0: self.fat_start(0),
+            fat1: self.fat_start(last),
+            bitmap: self.cluster_start(bitmap_first(g, g.active_fat)),
+            bitmap0: self.cluster_start(g.bitmap_0),
+            bitmap1: self.cluster_start(bitmap_first(g, last)),
+            first0: g.bitmap_0,
+            first1: bitmap_first(g, last),
+            span: self.bitmap_clusters(),
+            heap: self.cluster_start(2),
+            size: self.cluster_size() as usize,
+            count: g.cluster_count,
+            len,
+        }
+    }
 }
 
 // Whether k is one of the n clusters from first.

@@ -4,3 +4,4 @@
 pub mod cause;
 pub mod geometry;
 pub mod layout;
+pub mod system;

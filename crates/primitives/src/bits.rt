@@ -53,6 +53,7 @@ fn past_each_byte(bitmap: &[u8], b: u8, k: u32, n: u32) -> u32
 {
     let end = k + n;
     let mut at = k;
+    // Kept: a step goes to the end of a byte, and the first begins inside one.
     while at < end {
         let i = (at / 8) as usize;
         if bitmap[i] != b {
@@ -70,6 +71,7 @@ fn past_bytes(bitmap: &[u8], b: u8, k: u32, n: u32) -> u32
 {
     let end = k + n;
     let mut at = k;
+    // Kept: a step is 64 bytes, and the first begins inside a byte.
     while 520 <= end - at && same_block(bitmap, (at / 8) as usize, b) {
         at = 8 * (at / 8) + 512;
     }
@@ -83,6 +85,7 @@ pub fn first_bit(bitmap: &[u8], v: u8, k: u32, n: u32) -> u32
 {
     let end = k + n;
     let mut at = k;
+    // Kept: a step is one bit, or as far as the bytes have no such bit.
     while at < end {
         let b = bitmap[(at / 8) as usize];
         let next = at + 1;

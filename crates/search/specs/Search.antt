@@ -1,7 +1,5 @@
 -- Searches over a test of numbers: all of a row, the lowest row, the least number.
-use Rattle.std.specs.Prelude.{Bool, true, ◌&&◌, cond, ℕ, zero, suc, ◌+◌, ◌-◌}
-use Rattle.std.specs.Prelude.{Option}
-use Rattle.std.specs.Prelude.{Some, None}
+use Rattle.std.specs.Prelude.{Bool, true, ◌&&◌, cond, ℕ, zero, suc, ◌+◌, ◌-◌, Option, Some, None}
 
 -- the n numbers from k all pass
 unfoldable pub all_from : (ℕ → Bool) → ℕ → ℕ → Bool

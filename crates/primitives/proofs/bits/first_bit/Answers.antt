@@ -1,10 +1,7 @@
 use Rattle.std.proofs.Common.{sym, ◌∙◌, arith}
-use Rattle.search.proofs.Lowest.{fewest_whole, fewest_end, fewest_within}
+use Rattle.search.proofs.Lowest.{fewest_end, fewest_within}
 use Rattle.primitives.proofs.ByteLaws.{full_byte, zero_byte, bit_here, bit_next, bit_bytes}
 use Rattle.primitives.proofs.bits.first_bit.Goals as goal
-
-pub loop-at-init : goal.loop-at-init
-loop-at-init c = (omega arith, (omega arith, fewest_whole _ _ _ _ (omega arith)))
 
 pub returns-then-b-at : goal.returns-then-b-at
 returns-then-b-at c =

@@ -1,6 +1,6 @@
 use native.Mathlib.Omega.{arith}
 use Rattle.boot.specs.Layout.{fat_start}
-use Rattle.boot.proofs.layout.fat_start.Goals as goal
+use Rattle.boot.proofs.geometry.Shaped.fat_start.Goals as goal
 
 pub returns : goal.returns
 unfolding fat_start

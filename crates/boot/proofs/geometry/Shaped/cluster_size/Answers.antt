@@ -1,7 +1,7 @@
 use Rattle.boot.specs.Geometry.{cluster_size}
 use Rattle.boot.proofs.Powers.{shl_facts}
 use native.Mathlib.Omega.{arith}
-use Rattle.boot.proofs.geometry.cluster_size.Goals as goal
+use Rattle.boot.proofs.geometry.Shaped.cluster_size.Goals as goal
 
 pub returns : goal.returns
 unfolding cluster_size
