@@ -16,8 +16,7 @@ use Rattle.tables.proofs.ListLaws.{mem_append, mem_take, distinct_append, distin
 use Rattle.tables.proofs.CountLaws.{count-append, count_whole, length-keep, in_keep, keep_distinct, keep_cong, take_whole}
 use Rattle.boot.specs.Layout.{in_heap}
 use Rattle.boot.proofs.Apart.{in_heap_lem, heap_in}
-use Rattle.std.specs.Prelude.{Option}
-use Rattle.std.specs.Prelude.{Some, None}
+use Rattle.std.specs.Prelude.{Option, Some, None}
 use Rattle.choice.specs.declared.choice.Choice.{Choice}
 use Rattle.choice.specs.declared.choice.Choice.TheVariants.{Run, Scattered, TooFew}
 use Rattle.search.specs.Search.{all_from, run_from}

@@ -1,8 +1,6 @@
 -- Which clusters are taken (01: Allocate). u says which clusters are usable.
-use Rattle.std.specs.Prelude.{Bool, cond, List, ◌++◌, ℕ, ◌+◌, ◌-◌, ltb, take}
+use Rattle.std.specs.Prelude.{Bool, cond, List, ◌++◌, ℕ, ◌+◌, ◌-◌, ltb, take, Option, Some, None}
 use Rattle.tables.specs.Count.{count, keep}
-use Rattle.std.specs.Prelude.{Option}
-use Rattle.std.specs.Prelude.{Some, None}
 use Rattle.search.specs.Search.{run_from}
 use Rattle.choice.specs.declared.choice.Choice.{Choice}
 use Rattle.choice.specs.declared.choice.Choice.TheVariants.{Run, Scattered, TooFew}

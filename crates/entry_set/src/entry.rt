@@ -96,6 +96,7 @@ fn stream_entry_ok(set: &[u8; 608]) -> bool
 }
 
 // The types and flags of the first n name entries.
+// Kept: n counts entries, and a set is 608 bytes whatever their count.
 fn names_ok(set: &[u8; 608], n: usize) -> bool
     requires { n ≤ 17 }
     ensures { result ≡ names_ok set.now n }

@@ -18,10 +18,11 @@ use Rattle.primitives.proofs.BitLaws.{put_same, put_other}
 use Rattle.primitives.proofs.WordLaws.{length_put, put_off, get_same, get_put, get_put_below}
 use Rattle.primitives.proofs.SpliceLaws.{length-splice, splice_off}
 use Rattle.boot.specs.declared.layout.Layout.{Layout}
+use Rattle.boot.specs.declared.system.System.{System}
 use Rattle.boot.specs.Geometry.{bitmap_bytes}
 use Rattle.boot.specs.Internal.{Laid, Apart}
 use Rattle.boot.specs.Layout.{cluster_at, in_heap, is_bitmap_cluster}
-use Rattle.boot.proofs.Apart.{in_heap_lem, cluster_start_lem, cluster_end, cluster_cluster, bitmap0_cluster, bitmap1_cluster, bitmap_bitmap, fat_bitmap}
+use Rattle.boot.proofs.Apart.{active_lem, in_heap_lem, cluster_start_lem, cluster_end, cluster_cluster, bitmap0_cluster, bitmap1_cluster, bitmap_bitmap, fat_bitmap}
 use Rattle.metadata.specs.Fat.{END, fat_entry, set_fat}
 use Rattle.metadata.specs.Marks.{mark_byte, marked, put_byte, set_mark}
 use Rattle.metadata.specs.Cluster.{cluster_byte, put_bytes}
@@ -32,6 +33,10 @@ pub record Fits (y : Layout) (d : List ℕ) : Type 0 where
   pub laid : Laid y
   pub apart : Apart y
   pub long : length d ≡ y.len
+
+-- as a system's layout does
+pub fits : (s : System) (d : List ℕ) → length d ≡ s.y.len → Fits s.y d
+fits s d e = record { laid = s.laid; apart = s.apart; long = e }
 
 -- it depends on the volume's length alone
 pub fits_kept : (y : Layout) (d e : List ℕ) → length e ≡ length d → Fits y d → Fits y e
@@ -78,7 +83,7 @@ module _ (y : Layout) (d : List ℕ) (w : Fits y d) where
   -- the active FAT and bitmap are the first ones, or the second ones of two
   pub by_active {ℓ} : {P : Type ℓ} → (y.fat ≡ y.fat0 → y.bitmap ≡ y.bitmap0 → P)
       → (y.two ≡ true → y.fat ≡ y.fat1 → y.bitmap ≡ y.bitmap1 → P) → P
-  by_active f s = ⊎_elim (λ a. f a.0 a.1) (λ a. s a.0 a.1 a.2) w.apart.active
+  by_active f s = ⊎_elim (λ a. f a.0 a.1) (λ a. s a.0 a.1 a.2) (active_lem y w.apart)
 
   -- ---- a FAT entry stored
 

@@ -1,9 +1,7 @@
 -- What only contracts of inner functions, and proofs, speak of: no promise of a public call and no clause of the claim needs it.
-use Rattle.std.specs.Prelude.{Bool, cond, not, ◌&&◌, List, ℕ, ◌+◌, ◌*◌, ◌-◌, ◌%◌, zero, suc, eqb}
+use Rattle.std.specs.Prelude.{Bool, cond, not, ◌&&◌, List, ℕ, ◌+◌, ◌*◌, ◌-◌, ◌%◌, zero, suc, eqb, Option, Some, None}
 use Rattle.primitives.specs.Words.{get_le}
 use Rattle.boot.specs.declared.layout.Layout.{Layout}
-use Rattle.std.specs.Prelude.{Option}
-use Rattle.std.specs.Prelude.{Some, None}
 use Rattle.search.specs.Search.{all_from, fewest}
 use Rattle.boot.specs.Limits.{in_map}
 use Rattle.metadata.specs.Fat.{BAD, fat_entry}

@@ -9,6 +9,6 @@ use boot::geometry::Geometry;
 pub fn free_clusters(vol: &[u8], map: &[u8], g: Geometry) -> Result<u32, Cause>
     ensures { free_answer result ≡ free_clusters g vol.now map.now }
 {
-    let y = boot::layout::admit(g, vol.len(), map)?;
-    Ok(crate::bitmap::free_count(vol, y))
+    let sys = boot::system::admit(g, vol.len(), map)?;
+    Ok(crate::bitmap::free_count(vol, &sys))
 }

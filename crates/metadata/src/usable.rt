@@ -1,12 +1,11 @@
 // Which clusters may be taken: unmarked, not in the system map and not bad.
 ghost use Rattle.std.specs.Prelude.{◌≡◌, ◌+◌, ◌*◌, ◌≤◌, ◌<◌, length};
-ghost use Rattle.boot.specs.Internal.{Laid};
 ghost use Rattle.metadata.specs.Fat.{fat_entry};
 ghost use Rattle.metadata.specs.Internal.{entry_of, first_bad, none_refused};
 ghost use Rattle.search.specs.Search.{all_from, fewest};
 ghost use Rattle.metadata.specs.Usable.{is_free, is_usable};
 
-use boot::layout::Layout;
+use boot::system::System;
 
 // The entry of a bad cluster.
 const BAD: u32 = 0xFFFF_FFF7;
@@ -20,45 +19,46 @@ fn first_bad(fat: &[u8], first: u32, n: u32) -> Option<u32>
 }
 
 // The first of the n clusters from first that is bad in the active FAT. The FAT begins mid-volume; that part is handed on.
-fn bad_in(vol: &[u8], y: Layout, first: u32, n: u32) -> Option<u32>
-    requires { Laid y × ((length vol.now ≡ y.len) × (first + n ≤ y.count + 2)) }
-    ensures { result ≡ first_bad (fat_entry y vol.now) first n }
+fn bad_in(vol: &[u8], sys: &System<'_>, first: u32, n: u32) -> Option<u32>
+    requires { (length vol.now ≡ sys.now.y.len) × (first + n ≤ sys.now.y.count + 2) }
+    ensures { result ≡ first_bad (fat_entry sys.now.y vol.now) first n }
 {
-    let a = y.fat;
-    let e = a + 4 * (y.count as usize + 2);
+    let a = sys.y.fat;
+    let e = a + 4 * (sys.y.count as usize + 2);
     first_bad(&vol[a..e], first, n)
 }
 
 // Whether cluster k is unmarked and not in the system map.
 #[tactic(auto, unfolding(crate::specs::Usable::is_free))]
-fn is_free(vol: &[u8], map: &[u8], y: Layout, k: u32) -> bool
-    requires { Laid y × ((length vol.now ≡ y.len) × ((y.count ≤ 8 * length map.now) × ((2 ≤ k) × (k < y.count + 2)))) }
-    ensures { result ≡ is_free y vol.now map.now k }
+fn is_free(vol: &[u8], sys: &System<'_>, k: u32) -> bool
+    requires { (length vol.now ≡ sys.now.y.len) × ((2 ≤ k) × (k < sys.now.y.count + 2)) }
+    ensures { result ≡ is_free sys.now.y vol.now sys.now.map.now k }
 {
-    !crate::bitmap::allocated(vol, y, k) && !boot::geometry::in_map(map, k)
+    !crate::bitmap::allocated(vol, sys, k) && !boot::geometry::in_map(sys.map, k)
 }
 
 // Whether cluster k may be taken.
-pub fn usable(vol: &[u8], map: &[u8], y: Layout, k: u32) -> bool
-    requires { Laid y × ((length vol.now ≡ y.len) × ((y.count ≤ 8 * length map.now) × ((2 ≤ k) × (k < y.count + 2)))) }
-    ensures { result ≡ is_usable y vol.now map.now k }
+pub fn usable(vol: &[u8], sys: &System<'_>, k: u32) -> bool
+    requires { (length vol.now ≡ sys.now.y.len) × ((2 ≤ k) × (k < sys.now.y.count + 2)) }
+    ensures { result ≡ is_usable sys.now.y vol.now sys.now.map.now k }
 {
-    is_free(vol, map, y, k) && bad_in(vol, y, k, 1).is_none()
+    is_free(vol, sys, k) && bad_in(vol, sys, k, 1).is_none()
 }
 
 // The first of the n clusters from k that may be taken; k + n where there is none.
-pub fn next_usable(vol: &[u8], map: &[u8], y: Layout, k: u32, n: u32) -> u32
-    requires { Laid y × ((length vol.now ≡ y.len) × ((y.count ≤ 8 * length map.now) × ((2 ≤ k) × (k + n ≤ y.count + 2)))) }
-    ensures { (result ≡ fewest (is_usable y vol.now map.now) n k) × ((k ≤ result) × (result ≤ k + n)) }
+pub fn next_usable(vol: &[u8], sys: &System<'_>, k: u32, n: u32) -> u32
+    requires { (length vol.now ≡ sys.now.y.len) × ((2 ≤ k) × (k + n ≤ sys.now.y.count + 2)) }
+    ensures { (result ≡ fewest (is_usable sys.now.y vol.now sys.now.map.now) n k) × ((k ≤ result) × (result ≤ k + n)) }
 {
     let end = k + n;
     let mut at = k;
+    // Kept: a step goes past the marked clusters, as many as there are.
     while at < end {
-        let free = crate::bitmap::first_unmarked(vol, y, at, end - at);
+        let free = crate::bitmap::first_unmarked(vol, sys, at, end - at);
         if free == end {
             return end;
         }
-        if usable(vol, map, y, free) {
+        if usable(vol, sys, free) {
             return free;
         }
         at = free + 1;
@@ -67,17 +67,17 @@ pub fn next_usable(vol: &[u8], map: &[u8], y: Layout, k: u32, n: u32) -> u32
 }
 
 // Whether none of the n clusters from first is in the system map or bad.
-fn none_refused(vol: &[u8], map: &[u8], y: Layout, first: u32, n: u32) -> bool
-    requires { Laid y × ((length vol.now ≡ y.len) × ((y.count ≤ 8 * length map.now) × ((2 ≤ first) × (first + n ≤ y.count + 2)))) }
-    ensures { result ≡ none_refused y vol.now map.now first n }
+fn none_refused(vol: &[u8], sys: &System<'_>, first: u32, n: u32) -> bool
+    requires { (length vol.now ≡ sys.now.y.len) × ((2 ≤ first) × (first + n ≤ sys.now.y.count + 2)) }
+    ensures { result ≡ none_refused sys.now.y vol.now sys.now.map.now first n }
 {
-    primitives::bits::none_set(map, first - 2, n) && bad_in(vol, y, first, n).is_none()
+    primitives::bits::none_set(sys.map, first - 2, n) && bad_in(vol, sys, first, n).is_none()
 }
 
 // Whether the n clusters from first are all usable (Rust: `run_is_free`): the marks and the map by the byte, then the FAT's entries.
-pub fn run_is_free(vol: &[u8], map: &[u8], y: Layout, first: u32, n: u32) -> bool
-    requires { Laid y × ((length vol.now ≡ y.len) × ((y.count ≤ 8 * length map.now) × ((2 ≤ first) × (first + n ≤ y.count + 2)))) }
-    ensures { result ≡ all_from (is_usable y vol.now map.now) first n }
+pub fn run_is_free(vol: &[u8], sys: &System<'_>, first: u32, n: u32) -> bool
+    requires { (length vol.now ≡ sys.now.y.len) × ((2 ≤ first) × (first + n ≤ sys.now.y.count + 2)) }
+    ensures { result ≡ all_from (is_usable sys.now.y vol.now sys.now.map.now) first n }
 {
-    crate::bitmap::none_marked(vol, y, first, n) && none_refused(vol, map, y, first, n)
+    crate::bitmap::none_marked(vol, sys, first, n) && none_refused(vol, sys, first, n)
 }

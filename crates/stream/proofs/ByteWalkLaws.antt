@@ -6,6 +6,7 @@ use Prim.Native.Nat.{ℕ, ◌+◌, ◌-◌, ◌*◌, ◌/◌, ◌%◌, ◌≤◌
 use native.Mathlib.Omega.{arith}
 use lib.ListN.{length, take, drop, replicate, length-drop}
 use lib.Seq.{drop-drop, take_all}
+use Rattle.std.proofs.lemmas.List.{length-take, length-take-le}
 use Rattle.primitives.specs.Splice.{splice}
 use Rattle.tables.specs.Lists.{every}
 use Rattle.boot.specs.declared.layout.Layout.{Layout}
@@ -25,6 +26,16 @@ use Rattle.stream.proofs.RowLaws.{run_inside, store_run, read_run}
 
 pub zeros_part : (m i n : ℕ) → i + m ≤ n → ◌≡◌ {A = List ℕ} (take m (drop i (replicate n 0))) (replicate m 0)
 zeros_part m i n h = ap (take m) (drop_zeros i n (omega arith)) ∙ take_zeros m (n - i) (omega arith)
+
+-- the part of n bytes of a list as code takes it, by its two ends
+pub part_is : (bs : List ℕ) (from n : ℕ) → take (from + n - from) (drop from bs) ≡ take n (drop from bs)
+part_is bs from n = ap (λ (k : ℕ). take k (drop from bs)) (omega arith)
+
+pub length-part : (bs : List ℕ) (from n : ℕ) → length (take (from + n - from) (drop from bs)) ≤ n
+length-part bs from n = rw (part_is bs from n) (omega (arith, length-take n (drop from bs)))
+
+pub length-whole_part : (bs : List ℕ) (from n : ℕ) → from + n ≤ length bs → length (take (from + n - from) (drop from bs)) ≡ n
+length-whole_part bs from n h = rw (part_is bs from n) (length-take-le n (drop from bs) (omega (arith, length-drop from bs)))
 
 module _ (y : Layout) where
   -- bytes that are left of a walk stand in clusters of the heap, `left` of them from the walk's on
@@ -48,6 +59,10 @@ module _ (y : Layout) where
       by : (b : Bool) → c.run ≡ b → piece_length y c ≤ c.end - c.from
       by true r = omega (arith, length-run c r)
       by false r = omega (arith, length-chain c r)
+
+  -- no piece goes past the end of the walk
+  pub piece_whole : (c : ByteWalk) → c.from < c.end → c.from + piece_length y c ≤ c.end
+  piece_whole c more = omega (arith, length-piece c)
 
   pub some_piece : (d : List ℕ) (c : ByteWalk) → Stands d c → c.from < c.end → 0 < piece_length y c
   some_piece d c s more = by c.run refl

@@ -2,7 +2,6 @@
 ghost use Rattle.std.specs.Prelude.{◌≡◌, true, ◌*◌, ◌≤◌, ◌<◌, length};
 ghost use Rattle.primitives.specs.Splice.{splice};
 ghost use Rattle.tables.specs.Lists.{every};
-ghost use Rattle.boot.specs.Internal.{Laid};
 ghost use Rattle.boot.specs.Layout.{in_heap};
 ghost use Rattle.boot.specs.Causes.{number};
 ghost use Rattle.metadata.specs.Fat.{fat_entry};
@@ -12,36 +11,30 @@ ghost use Rattle.stream.specs.Listing.{listed_number, listed_list, listing_numbe
 use crate::allocation::Allocation;
 use boot::cause::Cause;
 use boot::geometry::Geometry;
-use boot::layout::Layout;
+use boot::system::System;
 
 // Writes the clusters of a stream to the front of a list.
-fn write_clusters(vol: &[u8], y: Layout, a: Allocation, list: &mut [u32])
-    requires { Laid y × ((length vol.now ≡ y.len) × ((a.count ≤ length list.old) × (every (in_heap y.count) (along (fat_entry y vol.now) a.no_fat_chain a.first a.count) ≡ true))) }
-    ensures { list.new ≡ splice list.old 0 (along (fat_entry y vol.now) a.no_fat_chain a.first a.count) }
+fn write_clusters(vol: &[u8], sys: &System<'_>, a: Allocation, list: &mut [u32])
+    requires { (length vol.now ≡ sys.now.y.len) × ((a.count ≤ length list.old) × (every (in_heap sys.now.y.count) (along (fat_entry sys.now.y vol.now) a.no_fat_chain a.first a.count) ≡ true)) }
+    ensures { list.new ≡ splice list.old 0 (along (fat_entry sys.now.y vol.now) a.no_fat_chain a.first a.count) }
 {
     let mut k = a.first;
     for place in &mut list[..a.count as usize] {
         *place = k;
-        k = crate::walk::next_cluster(vol, y, a.no_fat_chain, k);
+        k = crate::walk::next_cluster(vol, sys, a.no_fat_chain, k);
     }
 }
 
 // The same once the limits are known to hold: refused where the list is too short, or by the record's clusters.
-fn list_clusters(
-    vol: &[u8],
-    map: &[u8],
-    y: Layout,
-    a: Allocation,
-    list: &mut [u32],
-) -> Result<(), Cause>
-    requires { Laid y × ((length vol.now ≡ y.len) × (y.count ≤ 8 * length map.now)) }
-    ensures { (number result ≡ listed_number y vol.now a (length list.old)) × (list.new ≡ listed_list y vol.now a list.old) }
+fn list_clusters(vol: &[u8], sys: &System<'_>, a: Allocation, list: &mut [u32]) -> Result<(), Cause>
+    requires { length vol.now ≡ sys.now.y.len }
+    ensures { (number result ≡ listed_number sys.now.y vol.now a (length list.old)) × (list.new ≡ listed_list sys.now.y vol.now a list.old) }
 {
     if list.len() < a.count as usize {
         return Err(Cause::ShortList);
     }
-    crate::walk::stream_cause(vol, map, y, a)?;
-    write_clusters(vol, y, a, list);
+    crate::walk::stream_cause(vol, sys, a)?;
+    write_clusters(vol, sys, a, list);
     Ok(())
 }
 
@@ -55,6 +48,6 @@ pub fn clusters(
 ) -> Result<(), Cause>
     ensures { (number result ≡ listing_number g vol.now map.now a (length list.old)) × (list.new ≡ listing_list g vol.now map.now a list.old) }
 {
-    let y = boot::layout::admit(g, vol.len(), map)?;
-    list_clusters(vol, map, y, a, list)
+    let sys = boot::system::admit(g, vol.len(), map)?;
+    list_clusters(vol, &sys, a, list)
 }

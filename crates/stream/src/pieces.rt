@@ -1,22 +1,21 @@
 // Pieces of consecutive clusters.
 ghost use Rattle.std.specs.Prelude.{◌≡◌, true, false, ◌+◌, ◌≤◌, ◌<◌, length};
 ghost use Rattle.tables.specs.Lists.{every};
-ghost use Rattle.boot.specs.Internal.{Laid};
 ghost use Rattle.boot.specs.Layout.{in_heap};
 ghost use Rattle.metadata.specs.Fat.{fat_entry};
 ghost use Rattle.stream.specs.Internal.{along, four_follow};
 ghost use Rattle.stream.specs.Pieces.{following, leading};
 
-use boot::layout::Layout;
+use boot::system::System;
 
 // How many of the n clusters of a chain that come after k follow it in the heap, one test for each entry.
-fn following_each(vol: &[u8], y: Layout, k: u32, n: u32) -> u32
-    requires { Laid y × ((length vol.now ≡ y.len) × (every (in_heap y.count) (along (fat_entry y vol.now) false k (n + 1)) ≡ true)) }
-    ensures { (result ≡ following k (along (fat_entry y vol.now) false (fat_entry y vol.now k) n)) × (result ≤ n) }
+fn following_each(vol: &[u8], sys: &System<'_>, k: u32, n: u32) -> u32
+    requires { (length vol.now ≡ sys.now.y.len) × (every (in_heap sys.now.y.count) (along (fat_entry sys.now.y vol.now) false k (n + 1)) ≡ true) }
+    ensures { (result ≡ following k (along (fat_entry sys.now.y vol.now) false (fat_entry sys.now.y vol.now k) n)) × (result ≤ n) }
 {
     for i in 0..n {
         let last = k + i;
-        if metadata::fat::fat_entry(vol, y, last) != last + 1 {
+        if metadata::fat::fat_entry(vol, sys, last) != last + 1 {
             return i;
         }
     }
@@ -24,37 +23,38 @@ fn following_each(vol: &[u8], y: Layout, k: u32, n: u32) -> u32
 }
 
 // Whether each of the four FAT entries from k's on names the next number. With no way out, the compiler can compare them at once.
-fn four_follow(vol: &[u8], y: Layout, k: u32) -> bool
-    requires { Laid y × ((length vol.now ≡ y.len) × (k + 3 < y.count + 2)) }
-    ensures { result ≡ four_follow (fat_entry y vol.now) k }
+fn four_follow(vol: &[u8], sys: &System<'_>, k: u32) -> bool
+    requires { (length vol.now ≡ sys.now.y.len) × (k + 3 < sys.now.y.count + 2) }
+    ensures { result ≡ four_follow (fat_entry sys.now.y vol.now) k }
 {
-    let a = metadata::fat::fat_entry(vol, y, k) == k + 1;
-    let b = metadata::fat::fat_entry(vol, y, k + 1) == k + 2;
-    let c = metadata::fat::fat_entry(vol, y, k + 2) == k + 3;
-    let d = metadata::fat::fat_entry(vol, y, k + 3) == k + 4;
+    let a = metadata::fat::fat_entry(vol, sys, k) == k + 1;
+    let b = metadata::fat::fat_entry(vol, sys, k + 1) == k + 2;
+    let c = metadata::fat::fat_entry(vol, sys, k + 2) == k + 3;
+    let d = metadata::fat::fat_entry(vol, sys, k + 3) == k + 4;
     (a & b) & (c & d)
 }
 
 // The same, four entries at a time as long as they lie in the FAT and all of them name the next number.
-fn following(vol: &[u8], y: Layout, k: u32, n: u32) -> u32
-    requires { Laid y × ((length vol.now ≡ y.len) × (every (in_heap y.count) (along (fat_entry y vol.now) false k (n + 1)) ≡ true)) }
-    ensures { (result ≡ following k (along (fat_entry y vol.now) false (fat_entry y vol.now k) n)) × (result ≤ n) }
+fn following(vol: &[u8], sys: &System<'_>, k: u32, n: u32) -> u32
+    requires { (length vol.now ≡ sys.now.y.len) × (every (in_heap sys.now.y.count) (along (fat_entry sys.now.y vol.now) false k (n + 1)) ≡ true) }
+    ensures { (result ≡ following k (along (fat_entry sys.now.y vol.now) false (fat_entry sys.now.y vol.now k) n)) × (result ≤ n) }
 {
     let mut done = 0;
-    while 4 <= n - done && k + done + 1 < y.count && four_follow(vol, y, k + done) {
+    // Kept: a step is four entries, and their numbers end it as well as their count.
+    while 4 <= n - done && k + done + 1 < sys.y.count && four_follow(vol, sys, k + done) {
         done += 4;
     }
-    done + following_each(vol, y, k + done, n - done)
+    done + following_each(vol, sys, k + done, n - done)
 }
 
 // How many of the n clusters of a stream from k on, k included, stand one behind the other in the heap: all of a run's; a chain's as
 // long as the FAT names the next number.
-pub fn leading(vol: &[u8], y: Layout, run: bool, k: u32, n: u32) -> u32
-    requires { Laid y × ((length vol.now ≡ y.len) × ((every (in_heap y.count) (along (fat_entry y vol.now) run k n) ≡ true) × (1 ≤ n))) }
-    ensures { result ≡ leading (along (fat_entry y vol.now) run k n) }
+pub fn leading(vol: &[u8], sys: &System<'_>, run: bool, k: u32, n: u32) -> u32
+    requires { (length vol.now ≡ sys.now.y.len) × ((every (in_heap sys.now.y.count) (along (fat_entry sys.now.y vol.now) run k n) ≡ true) × (1 ≤ n)) }
+    ensures { result ≡ leading (along (fat_entry sys.now.y vol.now) run k n) }
 {
     if run {
         return n;
     }
-    1 + following(vol, y, k, n - 1)
+    1 + following(vol, sys, k, n - 1)
 }

@@ -1,7 +1,6 @@
 // System clusters among those of a stream (number 9).
 ghost use Rattle.std.specs.Prelude.{◌≡◌, true, ◌+◌, ◌*◌, ◌≤◌, length};
 ghost use Rattle.tables.specs.Lists.{every, consec};
-ghost use Rattle.boot.specs.Internal.{Laid};
 ghost use Rattle.boot.specs.Layout.{in_heap};
 ghost use Rattle.boot.specs.Causes.{number};
 ghost use Rattle.metadata.specs.Fat.{fat_entry};
@@ -9,7 +8,7 @@ ghost use Rattle.stream.specs.Internal.{along};
 ghost use Rattle.stream.specs.Stream.{system_cause};
 
 use boot::cause::Cause;
-use boot::layout::Layout;
+use boot::system::System;
 
 // Refuses the n clusters from first as a run by a system cluster among them. Bytes of the map that are 0 are one test.
 fn run_system_cause(map: &[u8], first: u32, n: u32) -> Result<(), Cause>
@@ -26,24 +25,23 @@ fn run_system_cause(map: &[u8], first: u32, n: u32) -> Result<(), Cause>
 // Refuses n clusters of a stream by a system cluster among them.
 pub fn system_cause(
     vol: &[u8],
-    map: &[u8],
-    y: Layout,
+    sys: &System<'_>,
     run: bool,
     first: u32,
     n: u32,
 ) -> Result<(), Cause>
-    requires { Laid y × ((length vol.now ≡ y.len) × ((y.count ≤ 8 * length map.now) × ((every (in_heap y.count) (along (fat_entry y vol.now) run first n) ≡ true) × (1 ≤ n)))) }
-    ensures { number result ≡ system_cause map.now (along (fat_entry y vol.now) run first n) }
+    requires { (length vol.now ≡ sys.now.y.len) × ((every (in_heap sys.now.y.count) (along (fat_entry sys.now.y vol.now) run first n) ≡ true) × (1 ≤ n)) }
+    ensures { number result ≡ system_cause sys.now.map.now (along (fat_entry sys.now.y vol.now) run first n) }
 {
     if run {
-        return run_system_cause(map, first, n);
+        return run_system_cause(sys.map, first, n);
     }
     let mut k = first;
     for _ in 0..n {
-        if boot::geometry::in_map(map, k) {
+        if boot::geometry::in_map(sys.map, k) {
             return Err(Cause::SystemCluster);
         }
-        k = metadata::fat::fat_entry(vol, y, k);
+        k = metadata::fat::fat_entry(vol, sys, k);
     }
     Ok(())
 }

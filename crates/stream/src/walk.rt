@@ -1,6 +1,5 @@
 // A record's clusters walked and tested: what refuses it.
 ghost use Rattle.std.specs.Prelude.{◌≡◌, Ok, IfOk, not, false, ◌+◌, ◌-◌, ◌*◌, ◌≤◌, ◌<◌, min, length};
-ghost use Rattle.boot.specs.Internal.{Laid};
 ghost use Rattle.boot.specs.Causes.{number};
 ghost use Rattle.metadata.specs.Fat.{fat_entry};
 ghost use Rattle.metadata.specs.Marks.{marked};
@@ -11,7 +10,7 @@ ghost use Rattle.stream.specs.Stream.{run_cause, read_run, check_chain, stream_o
 
 use crate::allocation::Allocation;
 use boot::cause::Cause;
-use boot::layout::Layout;
+use boot::system::System;
 
 // A chain walked to its end: its last cluster, its length, whether all are marked, whether none is barred (number 9), and the cluster
 // that the caller looks for, 0 where the chain ends before it.
@@ -26,14 +25,14 @@ pub struct Walk {
 }
 
 // Whether cluster k may not be in a stream (number 9): a bitmap's cluster in the root directory, a system cluster in any other stream.
-fn is_barred(map: &[u8], y: Layout, root: bool, k: u32) -> bool
-    requires { (y.count ≤ 8 * length map.now) × ((2 ≤ k) × (k < y.count + 2)) }
-    ensures { result ≡ barred y map.now root k }
+fn is_barred(sys: &System<'_>, root: bool, k: u32) -> bool
+    requires { (2 ≤ k) × (k < sys.now.y.count + 2) }
+    ensures { result ≡ barred sys.now.y sys.now.map.now root k }
 {
     if root {
-        return boot::layout::is_bitmap_cluster(y, k);
+        return boot::layout::is_bitmap_cluster(sys.y, k);
     }
-    boot::geometry::in_map(map, k)
+    boot::geometry::in_map(sys.map, k)
 }
 
 // The chain from first, a cluster of the heap, walked once, as the root directory's or as another stream's (Rust: `fat_chain`); the
@@ -42,27 +41,26 @@ fn is_barred(map: &[u8], y: Layout, root: bool, k: u32) -> bool
 #[inline(never)]
 pub fn fat_chain(
     vol: &[u8],
-    map: &[u8],
-    y: Layout,
+    sys: &System<'_>,
     root: bool,
     first: u32,
     goal: u32,
 ) -> Result<Walk, Cause>
-    requires { Laid y × ((length vol.now ≡ y.len) × ((y.count ≤ 8 * length map.now) × ((2 ≤ first) × (first < y.count + 2)))) }
-    ensures { walked_of result ≡ walked (marked y vol.now) (λ k. not (barred y map.now root k)) goal (read_chain y.count (fat_entry y vol.now) first) }
+    requires { (length vol.now ≡ sys.now.y.len) × ((2 ≤ first) × (first < sys.now.y.count + 2)) }
+    ensures { walked_of result ≡ walked (marked sys.now.y vol.now) (λ k. not (barred sys.now.y sys.now.map.now root k)) goal (read_chain sys.now.y.count (fat_entry sys.now.y vol.now) first) }
 {
     let mut k = first;
     let mut all = true;
     let mut clear = true;
     let mut seen: u32 = 0;
-    for before in 0..y.count {
-        let v = metadata::fat::fat_entry(vol, y, k);
-        all &= metadata::bitmap::allocated(vol, y, k);
-        clear &= !is_barred(map, y, root, k);
+    for before in 0..sys.y.count {
+        let v = metadata::fat::fat_entry(vol, sys, k);
+        all &= metadata::bitmap::allocated(vol, sys, k);
+        clear &= !is_barred(sys, root, k);
         if before == goal {
             seen = k;
         }
-        if !boot::layout::in_heap(y.count, v) {
+        if !boot::layout::in_heap(sys.y.count, v) {
             if v == 0xFFFF_FFFF {
                 return Ok(Walk {
                     last: k,
@@ -80,16 +78,21 @@ pub fn fat_chain(
 }
 
 // Refuses the n clusters from first as a run by the earliest that is outside the heap or unmarked.
-fn run_cause(vol: &[u8], y: Layout, first: u32, n: u32) -> Result<(), Cause>
-    requires { Laid y × ((length vol.now ≡ y.len) × (1 ≤ n)) }
-    ensures { number result ≡ run_cause y.count (marked y vol.now) first n }
+fn run_cause(vol: &[u8], sys: &System<'_>, first: u32, n: u32) -> Result<(), Cause>
+    requires { (length vol.now ≡ sys.now.y.len) × (1 ≤ n) }
+    ensures { number result ≡ run_cause sys.now.y.count (marked sys.now.y vol.now) first n }
 {
-    if boot::layout::in_heap(y.count, first) {
-        let next = metadata::bitmap::first_unmarked(vol, y, first, n.min(y.count + 2 - first));
+    if boot::layout::in_heap(sys.y.count, first) {
+        let next = metadata::bitmap::first_unmarked(
+            vol,
+            sys,
+            first,
+            n.min(sys.y.count + 2 - first),
+        );
         if next - first == n {
             return Ok(());
         }
-        if boot::layout::in_heap(y.count, next) {
+        if boot::layout::in_heap(sys.y.count, next) {
             return Err(Cause::Unmarked);
         }
     }
@@ -97,14 +100,14 @@ fn run_cause(vol: &[u8], y: Layout, first: u32, n: u32) -> Result<(), Cause>
 }
 
 // Refuses a run by its length, then by its clusters.
-fn read_run(vol: &[u8], y: Layout, a: Allocation) -> Result<(), Cause>
-    requires { Laid y × ((length vol.now ≡ y.len) × (1 ≤ a.count)) }
-    ensures { number result ≡ number_of (read_run y.count (marked y vol.now) a.first a.last a.count) }
+fn read_run(vol: &[u8], sys: &System<'_>, a: Allocation) -> Result<(), Cause>
+    requires { (length vol.now ≡ sys.now.y.len) × (1 ≤ a.count) }
+    ensures { number result ≡ number_of (read_run sys.now.y.count (marked sys.now.y vol.now) a.first a.last a.count) }
 {
     if u64::from(a.last) + 1 != u64::from(a.first) + u64::from(a.count) {
         return Err(Cause::OtherChain);
     }
-    run_cause(vol, y, a.first, a.count)
+    run_cause(vol, sys, a.first, a.count)
 }
 
 // Refuses a walked chain that has not this last cluster and so many clusters, then one that is not all marked.
@@ -124,50 +127,50 @@ pub fn walk_cause(w: Walk, last: u32, count: u32) -> Result<(), Cause>
 
 // Refuses a chain by its walk, then by its length and last cluster, then by its marks. Gives whether the walk saw that none of its
 // clusters is a system cluster.
-fn read_chain(vol: &[u8], map: &[u8], y: Layout, a: Allocation) -> Result<bool, Cause>
-    requires { Laid y × ((length vol.now ≡ y.len) × (y.count ≤ 8 * length map.now)) }
-    ensures { (number result ≡ number_of (check_chain (marked y vol.now) a.last a.count (read_chain y.count (fat_entry y vol.now) a.first))) × IfOk result (λ clear. clear ≡ chain_clear y vol.now map.now a.first) }
+fn read_chain(vol: &[u8], sys: &System<'_>, a: Allocation) -> Result<bool, Cause>
+    requires { length vol.now ≡ sys.now.y.len }
+    ensures { (number result ≡ number_of (check_chain (marked sys.now.y vol.now) a.last a.count (read_chain sys.now.y.count (fat_entry sys.now.y vol.now) a.first))) × IfOk result (λ clear. clear ≡ chain_clear sys.now.y vol.now sys.now.map.now a.first) }
 {
-    if !boot::layout::in_heap(y.count, a.first) {
+    if !boot::layout::in_heap(sys.y.count, a.first) {
         return Err(Cause::OutsideHeap);
     }
-    let w = fat_chain(vol, map, y, false, a.first, 0)?;
+    let w = fat_chain(vol, sys, false, a.first, 0)?;
     walk_cause(w, a.last, a.count)?;
     Ok(w.clear)
 }
 
 // A record's clusters tested (Rust: `clusters`, and the test of it): whether a walk of them saw that none is a system cluster, or what
 // refuses them.
-pub fn stream_test(vol: &[u8], map: &[u8], y: Layout, a: Allocation) -> Result<bool, Cause>
-    requires { Laid y × ((length vol.now ≡ y.len) × (y.count ≤ 8 * length map.now)) }
-    ensures { (number result ≡ number_of (stream_of y vol.now a)) × IfOk result (λ clear. clear ≡ stream_clear y vol.now map.now a) }
+pub fn stream_test(vol: &[u8], sys: &System<'_>, a: Allocation) -> Result<bool, Cause>
+    requires { length vol.now ≡ sys.now.y.len }
+    ensures { (number result ≡ number_of (stream_of sys.now.y vol.now a)) × IfOk result (λ clear. clear ≡ stream_clear sys.now.y vol.now sys.now.map.now a) }
 {
     if a.count == 0 {
         return Ok(false);
     }
     if a.no_fat_chain {
-        read_run(vol, y, a)?;
+        read_run(vol, sys, a)?;
         return Ok(false);
     }
-    read_chain(vol, map, y, a)
+    read_chain(vol, sys, a)
 }
 
 // Refuses a record by its clusters.
-pub fn stream_cause(vol: &[u8], map: &[u8], y: Layout, a: Allocation) -> Result<(), Cause>
-    requires { Laid y × ((length vol.now ≡ y.len) × (y.count ≤ 8 * length map.now)) }
-    ensures { number result ≡ number_of (stream_of y vol.now a) }
+pub fn stream_cause(vol: &[u8], sys: &System<'_>, a: Allocation) -> Result<(), Cause>
+    requires { length vol.now ≡ sys.now.y.len }
+    ensures { number result ≡ number_of (stream_of sys.now.y vol.now a) }
 {
-    stream_test(vol, map, y, a)?;
+    stream_test(vol, sys, a)?;
     Ok(())
 }
 
 // The cluster after k in a stream.
-pub fn next_cluster(vol: &[u8], y: Layout, run: bool, k: u32) -> u32
-    requires { Laid y × ((length vol.now ≡ y.len) × (k < y.count + 2)) }
-    ensures { result ≡ after (fat_entry y vol.now) run k }
+pub fn next_cluster(vol: &[u8], sys: &System<'_>, run: bool, k: u32) -> u32
+    requires { (length vol.now ≡ sys.now.y.len) × (k < sys.now.y.count + 2) }
+    ensures { result ≡ after (fat_entry sys.now.y vol.now) run k }
 {
     if run {
         return k + 1;
     }
-    metadata::fat::fat_entry(vol, y, k)
+    metadata::fat::fat_entry(vol, sys, k)
 }

@@ -1,11 +1,10 @@
 // Clusters taken: marked, and linked where they are to be a chain.
 ghost use Rattle.std.specs.Prelude.{◌≡◌, true, ◌+◌, ◌-◌, ◌*◌, ◌≤◌, ◌<◌, length};
-ghost use Rattle.boot.specs.Internal.{Laid, Apart};
 ghost use Rattle.metadata.specs.Marks.{mark_run};
 ghost use Rattle.write_alloc.specs.Take.{link_run, take_each, take_single};
 ghost use Rattle.write_alloc.specs.Internal.{prev_taken, taken_from, taken_of, whole_byte};
 
-use boot::layout::Layout;
+use boot::system::System;
 
 // The cluster reached, 0 before the first, and how many are still to be taken.
 // Kept: 0 is no cluster's number, and the definition `take_each` begins at it likewise.
@@ -24,64 +23,59 @@ fn whole_byte(k: u32, left: u32) -> bool
 }
 
 // Marks the n clusters from first: eight at once where they are one byte of the bitmap.
-pub fn mark_run(vol: &mut [u8], y: Layout, first: u32, n: u32)
-    requires { Laid y × ((length vol.old ≡ y.len) × ((2 ≤ first) × ((first + n ≤ y.count + 2) × Apart y))) }
-    ensures { vol.new ≡ mark_run y vol.old first n }
+pub fn mark_run(vol: &mut [u8], sys: &System<'_>, first: u32, n: u32)
+    requires { (length vol.old ≡ sys.now.y.len) × ((2 ≤ first) × (first + n ≤ sys.now.y.count + 2)) }
+    ensures { vol.new ≡ mark_run sys.now.y vol.old first n }
 {
     let end = first + n;
     let mut k = first;
+    // Kept: a step is one cluster, or the eight of a byte.
     while k < end {
         if whole_byte(k, end - k) {
-            metadata::bitmap::mark_byte(vol, y, k);
+            metadata::bitmap::mark_byte(vol, sys, k);
             k += 8;
         } else {
-            metadata::bitmap::mark(vol, y, k, true);
+            metadata::bitmap::mark(vol, sys, k, true);
             k += 1;
         }
     }
 }
 
 // Links n clusters from first, each to the next one (Rust: `link`, without the end).
-pub fn link_run(vol: &mut [u8], y: Layout, first: u32, n: u32)
-    requires { Laid y × ((length vol.old ≡ y.len) × (first + n ≤ y.count + 2)) }
-    ensures { vol.new ≡ link_run y vol.old first n }
+pub fn link_run(vol: &mut [u8], sys: &System<'_>, first: u32, n: u32)
+    requires { (length vol.old ≡ sys.now.y.len) × (first + n ≤ sys.now.y.count + 2) }
+    ensures { vol.new ≡ link_run sys.now.y vol.old first n }
 {
     for k in first..first + n {
-        metadata::fat::set_fat(vol, y, k, k + 1);
+        metadata::fat::set_fat(vol, sys, k, k + 1);
     }
 }
 
 // Takes one cluster: marks it, and links the one before to it.
-fn take_one(vol: &mut [u8], y: Layout, prev: u32, k: u32)
-    requires { Laid y × ((length vol.old ≡ y.len) × ((prev < y.count + 2) × ((2 ≤ k) × (k < y.count + 2)))) }
-    ensures { vol.new ≡ take_single y vol.old prev k }
+fn take_one(vol: &mut [u8], sys: &System<'_>, prev: u32, k: u32)
+    requires { (length vol.old ≡ sys.now.y.len) × ((prev < sys.now.y.count + 2) × ((2 ≤ k) × (k < sys.now.y.count + 2))) }
+    ensures { vol.new ≡ take_single sys.now.y vol.old prev k }
 {
-    metadata::bitmap::mark(vol, y, k, true);
+    metadata::bitmap::mark(vol, sys, k, true);
     if prev != 0 {
-        metadata::fat::set_fat(vol, y, prev, k);
+        metadata::fat::set_fat(vol, sys, prev, k);
     }
 }
 
 // Takes usable clusters from `from` on, below end, until none is left to be taken.
-pub fn take_usable(
-    vol: &mut [u8],
-    map: &[u8],
-    y: Layout,
-    from: u32,
-    end: u32,
-    start: Taken,
-) -> Taken
-    requires { Laid y × ((length vol.old ≡ y.len) × ((y.count ≤ 8 * length map.now) × ((2 ≤ from) × ((end ≤ y.count + 2) × ((start.prev < y.count + 2) × ((prev_taken y vol.old start.prev ≡ true) × Apart y)))))) }
-    ensures { let ks = taken_from y vol.old map.now from end start.left in (vol.new ≡ take_each y vol.old start.prev ks) × (result ≡ taken_of start ks) }
+pub fn take_usable(vol: &mut [u8], sys: &System<'_>, from: u32, end: u32, start: Taken) -> Taken
+    requires { (length vol.old ≡ sys.now.y.len) × ((2 ≤ from) × ((end ≤ sys.now.y.count + 2) × ((start.prev < sys.now.y.count + 2) × (prev_taken sys.now.y vol.old start.prev ≡ true)))) }
+    ensures { let ks = taken_from sys.now.y vol.old sys.now.map.now from end start.left in (vol.new ≡ take_each sys.now.y vol.old start.prev ks) × (result ≡ taken_of start ks) }
 {
     let mut taken = start;
     let mut k = from;
+    // Kept: a step goes to the next usable cluster, and the count of those left ends it too.
     while k < end && taken.left != 0 {
-        let next = metadata::usable::next_usable(vol, map, y, k, end - k);
+        let next = metadata::usable::next_usable(vol, sys, k, end - k);
         if next == end {
             break;
         }
-        take_one(vol, y, taken.prev, next);
+        take_one(vol, sys, taken.prev, next);
         taken = Taken {
             prev: next,
             left: taken.left - 1,

@@ -1,7 +1,6 @@
 // Extend: clusters added to the end of a stream (Rust: `extend_clusters`).
 ghost use Rattle.std.specs.Prelude.{◌≡◌, ◌+◌, ◌-◌, ◌*◌, ◌<◌, ◌≤◌, true, false, length};
 ghost use Rattle.tables.specs.Count.{count};
-ghost use Rattle.boot.specs.Internal.{Laid, Apart};
 ghost use Rattle.boot.specs.Layout.{in_heap};
 ghost use Rattle.metadata.specs.Usable.{is_usable};
 ghost use Rattle.stream.specs.Stream.{number_of, stream_of};
@@ -13,27 +12,27 @@ ghost use Rattle.write_alloc.specs.Outcome.{success, answer_of};
 
 use boot::cause::Cause;
 use boot::geometry::Geometry;
-use boot::layout::Layout;
+use boot::system::System;
 use choice::choice::Choice;
 use stream::allocation::Allocation;
 use write_alloc::answer::Updated;
 
 // Refuses n more clusters for a record that has some. Fewer usable clusters than n are too few whatever the free count is: it is asked only
 // where the record is refused.
-fn more_cause(vol: &[u8], map: &[u8], y: Layout, a: Allocation, n: u32) -> Result<(), Cause>
-    requires { Laid y × ((length vol.now ≡ y.len) × (y.count ≤ 8 * length map.now)) }
-    ensures { number result ≡ more_cause y vol.now map.now a n }
+fn more_cause(vol: &[u8], sys: &System<'_>, a: Allocation, n: u32) -> Result<(), Cause>
+    requires { length vol.now ≡ sys.now.y.len }
+    ensures { number result ≡ more_cause sys.now.y vol.now sys.now.map.now a n }
 {
-    if u64::from(y.count) < u64::from(a.count) + u64::from(n) {
+    if u64::from(sys.y.count) < u64::from(a.count) + u64::from(n) {
         return Err(Cause::NoSpace);
     }
-    match stream::walk::stream_cause(vol, map, y, a) {
+    match stream::walk::stream_cause(vol, sys, a) {
         Ok(()) => {}
-        Err(_) if metadata::bitmap::free_count(vol, y) < n => return Err(Cause::NoSpace),
+        Err(_) if metadata::bitmap::free_count(vol, sys) < n => return Err(Cause::NoSpace),
         Err(cause) => return Err(cause),
     }
     let next = a.last.wrapping_add(1);
-    if choice::choice::enough(vol, map, y, next, u64::from(n)) {
+    if choice::choice::enough(vol, sys, next, u64::from(n)) {
         Ok(())
     } else {
         Err(Cause::NoSpace)
@@ -41,38 +40,40 @@ fn more_cause(vol: &[u8], map: &[u8], y: Layout, a: Allocation, n: u32) -> Resul
 }
 
 // Whether the next n clusters of a run are usable (Rust: `run_is_free`).
-fn in_place(vol: &[u8], map: &[u8], y: Layout, a: Allocation, n: u32) -> bool
-    requires { Laid y × ((length vol.now ≡ y.len) × ((y.count ≤ 8 * length map.now) × ((1 ≤ a.last) × ((a.last < y.count + 2) × (n ≤ y.count))))) }
-    ensures { result ≡ in_place y vol.now map.now a n }
+fn in_place(vol: &[u8], sys: &System<'_>, a: Allocation, n: u32) -> bool
+    requires { (length vol.now ≡ sys.now.y.len) × ((1 ≤ a.last) × ((a.last < sys.now.y.count + 2) × (n ≤ sys.now.y.count))) }
+    ensures { result ≡ in_place sys.now.y vol.now sys.now.map.now a n }
 {
     let next = a.last + 1;
-    a.no_fat_chain && next + n <= y.count + 2 && metadata::usable::run_is_free(vol, map, y, next, n)
+    a.no_fat_chain
+        && next + n <= sys.y.count + 2
+        && metadata::usable::run_is_free(vol, sys, next, n)
 }
 
 // A run that keeps its flag.
-fn longer_run(vol: &mut [u8], y: Layout, a: Allocation, n: u32) -> Updated
-    requires { Laid y × ((length vol.old ≡ y.len) × ((1 ≤ a.last) × ((a.last + 1 + n ≤ y.count + 2) × ((a.count + n ≤ y.count) × Apart y)))) }
-    ensures { let o = longer_run y vol.old a n in (success result ≡ o.answer) × (vol.new ≡ o.volume) }
+fn longer_run(vol: &mut [u8], sys: &System<'_>, a: Allocation, n: u32) -> Updated
+    requires { (length vol.old ≡ sys.now.y.len) × ((1 ≤ a.last) × ((a.last + 1 + n ≤ sys.now.y.count + 2) × (a.count + n ≤ sys.now.y.count))) }
+    ensures { let o = longer_run sys.now.y vol.old a n in (success result ≡ o.answer) × (vol.new ≡ o.volume) }
 {
-    write_alloc::take::mark_run(vol, y, a.last + 1, n);
+    write_alloc::take::mark_run(vol, sys, a.last + 1, n);
     let allocation = Allocation {
         first: a.first,
         last: a.last + n,
         count: a.count + n,
         no_fat_chain: true,
     };
-    let hint = write_alloc::allocate::wrap_cluster(y.count, a.last + n + 1);
+    let hint = write_alloc::allocate::wrap_cluster(sys.y.count, a.last + n + 1);
     Updated { allocation, hint }
 }
 
 // A run's clusters linked in every FAT, the last one as the end. A chain's are linked already.
-fn link_old(vol: &mut [u8], y: Layout, a: Allocation)
-    requires { Laid y × ((length vol.old ≡ y.len) × ((a.last < y.count + 2) × ((1 ≤ a.count) × (a.no_fat_chain ≡ true → a.first + a.count ≤ y.count + 2)))) }
-    ensures { vol.new ≡ link_old y vol.old a }
+fn link_old(vol: &mut [u8], sys: &System<'_>, a: Allocation)
+    requires { (length vol.old ≡ sys.now.y.len) × ((a.last < sys.now.y.count + 2) × ((1 ≤ a.count) × (a.no_fat_chain ≡ true → a.first + a.count ≤ sys.now.y.count + 2))) }
+    ensures { vol.new ≡ link_old sys.now.y vol.old a }
 {
     if a.no_fat_chain {
-        write_alloc::take::link_run(vol, y, a.first, a.count - 1);
-        metadata::fat::set_fat(vol, y, a.last, 0xFFFF_FFFF);
+        write_alloc::take::link_run(vol, sys, a.first, a.count - 1);
+        metadata::fat::set_fat(vol, sys, a.last, 0xFFFF_FFFF);
     }
 }
 
@@ -87,50 +88,49 @@ fn begin_of(choice: Choice, start: u32) -> u32
 }
 
 // n more clusters linked on, sought from last + 1.
-fn longer_chain(vol: &mut [u8], map: &[u8], y: Layout, a: Allocation, n: u32) -> Updated
-    requires { Laid y × ((length vol.old ≡ y.len) × ((y.count ≤ 8 * length map.now) × (Apart y × ((1 ≤ a.count) × ((1 ≤ n) × Allowed y vol.old map.now a n))))) }
-    ensures { let o = longer_chain y vol.old a (chosen (is_usable y vol.old map.now) y.count n (wrap y.count (a.last + 1))) in (success result ≡ o.answer) × (vol.new ≡ o.volume) }
+fn longer_chain(vol: &mut [u8], sys: &System<'_>, a: Allocation, n: u32) -> Updated
+    requires { (length vol.old ≡ sys.now.y.len) × ((1 ≤ a.count) × ((1 ≤ n) × Allowed sys.now.y vol.old sys.now.map.now a n)) }
+    ensures { let o = longer_chain sys.now.y vol.old a (chosen (is_usable sys.now.y vol.old sys.now.map.now) sys.now.y.count n (wrap sys.now.y.count (a.last + 1))) in (success result ≡ o.answer) × (vol.new ≡ o.volume) }
 {
-    let start = write_alloc::allocate::wrap_cluster(y.count, a.last + 1);
-    let choice = choice::choice::choose_clusters(vol, map, y, start, n);
+    let start = write_alloc::allocate::wrap_cluster(sys.y.count, a.last + 1);
+    let choice = choice::choice::choose_clusters(vol, sys, start, n);
     let from = begin_of(choice, start);
-    link_old(vol, y, a);
-    let last = write_alloc::allocate::take_chain(vol, map, y, from, n, a.last);
+    link_old(vol, sys, a);
+    let last = write_alloc::allocate::take_chain(vol, sys, from, n, a.last);
     let allocation = Allocation {
         first: a.first,
         last,
         count: a.count + n,
         no_fat_chain: false,
     };
-    let hint = write_alloc::allocate::wrap_cluster(y.count, last + 1);
+    let hint = write_alloc::allocate::wrap_cluster(sys.y.count, last + 1);
     Updated { allocation, hint }
 }
 
 // n more clusters for a record that has some.
-fn longer_stream(vol: &mut [u8], map: &[u8], y: Layout, a: Allocation, n: u32) -> Updated
-    requires { Laid y × ((length vol.old ≡ y.len) × ((y.count ≤ 8 * length map.now) × (Apart y × ((1 ≤ a.count) × ((1 ≤ n) × Allowed y vol.old map.now a n))))) }
-    ensures { let o = longer y vol.old map.now a n in (success result ≡ o.answer) × (vol.new ≡ o.volume) }
+fn longer_stream(vol: &mut [u8], sys: &System<'_>, a: Allocation, n: u32) -> Updated
+    requires { (length vol.old ≡ sys.now.y.len) × ((1 ≤ a.count) × ((1 ≤ n) × Allowed sys.now.y vol.old sys.now.map.now a n)) }
+    ensures { let o = longer sys.now.y vol.old sys.now.map.now a n in (success result ≡ o.answer) × (vol.new ≡ o.volume) }
 {
-    if in_place(vol, map, y, a, n) {
-        longer_run(vol, y, a, n)
+    if in_place(vol, sys, a, n) {
+        longer_run(vol, sys, a, n)
     } else {
-        longer_chain(vol, map, y, a, n)
+        longer_chain(vol, sys, a, n)
     }
 }
 
 // Extend on a volume that keeps the limits. An empty record is an allocation without near.
 fn extend_in(
     vol: &mut [u8],
-    map: &[u8],
-    y: Layout,
+    sys: &System<'_>,
     a: Allocation,
     n: u32,
     hint: u32,
 ) -> Result<Updated, Cause>
-    requires { Laid y × ((length vol.old ≡ y.len) × ((y.count ≤ 8 * length map.now) × Apart y)) }
-    ensures { let o = extend_in y vol.old map.now a n hint in (answer_of a hint result ≡ o.answer) × (vol.new ≡ o.volume) }
+    requires { length vol.old ≡ sys.now.y.len }
+    ensures { let o = extend_in sys.now.y vol.old sys.now.map.now a n hint in (answer_of a hint result ≡ o.answer) × (vol.new ≡ o.volume) }
 {
-    if !boot::layout::in_heap(y.count, hint) {
+    if !boot::layout::in_heap(sys.y.count, hint) {
         return Err(Cause::OutsideHeap);
     }
     if n == 0 {
@@ -140,16 +140,16 @@ fn extend_in(
         });
     }
     if a.count == 0 {
-        return write_alloc::allocate::allocate_in(vol, map, y, n, None, hint);
+        return write_alloc::allocate::allocate_in(vol, sys, n, None, hint);
     }
-    more_cause(vol, map, y, a, n)?;
-    Ok(longer_stream(vol, map, y, a, n))
+    more_cause(vol, sys, a, n)?;
+    Ok(longer_stream(vol, sys, a, n))
 }
 
 // n more clusters for a stream whose record is known to read, n of them known to be usable: what extend does where nothing refuses.
-pub fn grow_in(vol: &mut [u8], map: &[u8], y: Layout, a: Allocation, n: u32, hint: u32) -> Updated
-    requires { Laid y × ((length vol.old ≡ y.len) × ((y.count ≤ 8 * length map.now) × (Apart y × ((in_heap y.count hint ≡ true) × ((number_of (stream_of y vol.old a) ≡ 0) × (n ≤ count (is_usable y vol.old map.now) 2 y.count)))))) }
-    ensures { let o = extend_in y vol.old map.now a n hint in (success result ≡ o.answer) × (vol.new ≡ o.volume) }
+pub fn grow_in(vol: &mut [u8], sys: &System<'_>, a: Allocation, n: u32, hint: u32) -> Updated
+    requires { (length vol.old ≡ sys.now.y.len) × ((in_heap sys.now.y.count hint ≡ true) × ((number_of (stream_of sys.now.y vol.old a) ≡ 0) × (n ≤ count (is_usable sys.now.y vol.old sys.now.map.now) 2 sys.now.y.count))) }
+    ensures { let o = extend_in sys.now.y vol.old sys.now.map.now a n hint in (success result ≡ o.answer) × (vol.new ≡ o.volume) }
 {
     if n == 0 {
         return Updated {
@@ -158,9 +158,9 @@ pub fn grow_in(vol: &mut [u8], map: &[u8], y: Layout, a: Allocation, n: u32, hin
         };
     }
     if a.count == 0 {
-        return write_alloc::allocate::new_stream(vol, map, y, n, hint).unwrap();
+        return write_alloc::allocate::new_stream(vol, sys, n, hint).unwrap();
     }
-    longer_stream(vol, map, y, a, n)
+    longer_stream(vol, sys, a, n)
 }
 
 // Adds n clusters to the end of a stream.
@@ -174,6 +174,6 @@ pub fn extend_clusters(
 ) -> Result<Updated, Cause>
     ensures { let o = extend_clusters g vol.old map.now a n hint in (answer_of a hint result ≡ o.answer) × (vol.new ≡ o.volume) }
 {
-    let y = boot::layout::admit(g, vol.len(), map)?;
-    extend_in(vol, map, y, a, n, hint)
+    let sys = boot::system::admit(g, vol.len(), map)?;
+    extend_in(vol, &sys, a, n, hint)
 }

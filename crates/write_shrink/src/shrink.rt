@@ -1,7 +1,6 @@
 // Shrink: a stream cut to its first clusters, the others freed.
 ghost use Rattle.std.specs.Prelude.{◌≡◌, true, ◌+◌, ◌-◌, ◌*◌, ◌≤◌, ◌<◌, length, take, drop};
 ghost use Rattle.tables.specs.Lists.{every, last_or, Distinct};
-ghost use Rattle.boot.specs.Internal.{Laid, Apart};
 ghost use Rattle.boot.specs.Layout.{in_heap};
 ghost use Rattle.metadata.specs.Fat.{fat_entry};
 ghost use Rattle.stream.specs.Stream.{number_of, stream_of, clusters_in, system_cause};
@@ -13,7 +12,7 @@ ghost use Rattle.write_shrink.specs.Shrink.{free_all, end_kept, shrink_in, shrin
 
 use boot::cause::Cause;
 use boot::geometry::Geometry;
-use boot::layout::Layout;
+use boot::system::System;
 use stream::allocation::Allocation;
 use write_alloc::answer::Updated;
 
@@ -27,9 +26,9 @@ pub struct Kept {
 }
 
 // The first n clusters of a stream.
-pub fn kept_part(vol: &[u8], y: Layout, run: bool, first: u32, n: u32) -> Kept
-    requires { Laid y × ((length vol.now ≡ y.len) × (every (in_heap y.count) (along (fat_entry y vol.now) run first n) ≡ true)) }
-    ensures { result ≡ kept_part (fat_entry y vol.now) run first n }
+pub fn kept_part(vol: &[u8], sys: &System<'_>, run: bool, first: u32, n: u32) -> Kept
+    requires { (length vol.now ≡ sys.now.y.len) × (every (in_heap sys.now.y.count) (along (fat_entry sys.now.y vol.now) run first n) ≡ true) }
+    ensures { result ≡ kept_part (fat_entry sys.now.y vol.now) run first n }
 {
     if n == 0 {
         return Kept {
@@ -39,47 +38,47 @@ pub fn kept_part(vol: &[u8], y: Layout, run: bool, first: u32, n: u32) -> Kept
         };
     }
     let mut last = first;
-    let mut next = stream::walk::next_cluster(vol, y, run, last);
+    let mut next = stream::walk::next_cluster(vol, sys, run, last);
     let mut rising = true;
     for _ in 1..n {
         rising &= next == last + 1;
         last = next;
-        next = stream::walk::next_cluster(vol, y, run, last);
+        next = stream::walk::next_cluster(vol, sys, run, last);
     }
     Kept { last, rising, next }
 }
 
 // Makes the last kept cluster of a chain the end.
-fn end_kept(vol: &mut [u8], y: Layout, a: Allocation, keep: u32, last: u32)
-    requires { Laid y × ((length vol.old ≡ y.len) × ((last ≡ last_or 0 (along (fat_entry y vol.old) a.no_fat_chain a.first keep)) × (every (in_heap y.count) (along (fat_entry y vol.old) a.no_fat_chain a.first keep) ≡ true))) }
-    ensures { vol.new ≡ end_kept y vol.old a (along (fat_entry y vol.old) a.no_fat_chain a.first keep) }
+fn end_kept(vol: &mut [u8], sys: &System<'_>, a: Allocation, keep: u32, last: u32)
+    requires { (length vol.old ≡ sys.now.y.len) × ((last ≡ last_or 0 (along (fat_entry sys.now.y vol.old) a.no_fat_chain a.first keep)) × (every (in_heap sys.now.y.count) (along (fat_entry sys.now.y vol.old) a.no_fat_chain a.first keep) ≡ true)) }
+    ensures { vol.new ≡ end_kept sys.now.y vol.old a (along (fat_entry sys.now.y vol.old) a.no_fat_chain a.first keep) }
 {
     if keep != 0 && !a.no_fat_chain {
-        metadata::fat::set_fat(vol, y, last, 0xFFFF_FFFF);
+        metadata::fat::set_fat(vol, sys, last, 0xFFFF_FFFF);
     }
 }
 
 // Frees n clusters of a stream: the next one is read before a cluster's FAT entry becomes 0.
-fn free_from(vol: &mut [u8], y: Layout, run: bool, first: u32, n: u32)
-    requires { Laid y × ((length vol.old ≡ y.len) × (Apart y × ((every (in_heap y.count) (along (fat_entry y vol.old) run first n) ≡ true) × Distinct (along (fat_entry y vol.old) run first n)))) }
-    ensures { vol.new ≡ free_all y vol.old (along (fat_entry y vol.old) run first n) }
+fn free_from(vol: &mut [u8], sys: &System<'_>, run: bool, first: u32, n: u32)
+    requires { (length vol.old ≡ sys.now.y.len) × ((every (in_heap sys.now.y.count) (along (fat_entry sys.now.y vol.old) run first n) ≡ true) × Distinct (along (fat_entry sys.now.y vol.old) run first n)) }
+    ensures { vol.new ≡ free_all sys.now.y vol.old (along (fat_entry sys.now.y vol.old) run first n) }
 {
     let mut k = first;
     for _ in 0..n {
-        let next = stream::walk::next_cluster(vol, y, run, k);
-        metadata::fat::set_fat(vol, y, k, 0);
-        metadata::bitmap::mark(vol, y, k, false);
+        let next = stream::walk::next_cluster(vol, sys, run, k);
+        metadata::fat::set_fat(vol, sys, k, 0);
+        metadata::bitmap::mark(vol, sys, k, false);
         k = next;
     }
 }
 
 // Cuts a stream that reads to its first clusters, which `part` tells of, and frees the others: what shrink does where nothing refuses.
-pub fn cut_in(vol: &mut [u8], y: Layout, a: Allocation, keep: u32, part: Kept)
-    requires { Laid y × ((length vol.old ≡ y.len) × (Apart y × ((number_of (stream_of y vol.old a) ≡ 0) × ((keep ≤ a.count) × (part ≡ kept_part (fat_entry y vol.old) a.no_fat_chain a.first keep))))) }
-    ensures { vol.new ≡ free_all y (end_kept y vol.old a (take keep (clusters_in y vol.old a))) (drop keep (clusters_in y vol.old a)) }
+pub fn cut_in(vol: &mut [u8], sys: &System<'_>, a: Allocation, keep: u32, part: Kept)
+    requires { (length vol.old ≡ sys.now.y.len) × ((number_of (stream_of sys.now.y vol.old a) ≡ 0) × ((keep ≤ a.count) × (part ≡ kept_part (fat_entry sys.now.y vol.old) a.no_fat_chain a.first keep))) }
+    ensures { vol.new ≡ free_all sys.now.y (end_kept sys.now.y vol.old a (take keep (clusters_in sys.now.y vol.old a))) (drop keep (clusters_in sys.now.y vol.old a)) }
 {
-    end_kept(vol, y, a, keep, part.last);
-    free_from(vol, y, a.no_fat_chain, part.next, a.count - keep);
+    end_kept(vol, sys, a, keep, part.last);
+    free_from(vol, sys, a.no_fat_chain, part.next, a.count - keep);
 }
 
 // The record of the kept clusters: empty, or a run where their numbers rise by one.
@@ -100,40 +99,38 @@ pub fn kept_record(first: u32, keep: u32, part: Kept) -> Allocation
 // Refuses to free n clusters of a stream by a system cluster among them, which a walk may have seen that there is not.
 fn freed_cause(
     vol: &[u8],
-    map: &[u8],
-    y: Layout,
+    sys: &System<'_>,
     run: bool,
     first: u32,
     n: u32,
     clear: bool,
 ) -> Result<(), Cause>
-    requires { Laid y × ((length vol.now ≡ y.len) × ((y.count ≤ 8 * length map.now) × ((every (in_heap y.count) (along (fat_entry y vol.now) run first n) ≡ true) × ((1 ≤ n) × (clear ≡ true → system_cause map.now (along (fat_entry y vol.now) run first n) ≡ 0))))) }
-    ensures { number result ≡ system_cause map.now (along (fat_entry y vol.now) run first n) }
+    requires { (length vol.now ≡ sys.now.y.len) × ((every (in_heap sys.now.y.count) (along (fat_entry sys.now.y vol.now) run first n) ≡ true) × ((1 ≤ n) × (clear ≡ true → system_cause sys.now.map.now (along (fat_entry sys.now.y vol.now) run first n) ≡ 0))) }
+    ensures { number result ≡ system_cause sys.now.map.now (along (fat_entry sys.now.y vol.now) run first n) }
 {
     if clear {
         Ok(())
     } else {
-        stream::system::system_cause(vol, map, y, run, first, n)
+        stream::system::system_cause(vol, sys, run, first, n)
     }
 }
 
 // Shrinks a record that is not refused: by the freed clusters, else the cut.
 fn shrink_read(
     vol: &mut [u8],
-    map: &[u8],
-    y: Layout,
+    sys: &System<'_>,
     a: Allocation,
     keep: u32,
     clear: bool,
     hint: u32,
 ) -> Result<Updated, Cause>
-    requires { Laid y × ((length vol.old ≡ y.len) × ((y.count ≤ 8 * length map.now) × (Apart y × ((keep < a.count) × ((in_heap y.count hint ≡ true) × ((number_of (stream_of y vol.old a) ≡ 0) × (clear ≡ true → system_cause map.now (clusters_in y vol.old a) ≡ 0))))))) }
-    ensures { let o = shrink_in y vol.old map.now a keep hint in (answer_of a hint result ≡ o.answer) × (vol.new ≡ o.volume) }
+    requires { (length vol.old ≡ sys.now.y.len) × ((keep < a.count) × ((in_heap sys.now.y.count hint ≡ true) × ((number_of (stream_of sys.now.y vol.old a) ≡ 0) × (clear ≡ true → system_cause sys.now.map.now (clusters_in sys.now.y vol.old a) ≡ 0)))) }
+    ensures { let o = shrink_in sys.now.y vol.old sys.now.map.now a keep hint in (answer_of a hint result ≡ o.answer) × (vol.new ≡ o.volume) }
 {
     let run = a.no_fat_chain;
-    let part = kept_part(vol, y, run, a.first, keep);
-    freed_cause(vol, map, y, run, part.next, a.count - keep, clear)?;
-    cut_in(vol, y, a, keep, part);
+    let part = kept_part(vol, sys, run, a.first, keep);
+    freed_cause(vol, sys, run, part.next, a.count - keep, clear)?;
+    cut_in(vol, sys, a, keep, part);
     let allocation = kept_record(a.first, keep, part);
     Ok(Updated { allocation, hint })
 }
@@ -141,16 +138,15 @@ fn shrink_read(
 // The same once the limits are known to hold.
 fn shrink_in(
     vol: &mut [u8],
-    map: &[u8],
-    y: Layout,
+    sys: &System<'_>,
     a: Allocation,
     keep: u32,
     hint: u32,
 ) -> Result<Updated, Cause>
-    requires { Laid y × ((length vol.old ≡ y.len) × ((y.count ≤ 8 * length map.now) × Apart y)) }
-    ensures { let o = shrink_in y vol.old map.now a keep hint in (answer_of a hint result ≡ o.answer) × (vol.new ≡ o.volume) }
+    requires { length vol.old ≡ sys.now.y.len }
+    ensures { let o = shrink_in sys.now.y vol.old sys.now.map.now a keep hint in (answer_of a hint result ≡ o.answer) × (vol.new ≡ o.volume) }
 {
-    if !boot::layout::in_heap(y.count, hint) {
+    if !boot::layout::in_heap(sys.y.count, hint) {
         return Err(Cause::OutsideHeap);
     }
     if a.count <= keep {
@@ -159,8 +155,8 @@ fn shrink_in(
             hint,
         });
     }
-    let clear = stream::walk::stream_test(vol, map, y, a)?;
-    shrink_read(vol, map, y, a, keep, clear, hint)
+    let clear = stream::walk::stream_test(vol, sys, a)?;
+    shrink_read(vol, sys, a, keep, clear, hint)
 }
 
 // Shrinks a record to its first `keep` clusters (Rust: `shrink_clusters`).
@@ -174,6 +170,6 @@ pub fn shrink_clusters(
 ) -> Result<Updated, Cause>
     ensures { let o = shrink_clusters g vol.old map.now a keep hint in (answer_of a hint result ≡ o.answer) × (vol.new ≡ o.volume) }
 {
-    let y = boot::layout::admit(g, vol.len(), map)?;
-    shrink_in(vol, map, y, a, keep, hint)
+    let sys = boot::system::admit(g, vol.len(), map)?;
+    shrink_in(vol, &sys, a, keep, hint)
 }

@@ -27,12 +27,12 @@ pub returns-then-next-end : goal.returns-then-next-end
 returns-then-next-end c =
     let a = c.args in
     let l = c.loop in
-    let z = next-none (is_usable a.y a.vol.now a.map.now) l.k (a.y.count + 2) _ (omega arith) c.next_usable-next.ensures.0 (omega arith) in
-    sym (lt-leb a.n (count (is_usable a.y a.vol.now a.map.now) 2 a.y.count) (omega arith))
+    let z = next-none (is_usable a.sys.now.y a.vol.now a.sys.now.map.now) l.k (a.sys.now.y.count + 2) _ (omega arith) c.next_usable-next.ensures.0 (omega arith) in
+    sym (lt-leb a.n (count (is_usable a.sys.now.y a.vol.now a.sys.now.map.now) 2 a.sys.now.y.count) (omega arith))
 
 pub loop-preserved : goal.loop-preserved
 loop-preserved c =
     let a = c.args in
     let l = c.loop in
-    let e = next_one (is_usable a.y a.vol.now a.map.now) l.k (a.y.count + 2) _ (omega arith) c.next_usable-next.ensures.0 (omega arith) in
+    let e = next_one (is_usable a.sys.now.y a.vol.now a.sys.now.map.now) l.k (a.sys.now.y.count + 2) _ (omega arith) c.next_usable-next.ensures.0 (omega arith) in
     (omega arith, (omega arith, omega arith))

@@ -9,4 +9,4 @@ returns-then-after-end c = sym (first_after _ _ _ (omega arith) (omega arith) _ 
 pub returns : goal.returns
 returns c =
     let p = c.requires in
-    sym (first_before _ _ _ (omega arith) (omega arith) _ _ c.next_usable-after.ensures.0 (omega arith) c.next_usable.ensures.0 p.1.1.1.1.1)
+    sym (first_before _ _ _ (omega arith) (omega arith) _ _ c.next_usable-after.ensures.0 (omega arith) c.next_usable.ensures.0 p.1.1.1)

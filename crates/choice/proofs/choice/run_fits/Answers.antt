@@ -8,15 +8,15 @@ use Rattle.choice.proofs.ChoiceLaws.{fits_outside, fits_past, fits_in}
 use Rattle.choice.proofs.choice.run_fits.Goals.{then-in_heap, else-in_heap}
 use Rattle.choice.proofs.choice.run_fits.Goals as goal
 
-pub overflow_sub-y : goal.overflow_sub-y
-overflow_sub-y c =
-    let i = in_heap_lem c.args.y.count c.args.near (cc) in
+pub overflow_sub-sys : goal.overflow_sub-sys
+overflow_sub-sys c =
+    let i = in_heap_lem c.args.sys.now.y.count c.args.near (cc) in
     omega arith
 
 pub run_is_free-requires : goal.run_is_free-requires
 run_is_free-requires c =
     elim c.if-in_heap.branch [
-      | then-in_heap w ↦ (let i = in_heap_lem c.args.y.count c.args.near (cc) in let h = leb-true c.args.n w.from.result (cc) in search rules)
+      | then-in_heap w ↦ (let i = in_heap_lem c.args.sys.now.y.count c.args.near (cc) in let h = leb-true c.args.n w.from.result (cc) in search rules)
       | else-in_heap w ↦ absurd (false≢true (cc))
     ]
 
@@ -24,7 +24,7 @@ pub returns-then-n-from : goal.returns-then-n-from
 returns-then-n-from c =
     elim c.if-in_heap.branch [
       | then-in_heap w ↦
-          let i = in_heap_lem c.args.y.count c.args.near (cc) in
+          let i = in_heap_lem c.args.sys.now.y.count c.args.near (cc) in
           let h = leb-true c.args.n w.from.result (cc) in
           c.run_is_free.ensures ∙ sym (fits_in _ _ _ _ (cc) (omega arith))
       | else-in_heap w ↦ absurd (false≢true (cc))
@@ -34,7 +34,7 @@ pub returns-else-n-from : goal.returns-else-n-from
 returns-else-n-from c =
     elim c.if-in_heap.branch [
       | then-in_heap w ↦
-          let i = in_heap_lem c.args.y.count c.args.near (cc) in
+          let i = in_heap_lem c.args.sys.now.y.count c.args.near (cc) in
           let h = leb-false c.args.n w.from.result (cc) in
           c.if-n-from.false ∙ sym (fits_past _ _ _ _ (cc) (omega arith))
       | else-in_heap w ↦ c.if-n-from.false ∙ sym (fits_outside _ _ _ _ (cc))

@@ -21,14 +21,14 @@ returns-then-last-base c =
     let a = c.args in
     let l = c.loop-base in
     let t = c.usable_tail-last in
-    sym (window_hit (is_usable a.y a.vol.now a.map.now) a.end a.n l.base t.result t.ensures.0 (omega arith) (omega arith)) ∙ l.invariant.1.1
+    sym (window_hit (is_usable a.sys.now.y a.vol.now a.sys.now.map.now) a.end a.n l.base t.result t.ensures.0 (omega arith) (omega arith)) ∙ l.invariant.1.1
 
 pub loop-base-preserved-then-next-base : goal.loop-base-preserved-then-next-base
 loop-base-preserved-then-next-base c =
     let a = c.args in
     let l = c.loop-base in
     let t = c.usable_tail-last in
-    (omega arith, (omega arith, window_skip (is_usable a.y a.vol.now a.map.now) (is_usable a.y a.vol.now a.map.now) (λ k e. e) a.end a.n l.base t.result t.ensures.0 (λ z. omega arith) ∙ l.invariant.1.1))
+    (omega arith, (omega arith, window_skip (is_usable a.sys.now.y a.vol.now a.sys.now.map.now) (is_usable a.sys.now.y a.vol.now a.sys.now.map.now) (λ k e. e) a.end a.n l.base t.result t.ensures.0 (λ z. omega arith) ∙ l.invariant.1.1))
 
 pub loop-base-preserved-then-next-base-2 : goal.loop-base-preserved-then-next-base-2
 loop-base-preserved-then-next-base-2 c =
@@ -38,8 +38,8 @@ loop-base-preserved-then-next-base-2 c =
       omega arith,
       (
         omega arith,
-        window_beyond (is_usable a.y a.vol.now a.map.now) (λ k. not (marked a.y a.vol.now k)) (weaker a.y a.vol.now a.map.now) a.end a.n l.base t.result t.ensures.0 (λ z. omega arith) c.first_unmarked-base.result (omega arith) (omega arith)
-            (λ j i b. before_unusable a.y a.vol.now a.map.now t.result (a.end - t.result) j i (omega arith))
+        window_beyond (is_usable a.sys.now.y a.vol.now a.sys.now.map.now) (λ k. not (marked a.sys.now.y a.vol.now k)) (weaker a.sys.now.y a.vol.now a.sys.now.map.now) a.end a.n l.base t.result t.ensures.0 (λ z. omega arith) c.first_unmarked-base.result (omega arith) (omega arith)
+            (λ j i b. before_unusable a.sys.now.y a.vol.now a.sys.now.map.now t.result (a.end - t.result) j i (omega arith))
             ∙ l.invariant.1.1,
       ),
     )
@@ -49,7 +49,7 @@ loop-base-preserved c =
     let a = c.args in
     let l = c.loop-base in
     let t = c.unmarked_tail-next in
-    (omega arith, (omega arith, window_skip (is_usable a.y a.vol.now a.map.now) (λ k. not (marked a.y a.vol.now k)) (weaker a.y a.vol.now a.map.now) a.end a.n l.base t.result t.ensures.0 (λ z. omega arith) ∙ l.invariant.1.1))
+    (omega arith, (omega arith, window_skip (is_usable a.sys.now.y a.vol.now a.sys.now.map.now) (λ k. not (marked a.sys.now.y a.vol.now k)) (weaker a.sys.now.y a.vol.now a.sys.now.map.now) a.end a.n l.base t.result t.ensures.0 (λ z. omega arith) ∙ l.invariant.1.1))
 
 pub returns : goal.returns
 returns c = sym (run_none _ _ _ _ (omega arith)) ∙ c.loop-base.invariant.1.1

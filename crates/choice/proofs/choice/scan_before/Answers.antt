@@ -10,6 +10,6 @@ pub returns : goal.returns
 returns c =
     let a = c.args in
     let p = c.requires in
-    let u = is_usable a.y a.vol.now a.map.now in
+    let u = is_usable a.sys.now.y a.vol.now a.sys.now.map.now in
     c.scan.ensures ∙ ap (λ (e : ℕ). run_from u e a.n 2) (omega arith)
-    ∙ run_before u (a.y.count + 2) a.n a.start p.1.1.1.0 p.1.1.1.1.1.0 p.1.1.1.1.1.1
+    ∙ run_before u (a.sys.now.y.count + 2) a.n a.start p.1.0 p.1.1.1.0 p.1.1.1.1

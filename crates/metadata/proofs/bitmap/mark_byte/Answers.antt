@@ -1,3 +1,4 @@
+use Rattle.metadata.proofs.Frame.{fits}
 use Prim.Native.Nat.{◌+◌, ◌-◌, ◌/◌}
 use mathlib.Core.Path.{◌∙◌}
 use native.Mathlib.Omega.{arith}
@@ -10,5 +11,5 @@ unfolding mark_byte
 returns c =
     let a = c.args in
     let p = c.requires in
-    let b = (c.slice_known-1.given (a.y.bitmap + (a.k - 2) / 8)).fits in
-    (cc) ∙ row_byte a.y a.vol.now a.k (record { laid = p.0; apart = p.1.1.1.1.1; long = p.1.0 }) (omega arith) (omega arith) (omega arith) b
+    let b = (c.slice_known-1.given (a.sys.now.y.bitmap + (a.k - 2) / 8)).fits in
+    (cc) ∙ row_byte a.sys.now.y a.vol.now a.k (fits a.sys.now _ p.0) (omega arith) (omega arith) (omega arith) b

@@ -6,4 +6,4 @@ use Rattle.metadata.proofs.bitmap.none_marked.Goals as goal
 pub returns : goal.returns
 returns c =
     let a = c.args in
-    c.none_set.ensures ∙ rw c.bitmap.ensures.0 (marks_part a.y a.vol.now _ a.first a.n (omega arith) (omega arith))
+    c.none_set.ensures ∙ rw c.bitmap.ensures.0 (marks_part a.sys.now.y a.vol.now _ a.first a.n (omega arith) (omega arith))

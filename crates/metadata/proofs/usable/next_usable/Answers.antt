@@ -26,9 +26,6 @@ none_more y d m k at f e j a b =
       | no q ↦ f j a (omega arith)
     ]
 
-pub loop-at-init : goal.loop-at-init
-loop-at-init c = (omega arith, (omega arith, λ j a b. absurd (omega arith)))
-
 pub returns-then-free-end : goal.returns-then-free-end
 returns-then-free-end c =
     let l = c.loop-at in

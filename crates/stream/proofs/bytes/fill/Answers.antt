@@ -6,7 +6,7 @@ use lib.ListN.{length, replicate, length-replicate}
 use Rattle.boot.proofs.Apart.{in_heap_lem}
 use Rattle.metadata.specs.Fat.{fat_entry}
 use Rattle.metadata.specs.Cluster.{put_bytes}
-use Rattle.metadata.proofs.Frame.{Fits}
+use Rattle.metadata.proofs.Frame.{fits}
 use Rattle.stream.specs.declared.allocation.Allocation.{Allocation}
 use Rattle.stream.specs.declared.bytes.ByteWalk.{ByteWalk}
 use Rattle.stream.specs.Internal.{byte_walk, piece_length}
@@ -20,32 +20,32 @@ loop-piece-init c =
     let a = c.args in
     let e = c.new-walk.ensures in
     let q = length-replicate {A = ℕ} a.n 0 in
-    let s = sought _ _ _ _ _ a.at (length (replicate a.n 0)) p.0 p.1.0 p.1.1.0 (omega (arith, p.1.1.1.0, q)) in
+    let s = sought _ _ _ _ _ a.at (length (replicate a.n 0)) a.sys.now.laid p.0 p.1.0 (omega (arith, p.1.1.0, q)) in
     record {
-      storing = storing_start a.y a.vol.now a.a a.at (replicate a.n 0) _ s p.1.0 (e ∙ ap (byte_walk a.y a.vol.now a.a a.at) (sym q));
+      storing = storing_start a.sys.now.y a.vol.now a.a a.at (replicate a.n 0) _ s p.0 (e ∙ ap (byte_walk a.sys.now.y a.vol.now a.a a.at) (sym q));
       same_run = ap (λ (x : ByteWalk). x.run) e;
-      reaching = λ r. reaching_start a.y a.vol.now a.a a.at a.n _ _ (omega (arith, p.0.size_low)) p.1.1.1.1.1.1 e;
+      reaching = λ r. reaching_start a.sys.now.y a.vol.now a.a a.at a.n _ _ (omega (arith, a.sys.now.laid.size_low)) p.1.1.1.1 e;
     }
 
 pub next-requires : goal.next-requires
 next-requires c =
     let p = c.requires in
     let i = c.loop-piece.invariant.storing in
-    (p.0, (i.long, λ h. (i.stands.low, (in_heap_lem _ _ (in_first _ _ p.0 i.long _ i.stands h)).1)))
+    (i.long, λ h. (i.stands.low, (in_heap_lem _ _ (in_first _ _ c.args.sys.now.laid i.long _ i.stands h)).1))
 
 pub put_zeros-requires : goal.put_zeros-requires
 put_zeros-requires c =
     let p = c.requires in
     let i = c.loop-piece.invariant.storing in
     let e = c.in-Some.ensures in
-    let h = in_heap_lem _ _ (in_first _ _ p.0 i.long _ i.stands e.0) in
-    rw e.1.0 (p.0, (i.long, (h.0, (h.1, omega (arith, piece_in _ _ p.0 i.long _ i.stands e.0)))))
+    let h = in_heap_lem _ _ (in_first _ _ c.args.sys.now.laid i.long _ i.stands e.0) in
+    rw e.1.0 (i.long, (h.0, (h.1, omega (arith, piece_in _ _ c.args.sys.now.laid i.long _ i.stands e.0))))
 
 pub loop-piece-smaller : goal.loop-piece-smaller
 loop-piece-smaller c =
     let l = c.loop-piece in
     let e = c.in-Some.ensures in
-    rw e.1.1 (omega (arith, some_piece c.args.y l.vol l.walk l.invariant.storing.stands e.0))
+    rw e.1.1 (omega (arith, some_piece c.args.sys.now.y l.vol l.walk l.invariant.storing.stands e.0))
 
 pub loop-piece-preserved : goal.loop-piece-preserved
 loop-piece-preserved c =
@@ -55,17 +55,17 @@ loop-piece-preserved c =
     let i = l.invariant in
     let e = c.in-Some.ensures in
     let z = c.put_zeros in
-    let w : Fits a.y l.vol = record { laid = p.0; apart = p.1.1.1.1.0; long = i.storing.long } in
-    let n = piece_length a.y l.walk in
-    let stored : z.new.vol ≡ put_bytes a.y l.vol l.walk.cluster l.walk.at (replicate n 0) = rw e.1.0 at z.ensures in
+    let w = fits a.sys.now l.vol i.storing.long in
+    let n = piece_length a.sys.now.y l.walk in
+    let stored : z.new.vol ≡ put_bytes a.sys.now.y l.vol l.walk.cluster l.walk.at (replicate n 0) = rw e.1.0 at z.ensures in
     let q = length-replicate {A = ℕ} a.n 0 in
-    let part = zeros_part n l.walk.from a.n (omega (arith, length-piece a.y l.walk, i.storing.whole)) in
+    let part = zeros_part n l.walk.from a.n (omega (arith, length-piece a.sys.now.y l.walk, i.storing.whole)) in
     record {
-      storing = storing_turn a.y l.vol w l.walk (replicate a.n 0) _ i.storing e.0 z.new.vol c.next.new.self z.auto.vol
-          (stored ∙ ap (put_bytes a.y l.vol l.walk.cluster l.walk.at) (sym part)) e.1.1;
+      storing = storing_turn a.sys.now.y l.vol w l.walk (replicate a.n 0) _ i.storing e.0 z.new.vol c.next.new.self z.auto.vol
+          (stored ∙ ap (put_bytes a.sys.now.y l.vol l.walk.cluster l.walk.at) (sym part)) e.1.1;
       same_run = ap (λ (x : ByteWalk). x.run) e.1.1 ∙ i.same_run;
       reaching = λ r. rw e.1.0
-          (reaching_turn a.y l.vol w l.walk i.storing.stands l.last _ (i.same_run ∙ r) (i.reaching r) e.0 z.new.vol (replicate n 0) c.next.new.self
+          (reaching_turn a.sys.now.y l.vol w l.walk i.storing.stands l.last _ (i.same_run ∙ r) (i.reaching r) e.0 z.new.vol (replicate n 0) c.next.new.self
           (length-replicate {A = ℕ} n 0) stored e.1.1);
     }
 
@@ -77,14 +77,14 @@ pub overflow_add-last : goal.overflow_add-last
 overflow_add-last c =
     let p = c.requires in
     let a = c.args in
-    let t = last_step a.a a.y.size a.at a.n (omega (arith, p.0.size_low)) p.1.1.1.1.1.1 p.1.1.1.0 in
-    let b = run_end _ _ _ _ _ c.if-a.true p.1.1.0 (omega arith) in
-    omega (arith, p.0.count_high)
+    let t = last_step a.a a.sys.now.y.size a.at a.n (omega (arith, a.sys.now.laid.size_low)) p.1.1.1.1 p.1.1.0 in
+    let b = run_end _ _ _ _ _ c.if-a.true p.1.0 (omega arith) in
+    omega (arith, a.sys.now.laid.count_high)
 
 pub returns-then-a : goal.returns-then-a
 returns-then-a c =
     let i = c.loop-piece.invariant.storing in
-    let e = reach_run (fat_entry c.args.y c.args.vol.now) c.args.a.no_fat_chain c.args.a.first ((c.args.at + c.args.n - 1) / c.args.y.size) c.if-a.true in
+    let e = reach_run (fat_entry c.args.sys.now.y c.args.vol.now) c.args.a.no_fat_chain c.args.a.first ((c.args.at + c.args.n - 1) / c.args.sys.now.y.size) c.if-a.true in
     (storing_end _ _ _ _ _ i c.in_default.ensures.0, cc)
 
 pub returns-else-a : goal.returns-else-a

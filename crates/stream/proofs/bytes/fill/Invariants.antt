@@ -11,9 +11,9 @@ use Rattle.stream.proofs.bytes.fill.Given as goal
 abbrev pub invariant-loop-piece : goal.invariant-loop-piece
 invariant-loop-piece l =
     record {
-      storing : Storing l.y l.vol l.walk (replicate l.n 0) (store_at l.y l.initial.vol (along (fat_entry l.y l.initial.vol) l.a.no_fat_chain l.a.first l.a.count) l.at (replicate l.n 0));
+      storing : Storing l.sys.y l.vol l.walk (replicate l.n 0) (store_at l.sys.y l.initial.vol (along (fat_entry l.sys.y l.initial.vol) l.a.no_fat_chain l.a.first l.a.count) l.at (replicate l.n 0));
       same_run : l.walk.run ≡ l.a.no_fat_chain;
-      reaching : l.a.no_fat_chain ≡ false → Reaching l.y l.vol l.walk l.last (reached (fat_entry l.y l.initial.vol) l.a.no_fat_chain l.a.first ((l.at + l.n - 1) / l.y.size));
+      reaching : l.a.no_fat_chain ≡ false → Reaching l.sys.y l.vol l.walk l.last (reached (fat_entry l.sys.y l.initial.vol) l.a.no_fat_chain l.a.first ((l.at + l.n - 1) / l.sys.y.size));
     }
 
 abbrev pub decreases-loop-piece : goal.decreases-loop-piece

@@ -15,7 +15,7 @@ overflow_add-result c =
     let p = c.requires in
     elim (dec_le a.steps 0) [
       | yes h ↦ omega arith
-      | no h ↦ let b = run_end _ _ _ _ _ c.if-run.true p.1.1 (omega arith) in search rules
+      | no h ↦ let b = run_end _ _ _ _ _ c.if-run.true p.1 (omega arith) in search rules
     ]
 
 pub returns-then-run : goal.returns-then-run
@@ -30,7 +30,7 @@ pub loop-preserved : goal.loop-preserved
 loop-preserved c =
     let a = c.args in
     let l = c.loop in
-    let e = c.fat_entry-k.ensures ∙ sym (after-chain (fat_entry a.y a.vol.now) a.run l.k c.if-run.false) in
+    let e = c.fat_entry-k.ensures ∙ sym (after-chain (fat_entry a.sys.now.y a.vol.now) a.run l.k c.if-run.false) in
     let z : a.steps - (l.counter + 1) ≡ a.steps - l.counter - 1 = omega arith in
     rw (e, z) (along_rest _ _ _ _ _ (omega arith) l.invariant.0, sym (reach_step _ _ _ _ (omega arith)) ∙ l.invariant.1)
 

@@ -4,13 +4,14 @@ use Rattle.boot.proofs.Admission.{refuses, admits}
 use Rattle.stream.proofs.ListingLaws.{listing_not-admitted, listing_is}
 use Rattle.stream.proofs.list.clusters.Goals as goal
 
-pub returns-in_err-y : goal.returns-in_err-y
-returns-in_err-y c =
+pub returns-in_err-sys : goal.returns-in_err-sys
+returns-in_err-sys c =
     let p = err_from_is_err_and c.from_residual.result c.from_residual.ensures.1 in
-    rw (p.1, p.2) (listing_not-admitted _ _ _ _ _ _ (refuses _ _ _ _ c.in_err-y.ensures) (cause-not0 _))
+    rw (p.1, p.2) (listing_not-admitted _ _ _ _ _ _ (refuses _ _ _ _ c.in_err-sys.ensures) (cause-not0 _))
 
 pub list_clusters-requires : goal.list_clusters-requires
-list_clusters-requires c = let a = admits _ _ _ _ c.in_ok-y.ensures in (a.laid, (a.long, a.wide))
+list_clusters-requires c = let a = admits _ _ _ _ _ c.in_ok-sys.ensures in
+    a.long
 
 pub returns : goal.returns
-returns c = listing_is _ _ _ _ _ _ _ _ (admits _ _ _ _ c.in_ok-y.ensures) (cc) (cc)
+returns c = rw (← c.in_ok-sys.ensures.1.0) (listing_is _ _ _ _ _ _ _ _ (admits _ _ _ _ _ c.in_ok-sys.ensures) (cc) (cc))

@@ -16,10 +16,10 @@ returns-in_err-stream_cause c =
 pub write_clusters-requires : goal.write_clusters-requires
 write_clusters-requires c =
     let p = c.requires in
-    (p.0, (p.1.0, (omega arith, along_heap _ _ _ (sym c.in_ok-stream_cause.ensures))))
+    (p, (omega arith, along_heap _ _ _ (sym c.in_ok-stream_cause.ensures)))
 
 pub returns : goal.returns
 returns c =
     let a = c.args in
-    let d = listed_done a.y a.vol.now a.a a.list.now 0 (omega arith) c.in_ok-stream_cause.ensures refl in
+    let d = listed_done a.sys.now.y a.vol.now a.a a.list.now 0 (omega arith) c.in_ok-stream_cause.ensures refl in
     (d.0, (cc) ∙ d.1)

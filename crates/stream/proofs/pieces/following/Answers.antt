@@ -25,9 +25,9 @@ pub loop-done-preserved : goal.loop-done-preserved
 loop-done-preserved c =
     let l = c.loop-done in
     let a = c.args in
-    let fat = fat_entry a.y a.vol.now in
+    let fat = fat_entry a.sys.now.y a.vol.now in
     let e : four_follow fat (a.k + l.done) ≡ true = sym c.four_follow.ensures ∙ c.if-four_follow.true in
-    (omega arith, (heap_four fat a.k a.n l.done (omega arith) e (in_heap a.y.count) l.invariant.1.0, omega (arith, rest_four fat a.k a.n l.done (omega arith) e, l.invariant.1.1)))
+    (omega arith, (heap_four fat a.k a.n l.done (omega arith) e (in_heap a.sys.now.y.count) l.invariant.1.0, omega (arith, rest_four fat a.k a.n l.done (omega arith) e, l.invariant.1.1)))
 
 pub overflow_add-k-2 : goal.overflow_add-k-2
 overflow_add-k-2 c =

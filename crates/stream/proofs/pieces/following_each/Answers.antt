@@ -28,19 +28,19 @@ pub returns-then-fat_entry-last : goal.returns-then-fat_entry-last
 returns-then-fat_entry-last c =
     let l = c.loop-i in
     let a = c.args in
-    let f = following_other (fat_entry a.y a.vol.now) (a.k + l.i) (a.n - l.i) (omega arith) (λ z. omega (arith, z, c.fat_entry.ensures)) in
+    let f = following_other (fat_entry a.sys.now.y a.vol.now) (a.k + l.i) (a.n - l.i) (omega arith) (λ z. omega (arith, z, c.fat_entry.ensures)) in
     (omega (arith, f, l.invariant.1), omega arith)
 
 pub loop-i-preserved : goal.loop-i-preserved
 loop-i-preserved c =
     let l = c.loop-i in
     let a = c.args in
-    let fat = fat_entry a.y a.vol.now in
+    let fat = fat_entry a.sys.now.y a.vol.now in
     let e : fat (a.k + l.i) ≡ a.k + l.i + 1 = sym c.fat_entry.ensures ∙ (omega arith) in
-    (heap_rest fat a.k a.n (in_heap a.y.count) l.i (omega arith) e l.invariant.0, omega (arith, rest_next fat a.k a.n l.i (omega arith) e, l.invariant.1))
+    (heap_rest fat a.k a.n (in_heap a.sys.now.y.count) l.i (omega arith) e l.invariant.0, omega (arith, rest_next fat a.k a.n l.i (omega arith) e, l.invariant.1))
 
 pub returns : goal.returns
 returns c =
     let l = c.loop-i in
     let a = c.args in
-    (omega (arith, following-none (fat_entry a.y a.vol.now) (a.k + l.i) (a.n - l.i) (omega arith), l.invariant.1), omega arith)
+    (omega (arith, following-none (fat_entry a.sys.now.y a.vol.now) (a.k + l.i) (a.n - l.i) (omega arith), l.invariant.1), omega arith)

@@ -14,6 +14,6 @@ returns-then-run c = leading-run _ _ _ _ (cc)
 pub returns : goal.returns
 returns c =
     let a = c.args in
-    let fat = fat_entry a.y a.vol.now in
+    let fat = fat_entry a.sys.now.y a.vol.now in
     let r : a.run ≡ false = c.if-run.false in
     ap (λ (i : ℕ). 1 + i) c.following.ensures.0 ∙ leading-chain fat a.k a.n (omega arith) ∙ ap (λ (b : Bool). leading (along fat b a.k a.n)) (sym r)

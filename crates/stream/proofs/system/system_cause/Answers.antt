@@ -15,17 +15,17 @@ use Rattle.stream.proofs.system.system_cause.Goals as goal
 pub run_system_cause-requires : goal.run_system_cause-requires
 run_system_cause-requires c =
     let p = c.requires in
-    let h = in_heap_lem _ _ (along_head _ _ _ _ _ (omega arith) p.1.1.1.0) in
-    let e = run_end _ _ _ _ _ c.if-run.true p.1.1.1.0 (omega arith) in
-    let l = p.0.count_high in
+    let h = in_heap_lem _ _ (along_head _ _ _ _ _ (omega arith) p.1.0) in
+    let e = run_end _ _ _ _ _ c.if-run.true p.1.0 (omega arith) in
+    let l = c.args.sys.now.laid.count_high in
     (omega arith, (omega arith, omega arith))
 
 pub returns-then-run : goal.returns-then-run
 returns-then-run c =
     let a = c.args in
-    let f = fat_entry a.y a.vol.now in
+    let f = fat_entry a.sys.now.y a.vol.now in
     c.run_system_cause.ensures
-    ∙ ap (system_cause a.map.now) (consec-along f a.first a.n ∙ ap (λ (b : Bool). along f b a.first a.n) (sym c.if-run.true))
+    ∙ ap (system_cause a.sys.now.map.now) (consec-along f a.first a.n ∙ ap (λ (b : Bool). along f b a.first a.n) (sym c.if-run.true))
 
 pub in_map-requires : goal.in_map-requires
 in_map-requires c =
@@ -44,7 +44,7 @@ pub loop-preserved : goal.loop-preserved
 loop-preserved c =
     let a = c.args in
     let l = c.loop in
-    let e = c.fat_entry-k.ensures ∙ sym (after-chain (fat_entry a.y a.vol.now) a.run l.k c.if-run.false) in
+    let e = c.fat_entry-k.ensures ∙ sym (after-chain (fat_entry a.sys.now.y a.vol.now) a.run l.k c.if-run.false) in
     let z : a.n - (l.counter + 1) ≡ a.n - l.counter - 1 = omega arith in
     rw (e, z) (along_rest _ _ _ _ _ (omega arith) l.invariant.0, sym (system-step _ _ _ _ _ (omega arith) (cc)) ∙ l.invariant.1)
 

@@ -11,7 +11,7 @@ use Rattle.stream.proofs.walk.fat_chain.Goals as goal
 
 pub loop-before-init : goal.loop-before-init
 loop-before-init c =
-    let z : c.args.y.count - 0 ≡ c.args.y.count = omega arith in
+    let z : c.args.sys.now.y.count - 0 ≡ c.args.sys.now.y.count = omega arith in
     (omega arith, (omega arith, rw z (walk_start _ _ _ _ _ _ (heap_in _ _ (omega arith) (omega arith)))))
 
 pub returns-then-v : goal.returns-then-v
@@ -30,8 +30,8 @@ returns-then-not-in_heap c = sym (walk_wrong _ _ _ _ _ _ _ _ _ _ _ (omega arith)
 pub loop-before-preserved : goal.loop-before-preserved
 loop-before-preserved c =
     let l = c.loop-before in
-    let h = in_heap_lem c.args.y.count c.fat_entry-v.result (cc) in
-    let z : c.args.y.count - (l.before + 1) ≡ c.args.y.count - l.before - 1 = omega arith in
+    let h = in_heap_lem c.args.sys.now.y.count c.fat_entry-v.result (cc) in
+    let z : c.args.sys.now.y.count - (l.before + 1) ≡ c.args.sys.now.y.count - l.before - 1 = omega arith in
     let s : c.if-before-goal.seen ≡ cond (eqb l.before c.args.goal) l.k l.seen =
     elim c.if-before-goal.branch [
       | then-before-goal w ↦ grind (arith, nat_tests)

@@ -12,7 +12,7 @@ returns-then-not-in_heap c = (sym (chain_out_number _ _ _ _ _ _ (cc)), tt)
 
 pub fat_chain-requires : goal.fat_chain-requires
 fat_chain-requires c =
-    let h = in_heap_lem c.args.y.count c.args.a.first (cc) in
+    let h = in_heap_lem c.args.sys.now.y.count c.args.a.first (cc) in
     search rules
 
 pub returns-in_err-w : goal.returns-in_err-w

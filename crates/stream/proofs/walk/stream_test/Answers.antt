@@ -28,5 +28,5 @@ unfolding stream_of
 returns c =
     let r = c.read_chain.ensures in
     let a = c.args in
-    let clear = sym (clear_chain a.y a.vol.now a.map.now a.a (λ z. omega arith) (cc)) in
-    (r.0 ∙ sym (ap number_of (stream_chain _ _ _ _ (λ z. omega arith) (cc))), IfOk-weaker {X = Bool} {Y = Cause} c.read_chain.result (λ x. x ≡ chain_clear a.y a.vol.now a.map.now a.a.first) (λ x. x ≡ stream_clear a.y a.vol.now a.map.now a.a) (λ x e. e ∙ clear) r.1)
+    let clear = sym (clear_chain a.sys.now.y a.vol.now a.sys.now.map.now a.a (λ z. omega arith) (cc)) in
+    (r.0 ∙ sym (ap number_of (stream_chain _ _ _ _ (λ z. omega arith) (cc))), IfOk-weaker {X = Bool} {Y = Cause} c.read_chain.result (λ x. x ≡ chain_clear a.sys.now.y a.vol.now a.sys.now.map.now a.a.first) (λ x. x ≡ stream_clear a.sys.now.y a.vol.now a.sys.now.map.now a.a) (λ x e. e ∙ clear) r.1)

@@ -16,16 +16,16 @@ returns-then-n-eq0 c = shown_as (in_none _ _ _ _ _ _ _ (cc) (omega arith)) (rw c
 pub new_stream-requires : goal.new_stream-requires
 new_stream-requires c =
     let p = c.requires in
-    let h = in_heap_lem c.args.y.count c.unwrap_or-start.result (cc) in
-    (p.0, (p.1.0, (p.1.1.0, (h.0, (h.1, (p.1.1.1, omega arith))))))
+    let h = in_heap_lem c.args.sys.now.y.count c.unwrap_or-start.result (cc) in
+    (p, (h.0, (h.1, omega arith)))
 
 pub returns-then-in_heap : goal.returns-then-in_heap
 returns-then-in_heap c =
     let a = c.args in
     let start = c.unwrap_or-start.ensures in
-    let near = near_is a.y.count a.near a.hint (cc) ∙ ap (in_heap a.y.count) (sym start) ∙ sym c.in_heap-2.ensures ∙ c.if-in_heap.true in
+    let near = near_is a.sys.now.y.count a.near a.hint (cc) ∙ ap (in_heap a.sys.now.y.count) (sym start) ∙ sym c.in_heap-2.ensures ∙ c.if-in_heap.true in
     shown_as
-    (in_new _ _ _ _ _ _ _ (cc) (λ z. omega arith) near ∙ ap (λ (s : ℕ). new_stream a.y a.vol.now a.map.now a.n s a.hint) (start_is a.near a.hint ∙ sym start))
+    (in_new _ _ _ _ _ _ _ (cc) (λ z. omega arith) near ∙ ap (λ (s : ℕ). new_stream a.sys.now.y a.vol.now a.sys.now.map.now a.n s a.hint) (start_is a.near a.hint ∙ sym start))
     (c.new_stream.ensures.0 a.hint)
 
 pub returns-then-free_count-n : goal.returns-then-free_count-n
@@ -34,5 +34,5 @@ returns-then-free_count-n c = shown_as (in_free _ _ _ _ _ _ _ (cc) (λ z. omega 
 pub returns : goal.returns
 returns c =
     let a = c.args in
-    let near = near_is a.y.count a.near a.hint (cc) ∙ ap (in_heap a.y.count) (sym c.unwrap_or-start.ensures) ∙ sym c.in_heap-2.ensures ∙ c.if-in_heap.false in
+    let near = near_is a.sys.now.y.count a.near a.hint (cc) ∙ ap (in_heap a.sys.now.y.count) (sym c.unwrap_or-start.ensures) ∙ sym c.in_heap-2.ensures ∙ c.if-in_heap.false in
     shown_as (in_near _ _ _ _ _ _ _ (cc) (λ z. omega arith) (omega arith) near) (refl, refl)

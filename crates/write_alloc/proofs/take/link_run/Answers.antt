@@ -9,7 +9,7 @@ loop-k-preserved c =
     let a = c.args in
     let l = c.loop-k in
     let e : a.first + a.n - (l.k + 1) ≡ a.first + a.n - l.k - 1 = omega arith in
-    cc (link-step a.y l.vol l.k (a.first + a.n - l.k) (omega arith))
+    cc (link-step a.sys.now.y l.vol l.k (a.first + a.n - l.k) (omega arith))
 
 pub returns : goal.returns
 returns c = sym (link-none _ _ _ _ (omega arith)) ∙ c.loop-k.invariant

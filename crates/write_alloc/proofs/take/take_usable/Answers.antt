@@ -13,16 +13,15 @@ loop-k-preserved c =
     let p = c.requires in
     let a = c.args in
     let q = c.next_usable-next in
-    let len = l.auto.vol ∙ p.1.0 in
-    let apart = p.1.1.1.1.1.1.1 in
-    let u = ap (is_usable a.y l.vol a.map.now) q.ensures.0 ∙ fewest_at (is_usable a.y l.vol a.map.now) (a.end - l.k) l.k (omega arith) in (
+    let len = l.auto.vol ∙ p.0 in
+    let u = ap (is_usable a.sys.now.y l.vol a.sys.now.map.now) q.ensures.0 ∙ fewest_at (is_usable a.sys.now.y l.vol a.sys.now.map.now) (a.end - l.k) l.k (omega arith) in (
       omega arith,
       (
         omega arith,
         (
-          one_taken _ _ _ _ _ p.0 apart len (omega arith) (omega arith) i.1.0 c.take_one.ensures,
+          one_taken _ _ _ _ _ a.sys.now.laid a.sys.now.apart len (omega arith) (omega arith) i.1.0 c.take_one.ensures,
           (cc)
-              ∙ (sym (takes_past _ _ _ _ l.k _ _ _ (omega arith) q.ensures.0 ∙ takes_yes _ _ _ _ _ _ _ p.0 apart len (omega arith) (omega arith) (omega arith) (omega arith) i.1.0 i.1.1.0 u)
+              ∙ (sym (takes_past _ _ _ _ l.k _ _ _ (omega arith) q.ensures.0 ∙ takes_yes _ _ _ _ _ _ _ a.sys.now.laid a.sys.now.apart len (omega arith) (omega arith) (omega arith) (omega arith) i.1.0 i.1.1.0 u)
               ∙ i.1.1.1),
         ),
       ),

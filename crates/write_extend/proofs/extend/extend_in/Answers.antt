@@ -23,7 +23,7 @@ returns-in_err-more_cause c =
 pub longer_stream-requires : goal.longer_stream-requires
 longer_stream-requires c =
     let p = c.requires in
-    (p.0, (p.1.0, (p.1.1.0, (p.1.1.1, (omega arith, (omega arith, allowed_of _ _ _ _ _ (sym c.in_ok-more_cause.ensures)))))))
+    (p, (omega arith, (omega arith, allowed_of _ _ _ _ _ (sym c.in_ok-more_cause.ensures))))
 
 pub returns : goal.returns
 returns c =

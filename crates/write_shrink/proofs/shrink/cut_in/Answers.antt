@@ -5,21 +5,19 @@ use Rattle.write_shrink.proofs.shrink.cut_in.Goals as goal
 pub end_kept-requires : goal.end_kept-requires
 end_kept-requires c =
     let p = c.requires in
-    (p.0, (p.1.0, (part_last _ _ _ _ _ p.1.1.1.1.1, kept_heap _ _ _ _ p.0 p.1.1.1.1.0 p.1.1.1.0)))
+    (p.0, (part_last _ _ _ _ _ p.1.1.1, kept_heap _ _ _ _ c.args.sys.now.laid p.1.1.0 p.1.0))
 
 pub free_from-requires : goal.free_from-requires
 free_from-requires c =
     let p = c.requires in
     let q = c.end_kept in
-    let n = part_next _ _ _ _ _ p.1.1.1.1.1 in
-    let l = p.1.1.1.1.0 in
-    let z = p.1.1.0 in
-    let h = left_heap _ _ _ _ p.0 l p.1.1.1.0 z p.1.0 _ q.ensures _ n in
-    (p.0, (q.auto.vol ∙ p.1.0, (z, (h, left_distinct _ _ _ _ p.0 l p.1.1.1.0 z p.1.0 _ q.ensures _ n))))
+    let n = part_next _ _ _ _ _ p.1.1.1 in
+    let h = left_heap _ _ _ _ c.args.sys.now.laid p.1.1.0 p.1.0 c.args.sys.now.apart p.0 _ q.ensures _ n in
+    (q.auto.vol ∙ p.0, (h, left_distinct _ _ _ _ c.args.sys.now.laid p.1.1.0 p.1.0 c.args.sys.now.apart p.0 _ q.ensures _ n))
 
 pub returns : goal.returns
 returns c =
     let p = c.requires in
     let q = c.end_kept.ensures in
-    let n = part_next _ _ _ _ _ p.1.1.1.1.1 in
-    c.free_from.ensures ∙ left_cut _ _ _ _ p.0 p.1.1.1.1.0 p.1.1.1.0 p.1.1.0 p.1.0 _ q _ n
+    let n = part_next _ _ _ _ _ p.1.1.1 in
+    c.free_from.ensures ∙ left_cut _ _ _ _ c.args.sys.now.laid p.1.1.0 p.1.0 c.args.sys.now.apart p.0 _ q _ n

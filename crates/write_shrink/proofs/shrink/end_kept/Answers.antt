@@ -9,7 +9,7 @@ use Rattle.write_shrink.proofs.shrink.end_kept.Goals as goal
 pub set_fat-requires : goal.set_fat-requires
 set_fat-requires c =
     let p = c.requires in
-    let h = last_heap _ _ _ _ _ _ (λ z. omega arith) p.1.1.1 p.1.1.0 in
+    let h = last_heap _ _ _ _ _ _ (λ z. omega arith) p.1.1 p.1.0 in
     search rules
 
 pub returns-then-not-a : goal.returns-then-not-a

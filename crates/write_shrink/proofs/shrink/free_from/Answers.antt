@@ -27,14 +27,14 @@ loop-preserved c =
     let p = c.requires in
     let l = c.loop in
     let i = l.invariant in
-    let len = l.auto.vol ∙ p.1.0 in
-    let q : c.mark.new.vol ≡ free_one c.args.y l.vol l.k = cc in
+    let len = l.auto.vol ∙ p.0 in
+    let q : c.mark.new.vol ≡ free_one c.args.sys.now.y l.vol l.k = cc in
     let e = c.next_cluster-next.ensures in
     let s : c.args.n - (l.counter + 1) ≡ c.args.n - l.counter - 1 = omega arith in (
-      rw (q, e, s) (free_heap _ _ p.0 p.1.1.0 len _ _ _ (omega arith) i.0 i.1.0),
+      rw (q, e, s) (free_heap _ _ c.args.sys.now.laid c.args.sys.now.apart len _ _ _ (omega arith) i.0 i.1.0),
       (
-        rw (q, e, s) (free_distinct _ _ p.0 p.1.1.0 len _ _ _ (omega arith) i.0 i.1.0),
-        rw (q, e, s) (sym (free_step _ _ p.0 p.1.1.0 len _ _ _ (omega arith) i.0 i.1.0) ∙ i.1.1),
+        rw (q, e, s) (free_distinct _ _ c.args.sys.now.laid c.args.sys.now.apart len _ _ _ (omega arith) i.0 i.1.0),
+        rw (q, e, s) (sym (free_step _ _ c.args.sys.now.laid c.args.sys.now.apart len _ _ _ (omega arith) i.0 i.1.0) ∙ i.1.1),
       ),
     )
 

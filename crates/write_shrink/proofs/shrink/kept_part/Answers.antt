@@ -12,14 +12,13 @@ returns-then-n-eq0 c = sym (kept_none _ _ _ _ (omega arith))
 
 pub next_cluster-next-requires : goal.next_cluster-next-requires
 next_cluster-next-requires c =
-    let h = in_heap_lem _ _ (along_head _ _ _ _ _ (omega arith) c.requires.1.1) in
+    let h = in_heap_lem _ _ (along_head _ _ _ _ _ (omega arith) c.requires.1) in
     search rules
 
 pub loop-init : goal.loop-init
 loop-init c =
-    let p = c.requires.1.1 in
-    let h = in_heap_lem _ _ (along_head _ _ _ _ _ (omega arith) p) in
-    (h.1, (c.next_cluster-next.ensures, (rw c.next_cluster-next.ensures (along_rest _ _ _ _ _ (omega arith) p), sym (kept_some _ _ _ _ (λ z. omega arith)))))
+    let h = in_heap_lem _ _ (along_head _ _ _ _ _ (omega arith) c.requires.1) in
+    (h.1, (c.next_cluster-next.ensures, (rw c.next_cluster-next.ensures (along_rest _ _ _ _ _ (omega arith) c.requires.1), sym (kept_some _ _ _ _ (λ z. omega arith)))))
 
 pub next_cluster-next-requires-in-loop : goal.next_cluster-next-requires-in-loop
 next_cluster-next-requires-in-loop c =

@@ -21,4 +21,4 @@ pub shrink_read-requires : goal.shrink_read-requires
 shrink_read-requires c =
     let p = c.requires in
     let r = c.in_ok-clear.ensures in
-    (p.0, (p.1.0, (p.1.1.0, (p.1.1.1, (omega arith, (cc, (sym r.0, λ t. clear_system _ _ _ _ (sym r.0) (sym r.1 ∙ t))))))))
+    (p, (omega arith, (cc, (sym r.0, λ t. clear_system _ _ _ _ (sym r.0) (sym r.1 ∙ t)))))

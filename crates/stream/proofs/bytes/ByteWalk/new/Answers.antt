@@ -10,15 +10,15 @@ pub seek-requires : goal.seek-requires
 seek-requires c =
     let p = c.requires in
     let a = c.args in
-    let s = sought _ _ _ _ _ a.at a.n p.0 p.1.0 p.1.1.0 p.1.1.1.0 in
-    let k = known_steps _ _ _ _ _ p.1.1.1.1 (omega (arith, p.0.size_low)) in
-    (p.0, (p.1.0, known_heap a.y a.vol.now a.a a.known p.1.1.1.1.reaches (a.at / a.y.size) k s.before))
+    let s = sought _ _ _ _ _ a.at a.n a.sys.now.laid p.0 p.1.0 p.1.1.0 in
+    let k = known_steps _ _ _ _ _ p.1.1.1 (omega (arith, a.sys.now.laid.size_low)) in
+    (p.0, known_heap a.sys.now.y a.vol.now a.a a.known p.1.1.1.reaches (a.at / a.sys.now.y.size) k s.before)
 
 pub returns : goal.returns
 returns c =
     let p = c.requires in
     let a = c.args in
-    let k = known_steps _ _ _ _ _ p.1.1.1.1 (omega (arith, p.0.size_low)) in
-    let e : c.seek.result ≡ reached (fat_entry a.y a.vol.now) a.a.no_fat_chain a.a.first (a.at / a.y.size) =
-    c.seek.ensures ∙ known_reach a.y a.vol.now a.a a.known p.1.1.1.1.reaches (a.at / a.y.size) k in
+    let k = known_steps _ _ _ _ _ p.1.1.1 (omega (arith, a.sys.now.laid.size_low)) in
+    let e : c.seek.result ≡ reached (fat_entry a.sys.now.y a.vol.now) a.a.no_fat_chain a.a.first (a.at / a.sys.now.y.size) =
+    c.seek.ensures ∙ known_reach a.sys.now.y a.vol.now a.a a.known p.1.1.1.reaches (a.at / a.sys.now.y.size) k in
     cc

@@ -9,9 +9,9 @@ pub returns : goal.returns
 returns c =
     let a = c.args in
     let s = a.self.now in
-    let e : c.if-self-2.len ≡ piece_length a.y s =
+    let e : c.if-self-2.len ≡ piece_length a.sys.now.y s =
     elim c.if-self-2.branch [
-      | then-self-2 w ↦ w.len-is ∙ sym (length-run a.y s (cc))
-      | else-self-2 w ↦ omega (arith, length-chain a.y s (cc))
+      | then-self-2 w ↦ w.len-is ∙ sym (length-run a.sys.now.y s (cc))
+      | else-self-2 w ↦ omega (arith, length-chain a.sys.now.y s (cc))
     ] in
     (omega arith, (cc, cc))
