@@ -15,8 +15,7 @@ use borrow.Author.Tests.{not-true}
 use Rattle.entry_set.specs.Fields.{clusters_for}
 use Rattle.entry_set.proofs.LengthLaws.{clusters_hold, clusters_below}
 use Rattle.entry_set.specs.Sound.{well_formed}
-use Rattle.std.specs.Prelude.{Option}
-use Rattle.std.specs.Prelude.{Some, None}
+use Rattle.std.specs.Prelude.{Option, Some, None}
 use Rattle.search.specs.Search.{all_from, run_from}
 use Rattle.search.proofs.Runs.{run_hit}
 use Rattle.search.proofs.Lowest.{Whole, Lowest, all_whole, whole_all, all_cong, run_at, run_nothing, run_cong, fewest_is}

@@ -4,6 +4,7 @@ pub mod OrderedLaws
 pub mod StoreLaws
 pub mod GrowthLaws
 pub mod DirectoryLaws
+pub mod OpenedLaws
 pub mod CursorLaws
 pub mod EndLaws
 pub mod RoomLaws
@@ -12,3 +13,4 @@ pub mod SpotLaws
 pub mod StartLaws
 pub mod OpenLaws
 pub mod FileLaws
+pub mod RootFileLaws

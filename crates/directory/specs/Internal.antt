@@ -4,14 +4,15 @@ use Rattle.std.proofs.Math.Option.{Option as Maybe, none, some}
 use Rattle.boot.specs.declared.layout.Layout.{Layout}
 use Rattle.boot.specs.Layout.{in_heap}
 use Rattle.boot.specs.declared.cause.Cause.{Cause}
-use Rattle.boot.specs.Causes.{cause_number}
+use Rattle.boot.specs.Causes.{cause_number, first_cause}
 use Rattle.metadata.specs.Fat.{fat_entry}
 use Rattle.stream.specs.declared.allocation.Allocation.{Allocation}
 use Rattle.stream.specs.declared.bytes.Place.{Place}
-use Rattle.stream.specs.Internal.{after, reached, place_at}
-use Rattle.stream.specs.Bytes.{bytes_in}
+use Rattle.stream.specs.Internal.{after, along, reached, place_at}
+use Rattle.stream.specs.Bytes.{cluster_bytes, bytes_in}
 use Rattle.stream.specs.Stream.{empty, clusters_in}
 use Rattle.entry_set.specs.Fields.{valid_length}
+use Rattle.directory.specs.declared.directory.OpenDirectory.{OpenDirectory}
 use Rattle.directory.specs.declared.entries.Cursor.{Cursor}
 use Rattle.directory.specs.declared.entries.Room.{Room}
 use Rattle.directory.specs.declared.open_file.OpenStream.{OpenStream}
@@ -42,6 +43,34 @@ entry_place y d a slot =
 unfoldable pub slot_entry : (y : Layout) (d : List ℕ) (a : Allocation) (slot : ℕ) → Option Cursor
 slot_entry y d a slot = cond (before_end (bytes_in y d a) slot) (Some (entry_place y d a slot)) None
 
+-- of a directory opened: its bytes
+abbrev pub bytes : OpenDirectory → List ℕ
+bytes d = bytes_in d.sys.now.y d.vol.now d.allocation
+
+-- the volume's FAT
+abbrev pub fat_of : OpenDirectory → ℕ → ℕ
+fat_of d = fat_entry d.sys.now.y d.vol.now
+
+-- the bytes of cluster k
+abbrev pub bytes_at : OpenDirectory → (k : ℕ) → List ℕ
+bytes_at d k = cluster_bytes d.sys.now.y d.vol.now k
+
+-- n of its clusters, from cluster k on
+abbrev pub clusters_from : OpenDirectory → (k n : ℕ) → List ℕ
+clusters_from d k n = along (fat_of d) d.allocation.no_fat_chain k n
+
+-- its entry i
+abbrev pub nth_entry : OpenDirectory → (i : ℕ) → Cursor
+nth_entry d i = entry_at d.sys.now.y (fat_of d) d.allocation.no_fat_chain d.allocation.first i
+
+-- the entry of a slot by its byte
+abbrev pub slot_place : OpenDirectory → (slot : ℕ) → Cursor
+slot_place d slot = entry_place d.sys.now.y d.vol.now d.allocation slot
+
+-- the set at a slot
+abbrev pub slot_set : OpenDirectory → (slot : ℕ) → List ℕ
+slot_set d slot = set_in d.sys.now.y d.vol.now d.allocation slot
+
 -- windows of n entries from entry i on, passed one after the other while the last entry of each is in use, `more` at most: where that stops
 unfoldable pub past_windows : List ℕ → ℕ → ℕ → ℕ → ℕ
 past_windows bs n zero i = i
@@ -57,8 +86,8 @@ pub record Directory : Type 0 where
   pub allocation : Allocation
 
 -- by what its function gives
-abbrev pub directory_opened : Result Allocation Cause → Directory
-directory_opened (Ok a) = record { number = 0; allocation = a }
+abbrev pub directory_opened : Result OpenDirectory Cause → Directory
+directory_opened (Ok d) = record { number = 0; allocation = d.allocation }
 directory_opened (Err c) = record { number = cause_number c; allocation = empty }
 
 -- the root opened
@@ -168,3 +197,13 @@ found_file y d a slot offset =
 -- the same opened, or the number of what refuses it
 unfoldable pub open_file : (y : Layout) (d m : List ℕ) (a : Allocation) (slot offset : ℕ) → OpenedFile
 open_file y d m a slot offset = let n = file_cause y d m a slot in cond (eqb n 0) (found_file y d a slot offset) (no_file n)
+
+-- the file at a slot of the root a, or the number of what refuses it: the root, then the file
+unfoldable pub root_file : (y : Layout) (d m : List ℕ) (a : Allocation) (slot offset : ℕ) → OpenedFile
+root_file y d m a slot offset =
+    let n = first_cause (directory_cause y d a ∷ file_cause y d m a slot ∷ []) in
+    cond (eqb n 0) (found_file y d a slot offset) (no_file n)
+
+-- the 608 bytes that this fills: the set where the root is not refused and there is one, else zeros
+unfoldable pub root_file_set : (y : Layout) (d : List ℕ) (a : Allocation) (slot : ℕ) → List ℕ
+root_file_set y d a slot = cond (eqb (directory_cause y d a) 0) (set_read (bytes_in y d a) slot) (replicate 608 0)

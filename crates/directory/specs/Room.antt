@@ -1,7 +1,5 @@
 -- Where a new set goes: its slot, and the clusters that the directory grows by for it (01, "New file"; Rust: `free_run`).
-use Rattle.std.specs.Prelude.{◌≡◌, Bool, true, false, not, List, ◌++◌, ℕ, ◌+◌, ◌*◌, ◌≤◌, ◌<◌, replicate}
-use Rattle.std.specs.Prelude.{Option}
-use Rattle.std.specs.Prelude.{Some, None}
+use Rattle.std.specs.Prelude.{◌≡◌, Bool, true, false, not, List, ◌++◌, ℕ, ◌+◌, ◌*◌, ◌≤◌, ◌<◌, replicate, Option, Some, None}
 use Rattle.search.specs.Search.{run_from, fewest}
 use Rattle.directory.specs.Entries.{entry_count, in_use}
 

@@ -1,23 +1,23 @@
 // A file opened by its slot: its set copied, its record, and what refuses it (Rust: `open_for_write`, `stream_allocation`).
-ghost use Rattle.std.specs.Prelude.{◌≡◌, true, false, cond, ◌+◌, ◌-◌, ◌*◌, ◌≤◌, ◌<◌, length, replicate};
+ghost use Rattle.std.specs.Prelude.{◌≡◌, true, false, cond, ◌+◌, ◌-◌, ◌≤◌, ◌<◌, length, replicate};
 ghost use Rattle.tables.specs.Lists.{last_or};
-ghost use Rattle.boot.specs.Internal.{Laid, Apart};
 ghost use Rattle.boot.specs.Layout.{in_heap};
 ghost use Rattle.metadata.specs.Fat.{fat_entry};
 ghost use Rattle.stream.specs.Chain.{read_chain};
-ghost use Rattle.stream.specs.Stream.{number_of, stream_of, clusters_of};
+ghost use Rattle.stream.specs.Stream.{clusters_of};
 ghost use Rattle.entry_set.specs.Fields.{valid_length};
 ghost use Rattle.entry_set.specs.Sound.{well_formed};
-ghost use Rattle.stream.specs.Bytes.{bytes_in};
 ghost use Rattle.directory.specs.Entries.{entry_count, before_end, entries_at};
-ghost use Rattle.directory.specs.Internal.{entry_place, set_fits, whole_set, set_read, opened_stream, start_steps, open_file, stream_opened, file_opened};
+ghost use Rattle.directory.specs.Internal.{set_fits, whole_set, set_read, opened_stream, start_steps, open_file, root_file, root_file_set, stream_opened, file_opened, bytes, slot_place, slot_set};
 ghost use Rattle.boot.specs.Causes.{number};
-ghost use Rattle.directory.specs.Open.{file_record, directory_attribute_cause, set_in};
+ghost use Rattle.directory.specs.Directory.{root_record};
+ghost use Rattle.directory.specs.Open.{file_record, directory_attribute_cause};
 
+use crate::directory::OpenDirectory;
 use crate::entries::Cursor;
 use crate::spot::Spot;
 use boot::cause::Cause;
-use boot::layout::Layout;
+use boot::system::System;
 use stream::allocation::Allocation;
 use stream::bytes::Place;
 
@@ -37,63 +37,18 @@ pub struct OpenFile {
     pub place: Place,
 }
 
-// How many entries the set has whose first entry e is, at a slot with no type 0 before it: none where that is no file entry or the set
-// does not fit. Only the contract needs the directory.
-fn entries_here(
-    vol: &[u8],
-    y: Layout,
-    dir: Allocation,
-    slot: u32,
-    e: Cursor,
-    total: u32,
-) -> Option<usize>
-    requires { Laid y × ((length vol.now ≡ y.len) × (Apart y × ((number_of (stream_of y vol.now dir) ≡ 0) × ((slot < entry_count (bytes_in y vol.now dir)) × ((e ≡ entry_place y vol.now dir slot) × ((total ≡ entry_count (bytes_in y vol.now dir)) × ((total ≤ 524288) × (before_end (bytes_in y vol.now dir) slot ≡ true)))))))) }
-    ensures { result ≡ whole_set (bytes_in y vol.now dir) slot }
-{
-    if crate::entries::byte_at(vol, y, e.cluster, e.at) != 0x85 {
-        return None;
-    }
-    let n = 1 + usize::from(crate::entries::byte_at(vol, y, e.cluster, e.at + 1));
-    if 19 < n || (total as usize) < slot as usize + n {
-        return None;
-    }
-    Some(n)
-}
-
-// Copies the set of n entries at a slot, whose entry is known.
-fn copy_set(
-    vol: &[u8],
-    y: Layout,
-    dir: Allocation,
-    slot: u32,
-    e: Cursor,
-    n: usize,
-    set: &mut [u8; 608],
-)
-    requires { Laid y × ((length vol.now ≡ y.len) × (Apart y × ((number_of (stream_of y vol.now dir) ≡ 0) × ((e ≡ entry_place y vol.now dir slot) × ((n ≡ entries_at (bytes_in y vol.now dir) slot) × ((n ≤ 19) × ((slot + n ≤ entry_count (bytes_in y vol.now dir)) × (set.old ≡ replicate 608 0)))))))) }
-    ensures { set.new ≡ set_in y vol.now dir slot }
-{
-    let at = 32 * (slot as usize);
-    let known = Place {
-        cluster: e.cluster,
-        steps: (at / y.size) as u32,
-    };
-    stream::bytes::read(vol, y, dir, known, at, set, 32 * n);
-}
-
 // Opens a chain of n clusters: one walk gives its record, the place `goal` steps along it, and what refuses it.
 fn open_chain(
     vol: &[u8],
-    map: &[u8],
-    y: Layout,
+    sys: &System<'_>,
     first: u32,
     n: u32,
     goal: u32,
 ) -> Result<OpenStream, Cause>
-    requires { Laid y × ((length vol.now ≡ y.len) × ((y.count ≤ 8 * length map.now) × ((in_heap y.count first ≡ true) × (goal < n)))) }
-    ensures { stream_opened result ≡ opened_stream y vol.now map.now (record { first = first; last = last_or 0 (clusters_of (read_chain y.count (fat_entry y vol.now) first)); count = n; no_fat_chain = false }) goal }
+    requires { (length vol.now ≡ sys.now.y.len) × ((in_heap sys.now.y.count first ≡ true) × (goal < n)) }
+    ensures { stream_opened result ≡ opened_stream sys.now.y vol.now sys.now.map.now (record { first = first; last = last_or 0 (clusters_of (read_chain sys.now.y.count (fat_entry sys.now.y vol.now) first)); count = n; no_fat_chain = false }) goal }
 {
-    let w = stream::walk::fat_chain(vol, map, y, false, first, goal)?;
+    let w = stream::walk::fat_chain(vol, sys, false, first, goal)?;
     stream::walk::walk_cause(w, w.last, n)?;
     if w.clear {
         let allocation = Allocation {
@@ -115,14 +70,13 @@ fn open_chain(
 // Opens a run of n clusters: its marks, then the system map; no FAT entry is read.
 fn open_run(
     vol: &[u8],
-    map: &[u8],
-    y: Layout,
+    sys: &System<'_>,
     first: u32,
     n: u32,
     goal: u32,
 ) -> Result<OpenStream, Cause>
-    requires { Laid y × ((length vol.now ≡ y.len) × ((y.count ≤ 8 * length map.now) × ((first + n ≤ y.count + 2) × (goal < n)))) }
-    ensures { stream_opened result ≡ opened_stream y vol.now map.now (record { first = first; last = first + n - 1; count = n; no_fat_chain = true }) goal }
+    requires { (length vol.now ≡ sys.now.y.len) × ((first + n ≤ sys.now.y.count + 2) × (goal < n)) }
+    ensures { stream_opened result ≡ opened_stream sys.now.y vol.now sys.now.map.now (record { first = first; last = first + n - 1; count = n; no_fat_chain = true }) goal }
 {
     let allocation = Allocation {
         first,
@@ -130,8 +84,8 @@ fn open_run(
         count: n,
         no_fat_chain: true,
     };
-    stream::walk::stream_cause(vol, map, y, allocation)?;
-    stream::system::system_cause(vol, map, y, true, first, n)?;
+    stream::walk::stream_cause(vol, sys, allocation)?;
+    stream::system::system_cause(vol, sys, true, first, n)?;
     let place = Place {
         cluster: first + goal,
         steps: goal,
@@ -140,24 +94,23 @@ fn open_run(
 }
 
 // How many steps lead to where a call on the bytes from an offset on begins, in the stream of n clusters that a set has.
-fn start_steps(y: Layout, set: &[u8; 608], offset: u64, n: u32) -> u32
-    requires { Laid y × (1 ≤ n) }
-    ensures { result ≡ start_steps y.size (valid_length set.now) offset n }
+fn start_steps(sys: &System<'_>, set: &[u8; 608], offset: u64, n: u32) -> u32
+    requires { 1 ≤ n }
+    ensures { result ≡ start_steps sys.now.y.size (valid_length set.now) offset n }
 {
     let at = entry_set::entry::valid_length(set).min(offset);
-    (at / (y.size as u64)).min((n - 1) as u64) as u32
+    (at / (sys.y.size as u64)).min((n - 1) as u64) as u32
 }
 
 // Opens the stream of a set for a call on its bytes from an offset on.
 fn open_stream(
     vol: &[u8],
-    map: &[u8],
-    y: Layout,
+    sys: &System<'_>,
     set: &[u8; 608],
     offset: u64,
 ) -> Result<OpenStream, Cause>
-    requires { Laid y × ((length vol.now ≡ y.len) × ((y.count ≤ 8 * length map.now) × (well_formed y.count y.size set.now ≡ true))) }
-    ensures { let b = file_record y vol.now set.now in stream_opened result ≡ opened_stream y vol.now map.now b (start_steps y.size (valid_length set.now) offset b.count) }
+    requires { (length vol.now ≡ sys.now.y.len) × (well_formed sys.now.y.count sys.now.y.size set.now ≡ true) }
+    ensures { let b = file_record sys.now.y vol.now set.now in stream_opened result ≡ opened_stream sys.now.y vol.now sys.now.map.now b (start_steps sys.now.y.size (valid_length set.now) offset b.count) }
 {
     let len = entry_set::entry::data_length(set);
     if len == 0 {
@@ -169,13 +122,13 @@ fn open_stream(
             },
         });
     }
-    let n = entry_set::entry::clusters_for(y.size, len) as u32;
+    let n = entry_set::entry::clusters_for(sys.y.size, len) as u32;
     let first = entry_set::entry::first_cluster(set);
-    let goal = start_steps(y, set, offset, n);
+    let goal = start_steps(sys, set, offset, n);
     if entry_set::entry::no_fat_chain(set) {
-        open_run(vol, map, y, first, n, goal)
+        open_run(vol, sys, first, n, goal)
     } else {
-        open_chain(vol, map, y, first, n, goal)
+        open_chain(vol, sys, first, n, goal)
     }
 }
 
@@ -193,71 +146,104 @@ fn set_cause(set: &[u8; 608], count: u32, size: usize) -> Result<(), Cause>
     Ok(())
 }
 
-// Opens the file of a set that is copied, whose entry is known.
-fn open_copied(
-    vol: &[u8],
-    map: &[u8],
-    y: Layout,
-    dir: Allocation,
-    slot: u32,
-    e: Cursor,
-    set: &[u8; 608],
-    offset: u64,
-) -> Result<OpenFile, Cause>
-    requires { Laid y × ((length vol.now ≡ y.len) × ((y.count ≤ 8 * length map.now) × (Apart y × ((number_of (stream_of y vol.now dir) ≡ 0) × ((slot < entry_count (bytes_in y vol.now dir)) × ((e ≡ entry_place y vol.now dir slot) × ((set_fits (bytes_in y vol.now dir) slot ≡ true) × (set.now ≡ set_in y vol.now dir slot)))))))) }
-    ensures { file_opened result ≡ open_file y vol.now map.now dir slot offset }
-{
-    set_cause(set, y.count, y.size)?;
-    let s = open_stream(vol, map, y, set, offset)?;
-    Ok(OpenFile {
-        spot: crate::spot::spot_from(vol, y, dir, slot, e),
-        stream: s.allocation,
-        place: s.place,
-    })
-}
-
-// Opens the file whose entry is known, at a slot with no type 0 before it, and copies its set.
-fn open_at(
-    vol: &[u8],
-    map: &[u8],
-    y: Layout,
-    dir: Allocation,
-    slot: u32,
-    e: Cursor,
-    total: u32,
-    offset: u64,
-    set: &mut [u8; 608],
-) -> Result<OpenFile, Cause>
-    requires { Laid y × ((length vol.now ≡ y.len) × ((y.count ≤ 8 * length map.now) × (Apart y × ((number_of (stream_of y vol.now dir) ≡ 0) × ((slot < entry_count (bytes_in y vol.now dir)) × ((e ≡ entry_place y vol.now dir slot) × ((total ≡ entry_count (bytes_in y vol.now dir)) × ((total ≤ 524288) × ((before_end (bytes_in y vol.now dir) slot ≡ true) × (set.old ≡ replicate 608 0)))))))))) }
-    ensures { (file_opened result ≡ open_file y vol.now map.now dir slot offset) × (set.new ≡ set_read (bytes_in y vol.now dir) slot) }
-{
-    let Some(n) = entries_here(vol, y, dir, slot, e, total) else {
-        return Err(Cause::NoFile);
-    };
-    copy_set(vol, y, dir, slot, e, n, set);
-    open_copied(vol, map, y, dir, slot, e, set, offset)
-}
-
-// Opens the file at a slot for a call on its bytes from an offset on, and copies its set (Rust: `open_for_write`); the place where the
-// call begins is taken down on the way.
-pub fn open_file(
-    vol: &[u8],
-    map: &[u8],
-    y: Layout,
-    dir: Allocation,
-    slot: u32,
-    offset: u64,
-    set: &mut [u8; 608],
-) -> Result<OpenFile, Cause>
-    requires { Laid y × ((length vol.now ≡ y.len) × ((y.count ≤ 8 * length map.now) × (Apart y × ((number_of (stream_of y vol.now dir) ≡ 0) × (set.old ≡ replicate 608 0))))) }
-    ensures { (file_opened result ≡ open_file y vol.now map.now dir slot offset) × (set.new ≡ set_read (bytes_in y vol.now dir) slot) }
-{
-    let total = crate::entries::entry_count(vol, y, dir);
-    if total <= slot {
-        return Err(Cause::NoFile);
+impl OpenDirectory<'_> {
+    // How many entries the set has whose first entry e is, at a slot with no type 0 before it: none where that is no file entry or the
+    // set does not fit.
+    fn entries_here(&self, slot: u32, e: Cursor, total: u32) -> Option<usize>
+        requires { (slot < entry_count (bytes self.now)) × ((e ≡ slot_place self.now slot) × ((total ≡ entry_count (bytes self.now)) × ((total ≤ 524288) × (before_end (bytes self.now) slot ≡ true)))) }
+        ensures { result ≡ whole_set (bytes self.now) slot }
+    {
+        if self.byte_at(e.cluster, e.at) != 0x85 {
+            return None;
+        }
+        let n = 1 + usize::from(self.byte_at(e.cluster, e.at + 1));
+        if 19 < n || (total as usize) < slot as usize + n {
+            return None;
+        }
+        Some(n)
     }
-    let Some(e) = crate::entries::slot_entry(vol, y, dir, slot) else {
-        return Err(Cause::NoFile);
-    };
-    open_at(vol, map, y, dir, slot, e, total, offset, set)
+
+    // Copies the set of n entries at a slot, whose entry is known.
+    fn copy_set(&self, slot: u32, e: Cursor, n: usize, set: &mut [u8; 608])
+        requires { (e ≡ slot_place self.now slot) × ((n ≡ entries_at (bytes self.now) slot) × ((n ≤ 19) × ((slot + n ≤ entry_count (bytes self.now)) × (set.old ≡ replicate 608 0)))) }
+        ensures { set.new ≡ slot_set self.now slot }
+    {
+        let at = 32 * (slot as usize);
+        let known = Place {
+            cluster: e.cluster,
+            steps: (at / self.sys.y.size) as u32,
+        };
+        stream::bytes::read(self.vol, self.sys, self.allocation, known, at, set, 32 * n);
+    }
+
+    // Opens the file of a set that is copied, whose entry is known.
+    fn open_copied(
+        &self,
+        slot: u32,
+        e: Cursor,
+        set: &[u8; 608],
+        offset: u64,
+    ) -> Result<OpenFile, Cause>
+        requires { (slot < entry_count (bytes self.now)) × ((e ≡ slot_place self.now slot) × ((set_fits (bytes self.now) slot ≡ true) × (set.now ≡ slot_set self.now slot))) }
+        ensures { let d = self.now in file_opened result ≡ open_file d.sys.now.y d.vol.now d.sys.now.map.now d.allocation slot offset }
+    {
+        set_cause(set, self.sys.y.count, self.sys.y.size)?;
+        let s = open_stream(self.vol, self.sys, set, offset)?;
+        Ok(OpenFile {
+            spot: self.spot_from(slot, e),
+            stream: s.allocation,
+            place: s.place,
+        })
+    }
+
+    // Opens the file whose entry is known, at a slot with no type 0 before it, and copies its set.
+    fn open_at(
+        &self,
+        slot: u32,
+        e: Cursor,
+        total: u32,
+        offset: u64,
+        set: &mut [u8; 608],
+    ) -> Result<OpenFile, Cause>
+        requires { (slot < entry_count (bytes self.now)) × ((e ≡ slot_place self.now slot) × ((total ≡ entry_count (bytes self.now)) × ((total ≤ 524288) × ((before_end (bytes self.now) slot ≡ true) × (set.old ≡ replicate 608 0))))) }
+        ensures { let d = self.now in (file_opened result ≡ open_file d.sys.now.y d.vol.now d.sys.now.map.now d.allocation slot offset) × (set.new ≡ set_read (bytes d) slot) }
+    {
+        let Some(n) = self.entries_here(slot, e, total) else {
+            return Err(Cause::NoFile);
+        };
+        self.copy_set(slot, e, n, set);
+        self.open_copied(slot, e, set, offset)
+    }
+
+    // Opens the file at a slot for a call on its bytes from an offset on, and copies its set (Rust: `open_for_write`); the place where
+    // the call begins is taken down on the way.
+    pub fn open_file(&self, slot: u32, offset: u64, set: &mut [u8; 608]) -> Result<OpenFile, Cause>
+        requires { set.old ≡ replicate 608 0 }
+        ensures { let d = self.now in (file_opened result ≡ open_file d.sys.now.y d.vol.now d.sys.now.map.now d.allocation slot offset) × (set.new ≡ set_read (bytes d) slot) }
+    {
+        let total = self.entry_count();
+        if total <= slot {
+            return Err(Cause::NoFile);
+        }
+        let Some(e) = self.slot_entry(slot) else {
+            return Err(Cause::NoFile);
+        };
+        self.open_at(slot, e, total, offset, set)
+    }
+}
+
+// Opens the root and the file at a slot of it, and copies the file's set.
+pub fn open_in_root(
+    vol: &[u8],
+    sys: &System<'_>,
+    root: u32,
+    slot: u32,
+    offset: u64,
+    set: &mut [u8; 608],
+) -> Result<OpenFile, Cause>
+    requires { (length vol.now ≡ sys.now.y.len) × (set.old ≡ replicate 608 0) }
+    ensures { let d = vol.now in (file_opened result ≡ root_file sys.now.y d sys.now.map.now (root_record sys.now.y d root) slot offset) × (set.new ≡ root_file_set sys.now.y d (root_record sys.now.y d root) slot) }
+{
+    let dir = OpenDirectory::root_dir(vol, sys, root)?;
+    dir.open_file(slot, offset, set)
 }

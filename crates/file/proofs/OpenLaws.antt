@@ -2,6 +2,7 @@
 use Rattle.std.proofs.Common.{◌≡◌, ℕ, ◌+◌, ◌*◌, ◌/◌, ◌<◌, ◌≤◌, min, Bool, true, false, cond, not, eqb, List, [], ◌∷◌, length, take, drop, replicate, sym, refl, ap, ◌∙◌, subst, mul-le-mul_right, arith, ne_eqb, eqb-true}
 use Rattle.tables.specs.Lists.{every}
 use Rattle.boot.specs.declared.layout.Layout.{Layout}
+use Rattle.boot.specs.declared.system.System.{System}
 use Rattle.boot.specs.Limits.{in_map}
 use Rattle.boot.specs.Internal.{Laid}
 use Rattle.boot.specs.Layout.{in_heap}
@@ -9,7 +10,7 @@ use Rattle.boot.specs.Causes.{first_cause, heap_cause}
 use Rattle.boot.proofs.CauseLaws.{cause_skip, cause_met, cause_last, heap_met, heap_kept, cause_none}
 use Rattle.boot.proofs.Apart.{in_heap_lem}
 use Rattle.metadata.specs.Fat.{fat_entry}
-use Rattle.metadata.proofs.Frame.{Fits}
+use Rattle.metadata.proofs.Frame.{Fits, fits}
 use Rattle.stream.specs.Bytes.{store_at, bytes_in}
 use Rattle.stream.specs.declared.allocation.Allocation.{Allocation}
 use Rattle.stream.specs.Internal.{Known}
@@ -23,11 +24,12 @@ use Rattle.entry_set.specs.Fields.{valid_length, data_length, clusters_for}
 use Rattle.entry_set.proofs.LengthLaws.{clusters_hold}
 use Rattle.entry_set.proofs.SetLaws.{formed_lengths}
 use Rattle.file.specs.Outcome.{FileAnswer, Outcome, refuse, carried}
-use Rattle.directory.specs.Directory.{bitmap_cause, directory_cause}
-use Rattle.directory.specs.Internal.{OpenedFile, spot_of, spot_clusters, Reaches, no_file, start_place, found_file, open_file, set_read}
+use Rattle.directory.specs.Directory.{bitmap_cause, directory_cause, root_record}
+use Rattle.directory.specs.Internal.{OpenedFile, spot_of, spot_clusters, Reaches, no_file, start_place, found_file, root_file, root_file_set}
 use Rattle.directory.proofs.DirectoryLaws.{clusters_length}
 use Rattle.directory.specs.Entries.{entry_count, entries_at, set_at, is_sound}
 use Rattle.directory.proofs.EntryLaws.{sound_few, sound_room, sound_formed, set-count}
+use Rattle.directory.proofs.RootFileLaws.{root_opens}
 use Rattle.directory.proofs.FileLaws.{record_count, file_sound, file-read}
 use Rattle.directory.proofs.StartLaws.{start_known}
 use Rattle.directory.proofs.CursorLaws.{length_in, count_few}
@@ -167,9 +169,6 @@ module _ (y : Layout) (d m : List ℕ) (a : Allocation) (slot hint : ℕ) where
     unfolding open_cause
     past_hint = cause_skip (heap_cause y.count hint) (directory_cause y d a ∷ file_cause y d m a slot ∷ []) (heap_kept y.count hint h)
 
-    pub open_not-read : (directory_cause y d a ≡ 0 → ⊥) → open_cause y d m a slot hint ≡ directory_cause y d a
-    open_not-read n = past_hint ∙ cause_met (directory_cause y d a) (file_cause y d m a slot ∷ []) n
-
     pub open_is : directory_cause y d a ≡ 0 → open_cause y d m a slot hint ≡ file_cause y d m a slot
     open_is e = past_hint ∙ cause_skip (directory_cause y d a) (file_cause y d m a slot ∷ []) e ∙ cause_last (file_cause y d m a slot)
 
@@ -251,20 +250,10 @@ module _ (y : Layout) (d m : List ℕ) (a : Allocation) (slot offset hint : ℕ)
     set_cause : first_cause (heap_cause y.count hint ∷ directory_cause y d a ∷ []) ≡ directory_cause y d a
     set_cause = cause_skip (heap_cause y.count hint) (directory_cause y d a ∷ []) (heap_kept y.count hint h) ∙ cause_last (directory_cause y d a)
 
-    pub target_directory : (n : ℕ) → n ≡ directory_cause y d a → (n ≡ 0 → ⊥)
-        → (no_file n ≡ target y d m a slot offset hint) × (replicate 608 0 ≡ target_set y d a slot hint)
-    target_directory n e z = (
-      target_refused n (e ∙ sym (open_not-read y d m a slot hint h (λ q. z (e ∙ q)))) z,
-      set_refused (λ q. z (e ∙ sym set_cause ∙ q)),
-    )
-
-    set-read : directory_cause y d a ≡ 0 → set_read (bytes_in y d a) slot ≡ target_set y d a slot hint
-    unfolding target_set
-    set-read q = rw (set_cause ∙ q) refl
-
-    pub target-file : directory_cause y d a ≡ 0 → (open_file y d m a slot offset ≡ target y d m a slot offset hint) × (set_read (bytes_in y d a) slot ≡ target_set y d a slot hint)
-    unfolding target open_file
-    target-file q = (rw (open_is y d m a slot hint h q) refl, set-read q)
+    -- past the hint it is the file at a slot of the root
+    pub target_root : (root_file y d m a slot offset ≡ target y d m a slot offset hint) × (root_file_set y d a slot ≡ target_set y d a slot hint)
+    unfolding target target_set root_file root_file_set
+    target_root = (rw (past_hint y d m a slot hint h) refl, rw set_cause refl)
 
   -- its number, and the file where that is 0
   pub target_number : (target y d m a slot offset hint).number ≡ open_cause y d m a slot hint
@@ -309,7 +298,7 @@ module _ (y : Layout) (d m : List ℕ) (a : Allocation) (slot offset hint : ℕ)
         let c = cause_none (heap_cause y.count hint) (directory_cause y d a ∷ file_cause y d m a slot ∷ []) (unfold open_cause in open_none) in
         let u = cause_none (directory_cause y d a) (file_cause y d m a slot ∷ []) c.1 in
         let v = cause_none (file_cause y d m a slot) [] u.1 in
-        let i : s ≡ set_in y d a slot = q ∙ sym (set-read (hint_of_lem c.0) u.0) ∙ file-read y d m a slot v.0 in
+        let i : s ≡ set_in y d a slot = q ∙ sym ((root_opens y d m a slot offset u.0).1 ∙ (target_root (hint_of_lem c.0)).1) ∙ file-read y d m a slot v.0 in
         record {
           laid = w.laid;
           apart = w.apart;
@@ -331,3 +320,13 @@ module _ (y : Layout) (d m : List ℕ) (a : Allocation) (slot offset hint : ℕ)
         ap (λ (x : OpenedFile). x.place) (e ∙ target_is open_none) ∙ found_place ∙ ap (λ (x : List ℕ). start_place y d (file_record y d x) x offset) (sym o.set)
         ∙ ap (λ (x : Allocation). start_place y d x s offset) (sym o.stream) in
         rw i (start_known y d f.stream s offset)
+
+-- ---- a file of the root, as opening it on a system gives it
+
+module _ (s : System) (d : List ℕ) (long : length d ≡ s.y.len) (root slot offset hint : ℕ) (f : OpenedFile) (bs : List ℕ)
+    (e : (f ≡ target s.y d s.map.now (root_record s.y d root) slot offset hint) × (bs ≡ target_set s.y d (root_record s.y d root) slot hint)) (z : f.number ≡ 0) where
+  pub opened : Opens s.y d s.map.now (root_record s.y d root) slot bs f hint
+  opened = found_opens s.y d s.map.now (root_record s.y d root) slot offset hint (fits s d long) s.wide f e.0 bs e.1 z
+
+  pub opened_known : Known s.y d f.stream f.place (min (valid_length bs) offset)
+  opened_known = found_known s.y d s.map.now (root_record s.y d root) slot offset hint (fits s d long) s.wide f e.0 bs e.1 z

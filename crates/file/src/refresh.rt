@@ -1,6 +1,5 @@
 // The entry set of a file stored anew, and the clusters that a new length needs.
 ghost use Rattle.std.specs.Prelude.{◌≡◌, ◌+◌, ◌-◌, ◌*◌, ◌<◌, ◌≤◌, true, length, take, replicate};
-ghost use Rattle.boot.specs.Internal.{Laid, Apart};
 ghost use Rattle.boot.specs.Layout.{in_heap};
 ghost use Rattle.stream.specs.Stream.{number_of, stream_of, clusters_in};
 ghost use Rattle.stream.specs.Bytes.{store_at};
@@ -13,7 +12,7 @@ ghost use Rattle.file.specs.Refresh.{entries_of, recorded, missing, length_cause
 ghost use Rattle.file.specs.Internal.{grown_place, zeroed_place, near_of};
 
 use boot::cause::Cause;
-use boot::layout::Layout;
+use boot::system::System;
 use directory::spot::Spot;
 use entry_set::stamp::Stamp;
 use stream::allocation::Allocation;
@@ -40,50 +39,49 @@ fn near_of(b: Allocation, hint: u32) -> u32
 // Refuses a length for which more clusters are missing than are usable. They are searched only where some are missing.
 pub fn length_cause(
     vol: &[u8],
-    map: &[u8],
-    y: Layout,
+    sys: &System<'_>,
     b: Allocation,
     len: u64,
     hint: u32,
 ) -> Result<(), Cause>
-    requires { Laid y × ((length vol.now ≡ y.len) × (y.count ≤ 8 * length map.now)) }
-    ensures { number result ≡ length_cause y vol.now map.now b len }
+    requires { length vol.now ≡ sys.now.y.len }
+    ensures { number result ≡ length_cause sys.now.y vol.now sys.now.map.now b len }
 {
-    let needed = entry_set::entry::clusters_for(y.size, len);
+    let needed = entry_set::entry::clusters_for(sys.y.size, len);
     let there = b.count as u64;
     if needed <= there {
         return Ok(());
     }
     let near = near_of(b, hint);
-    if choice::choice::enough(vol, map, y, near, needed - there) {
+    if choice::choice::enough(vol, sys, near, needed - there) {
         return Ok(());
     }
     Err(Cause::NoSpace)
 }
 
 // The clusters that a stream must add for a length.
-fn missing(y: Layout, b: Allocation, len: u64) -> u32
-    requires { Laid y × (missing y b len ≤ 32768) }
-    ensures { result ≡ missing y b len }
+fn missing(sys: &System<'_>, b: Allocation, len: u64) -> u32
+    requires { missing sys.now.y b len ≤ 32768 }
+    ensures { result ≡ missing sys.now.y b len }
 {
-    entry_set::entry::clusters_for(y.size, len).saturating_sub(b.count as u64) as u32
+    entry_set::entry::clusters_for(sys.y.size, len).saturating_sub(b.count as u64) as u32
 }
 
 // Fills a stream with zeros from one byte up to another; nothing where that is not above it (Rust: `zero_range`). Answers the place that
 // the zeros reached, or the known one where there are none.
 pub fn zero_range(
     vol: &mut [u8],
-    y: Layout,
+    sys: &System<'_>,
     b: Allocation,
     known: Place,
     from: u64,
     to: u64,
 ) -> Place
-    requires { Laid y × ((length vol.old ≡ y.len) × (Apart y × ((number_of (stream_of y vol.old b) ≡ 0) × ((to ≤ b.count * y.size) × Known y vol.old b known from)))) }
-    ensures { (vol.new ≡ store_at y vol.old (clusters_in y vol.old b) from (replicate (to - from) 0)) × (result ≡ zeroed_place y vol.old b known from to) }
+    requires { (length vol.old ≡ sys.now.y.len) × ((number_of (stream_of sys.now.y vol.old b) ≡ 0) × ((to ≤ b.count * sys.now.y.size) × Known sys.now.y vol.old b known from)) }
+    ensures { (vol.new ≡ store_at sys.now.y vol.old (clusters_in sys.now.y vol.old b) from (replicate (to - from) 0)) × (result ≡ zeroed_place sys.now.y vol.old b known from to) }
 {
     if from < to {
-        return stream::bytes::fill(vol, y, b, known, from as usize, (to - from) as usize);
+        return stream::bytes::fill(vol, sys, b, known, from as usize, (to - from) as usize);
     }
     known
 }
@@ -102,18 +100,18 @@ pub fn grown_place(b: Allocation, known: Place, a: Allocation) -> Place
 }
 
 // Adds the clusters that a stream misses for a length; then it reads, and holds the length.
-pub fn grow_to(vol: &mut [u8], map: &[u8], y: Layout, b: Allocation, len: u64, hint: u32) -> Updated
-    requires { Laid y × ((length vol.old ≡ y.len) × ((y.count ≤ 8 * length map.now) × (Apart y × ((in_heap y.count hint ≡ true) × ((number_of (stream_of y vol.old b) ≡ 0) × (length_cause y vol.old map.now b len ≡ 0)))))) }
-    ensures { let o = extend_in y vol.old map.now b (missing y b len) hint in (success result ≡ o.answer) × ((vol.new ≡ o.volume) × ((number_of (stream_of y vol.new result.allocation) ≡ 0) × (len ≤ result.allocation.count * y.size))) }
+pub fn grow_to(vol: &mut [u8], sys: &System<'_>, b: Allocation, len: u64, hint: u32) -> Updated
+    requires { (length vol.old ≡ sys.now.y.len) × ((in_heap sys.now.y.count hint ≡ true) × ((number_of (stream_of sys.now.y vol.old b) ≡ 0) × (length_cause sys.now.y vol.old sys.now.map.now b len ≡ 0))) }
+    ensures { let o = extend_in sys.now.y vol.old sys.now.map.now b (missing sys.now.y b len) hint in (success result ≡ o.answer) × ((vol.new ≡ o.volume) × ((number_of (stream_of sys.now.y vol.new result.allocation) ≡ 0) × (len ≤ result.allocation.count * sys.now.y.size))) }
 {
-    let n = missing(y, b, len);
-    write_extend::extend::grow_in(vol, map, y, b, n, hint)
+    let n = missing(sys, b, len);
+    write_extend::extend::grow_in(vol, sys, b, n, hint)
 }
 
 // Stores a set anew: its stream, both lengths, the stamp, the Archive attribute and the checksum (Rust: `record`).
 pub fn record_set(
     vol: &mut [u8],
-    y: Layout,
+    sys: &System<'_>,
     spot: Spot,
     set: &mut [u8; 608],
     b: Allocation,
@@ -121,10 +119,10 @@ pub fn record_set(
     len: u64,
     t: Stamp,
 )
-    requires { Laid y × ((length vol.old ≡ y.len) × Reaches y spot (entries_of set.old)) }
-    ensures { let s = set.old in (vol.new ≡ store_at y vol.old (spot_clusters spot) spot.at (take (32 * entries_of s) (recorded s b valid len t))) × (set.new ≡ recorded s b valid len t) }
+    requires { (length vol.old ≡ sys.now.y.len) × Reaches sys.now.y spot (entries_of set.old) }
+    ensures { let s = set.old in (vol.new ≡ store_at sys.now.y vol.old (spot_clusters spot) spot.at (take (32 * entries_of s) (recorded s b valid len t))) × (set.new ≡ recorded s b valid len t) }
 {
     let n = entries_of(set);
     entry_set::set::refreshed(set, n, b.first, b.no_fat_chain, valid, len, t);
-    write_dir::place::write_set(vol, y, spot, set, n);
+    write_dir::place::write_set(vol, sys, spot, set, n);
 }

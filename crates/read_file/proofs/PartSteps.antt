@@ -158,7 +158,7 @@ module _ (y : Layout) (d : List ℕ) (l : Laid y) (a : Allocation) (reads : numb
 
 -- ---- what is known of a file that is read
 
-module _ (y : Layout) (d s : List ℕ) (b : Allocation) (k offset : ℕ) (r : Readable y d s b k offset) where
+module _ (y : Layout) (l : Laid y) (d s : List ℕ) (b : Allocation) (k offset : ℕ) (r : Readable y d s b k offset) where
   lengths : Lengths y.count y.size s
   lengths = formed_lengths y.count y.size s r.formed
 
@@ -166,7 +166,7 @@ module _ (y : Layout) (d s : List ℕ) (b : Allocation) (k offset : ℕ) (r : Re
   valid_low = lengths.valid
 
   holds : data_length s ≤ clusters_for y.size (data_length s) * y.size
-  holds = clusters_hold y.size (omega (arith, r.laid.size_low)) (data_length s)
+  holds = clusters_hold y.size (omega (arith, l.size_low)) (data_length s)
 
   pub valid_room : valid_length s ≤ b.count * y.size
   valid_room =
@@ -178,7 +178,7 @@ module _ (y : Layout) (d s : List ℕ) (b : Allocation) (k offset : ℕ) (r : Re
       elim (ℕ_discrete (data_length s) 0) [
         | yes e ↦ omega arith
         | no e ↦
-            omega (arith, holds, r.laid.heap_in, mul-le-mul_right {m = clusters_for y.size (data_length s)} {n = y.count} y.size (lengths.room e))
+            omega (arith, holds, l.heap_in, mul-le-mul_right {m = clusters_for y.size (data_length s)} {n = y.count} y.size (lengths.room e))
       ]
 
   module _ (zeros : ℕ) where

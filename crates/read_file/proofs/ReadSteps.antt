@@ -1,13 +1,13 @@
 -- A read as the code meets its causes, and the file that it opens. Assumes nothing.
 use mathlib.Core.Path.{◌≡◌, refl, sym, ◌∙◌, ap}
-use mathlib.Core.Bool.{Bool, true, false, cond}
+use mathlib.Core.Bool.{Bool, true, cond}
 use mathlib.Core.List.{List, [], ◌∷◌}
 use Prim.Native.Nat.{ℕ, ◌*◌, ◌/◌, ◌≤◌, ◌<◌}
 use native.Mathlib.Nat.{div-lt_iff_lt-mul}
 use native.Mathlib.Omega.{arith}
 use lib.Dec.{eqb}
-use lib.ListN.{length, get_or, replicate}
-use borrow.Author.Tests.{eq-eqb, ne_eqb, eqb-true}
+use lib.ListN.{length, get_or}
+use borrow.Author.Tests.{eq-eqb, ne_eqb}
 use Rattle.tables.specs.Lists.{every}
 use Rattle.boot.specs.declared.geometry.Geometry.{Geometry}
 use Rattle.boot.specs.declared.layout.Layout.{Layout}
@@ -26,16 +26,17 @@ use Rattle.entry_set.specs.Fields.{valid_length}
 use Rattle.entry_set.specs.Sound.{well_formed}
 use Rattle.directory.specs.Directory.{root_record, directory_cause}
 use Rattle.directory.specs.Open.{file_record, set_in, file_cause}
-use Rattle.directory.specs.Internal.{OpenedFile, set_read, no_file, start_place, found_file, open_file}
+use Rattle.directory.specs.Internal.{OpenedFile, start_place, found_file, root_file, root_file_set}
 use Rattle.directory.proofs.DirectoryLaws.{clusters_along, clusters_length}
 use Rattle.directory.proofs.CursorLaws.{along_at}
 use Rattle.directory.proofs.EntryLaws.{sound_formed}
 use Rattle.directory.proofs.StartLaws.{start_read}
+use Rattle.directory.proofs.RootFileLaws.{root_opens, root-file_number, root-file_found}
 use Rattle.directory.proofs.FileLaws.{file_sound, file-reads, file_valid, file_holds, file-read}
 use Rattle.read_file.specs.declared.part.Part.{Part}
 use Rattle.read_file.specs.Part.{no_part}
 use Rattle.read_file.specs.Read.{zero_cause, read_cause, file_part, read_in, read_number, read_part}
-use Rattle.read_file.specs.Internal.{Readable, root_file, root_file_set}
+use Rattle.read_file.specs.Internal.{Readable}
 
 -- ---- the zeros
 
@@ -47,47 +48,15 @@ pub zero_tested : (z : List ℕ) (t : Bool) → (length z ≡ 0 → ⊥) → eve
 unfolding zero_cause
 zero_tested z t n e = rw (ne_eqb (length z) 0 n, e) refl
 
--- ---- the file at a slot of the root
+-- ---- the file at a slot of the root, where nothing refuses it
 
 module _ (y : Layout) (d m : List ℕ) (a : Allocation) (slot offset : ℕ) where
   abbrev causes : ℕ
   causes = first_cause (directory_cause y d a ∷ file_cause y d m a slot ∷ [])
 
-  refused_is : (n : ℕ) → n ≡ causes → (n ≡ 0 → ⊥) → no_file n ≡ root_file y d m a slot offset
-  unfolding root_file
-  refused_is n e z = rw (← e, ne_eqb n 0 z) refl
-
-  pub root_refused : (n : ℕ) → n ≡ directory_cause y d a → (n ≡ 0 → ⊥)
-      → (no_file n ≡ root_file y d m a slot offset) × (replicate 608 0 ≡ root_file_set y d a slot)
-  root_refused n e z = (
-    refused_is n (e ∙ sym (cause_met (directory_cause y d a) (file_cause y d m a slot ∷ []) (λ q. z (e ∙ q)))) z,
-    unfold root_file_set in (rw (ne_eqb (directory_cause y d a) 0 (λ q. z (e ∙ q))) refl),
-  )
-
-  pub root_opens : directory_cause y d a ≡ 0
-      → (open_file y d m a slot offset ≡ root_file y d m a slot offset) × (set_read (bytes_in y d a) slot ≡ root_file_set y d a slot)
-  root_opens e = (
-    unfold open_file root_file in
-        (rw (cause_skip (directory_cause y d a) (file_cause y d m a slot ∷ []) e ∙ cause_last (file_cause y d m a slot)) refl),
-    unfold root_file_set in (rw (eq-eqb (directory_cause y d a) 0 e) refl),
-  )
-
-  -- its number
-  pub root-file_number : (f : OpenedFile) → f ≡ root_file y d m a slot offset → f.number ≡ first_cause (directory_cause y d a ∷ file_cause y d m a slot ∷ [])
-  root-file_number f e = ap (λ (x : OpenedFile). x.number) e ∙ by (eqb causes 0) refl
-    where
-      by : (t : Bool) → eqb causes 0 ≡ t → (root_file y d m a slot offset).number ≡ causes
-      by true q = unfold root_file found_file in (rw q (sym (eqb-true causes 0 q)))
-      by false q = unfold root_file in (rw q refl)
-
-  found_is : causes ≡ 0 → root_file y d m a slot offset ≡ found_file y d a slot offset
-  unfolding root_file
-  found_is e = rw (eq-eqb causes 0 e) refl
-
-  -- the file that is found where nothing refuses it
   module _ (w : Fits y d) (f : OpenedFile) (e : f ≡ root_file y d m a slot offset) (s : List ℕ) (q : s ≡ root_file_set y d a slot) (z : f.number ≡ 0) where
     none : causes ≡ 0
-    none = sym (root-file_number f e) ∙ z
+    none = sym (root-file_number y d m a slot offset f e) ∙ z
 
     directory_none : directory_cause y d a ≡ 0
     directory_none = (cause_none (directory_cause y d a) (file_cause y d m a slot ∷ []) none).0
@@ -96,13 +65,13 @@ module _ (y : Layout) (d m : List ℕ) (a : Allocation) (slot offset : ℕ) wher
     file-none = (cause_none (file_cause y d m a slot) [] (cause_none (directory_cause y d a) (file_cause y d m a slot ∷ []) none).1).0
 
     pub found_set : s ≡ set_in y d a slot
-    found_set = q ∙ sym (root_opens directory_none).1 ∙ file-read y d m a slot file-none
+    found_set = q ∙ sym (root_opens y d m a slot offset directory_none).1 ∙ file-read y d m a slot file-none
 
     stream_is : f.stream ≡ file_record y d (set_in y d a slot)
-    stream_is = ap (λ (x : OpenedFile). x.stream) (e ∙ found_is none) ∙ (unfold found_file in refl)
+    stream_is = ap (λ (x : OpenedFile). x.stream) (e ∙ root-file_found y d m a slot offset none) ∙ (unfold found_file in refl)
 
     place_is : f.place ≡ start_place y d (file_record y d (set_in y d a slot)) (set_in y d a slot) offset
-    place_is = ap (λ (x : OpenedFile). x.place) (e ∙ found_is none) ∙ (unfold found_file in refl)
+    place_is = ap (λ (x : OpenedFile). x.place) (e ∙ root-file_found y d m a slot offset none) ∙ (unfold found_file in refl)
 
     formed : well_formed y.count y.size s ≡ true
     formed =
@@ -126,7 +95,6 @@ module _ (y : Layout) (d m : List ℕ) (a : Allocation) (slot offset : ℕ) wher
 
     pub found_readable : Readable y d s f.stream f.place.cluster offset
     found_readable = record {
-      laid = w.laid;
       long = w.long;
       formed = formed;
       stream = stream_is ∙ ap (file_record y d) (sym found_set);

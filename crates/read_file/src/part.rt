@@ -1,12 +1,11 @@
 // A part of a file's bytes: of the volume below the file's valid length, of the lent zeros from there to its length.
 ghost use Rattle.std.specs.Prelude.{◌≡◌, true, false, ◌+◌, ◌*◌, ◌/◌, ◌≤◌, ◌<◌, length, get_or};
-ghost use Rattle.boot.specs.Internal.{Laid};
 ghost use Rattle.stream.specs.Stream.{number_of, stream_of, clusters_in};
 ghost use Rattle.read_file.specs.Part.{no_part, stored_part, zero_part, part_bytes, part_place, Inside};
 ghost use Rattle.read_file.specs.Read.{file_part};
 ghost use Rattle.read_file.specs.Internal.{Readable};
 
-use boot::layout::Layout;
+use boot::system::System;
 use stream::allocation::Allocation;
 
 // Whether a part is of the zeros, else of the volume; its first byte there; and how many bytes it has.
@@ -29,15 +28,22 @@ pub fn no_part() -> Part
 }
 
 // The part of the volume from an offset below the valid length on, whose cluster k is known. Only FAT entries of the part are read.
-fn stored_part(vol: &[u8], y: Layout, a: Allocation, k: u32, valid: usize, offset: usize) -> Part
-    requires { Laid y × ((length vol.now ≡ y.len) × ((number_of (stream_of y vol.now a) ≡ 0) × ((offset < valid) × ((valid ≤ a.count * y.size) × (k ≡ get_or (clusters_in y vol.now a) (offset / y.size) 0))))) }
-    ensures { result ≡ stored_part y (clusters_in y vol.now a) valid offset }
+fn stored_part(
+    vol: &[u8],
+    sys: &System<'_>,
+    a: Allocation,
+    k: u32,
+    valid: usize,
+    offset: usize,
+) -> Part
+    requires { (length vol.now ≡ sys.now.y.len) × ((number_of (stream_of sys.now.y vol.now a) ≡ 0) × ((offset < valid) × ((valid ≤ a.count * sys.now.y.size) × (k ≡ get_or (clusters_in sys.now.y vol.now a) (offset / sys.now.y.size) 0)))) }
+    ensures { result ≡ stored_part sys.now.y (clusters_in sys.now.y vol.now a) valid offset }
 {
-    let at = offset % y.size;
-    let n = (valid - 1) / y.size + 1 - offset / y.size;
-    let together = stream::pieces::leading(vol, y, a.no_fat_chain, k, n as u32) as usize;
-    let start = boot::layout::cluster_offset(y, k) + at;
-    let len = (valid - offset).min(together * y.size - at);
+    let at = offset % sys.y.size;
+    let n = (valid - 1) / sys.y.size + 1 - offset / sys.y.size;
+    let together = stream::pieces::leading(vol, sys, a.no_fat_chain, k, n as u32) as usize;
+    let start = sys.cluster_offset(k) + at;
+    let len = (valid - offset).min(together * sys.y.size - at);
     Part {
         zeros: false,
         start: start as u32,
@@ -61,20 +67,20 @@ fn zero_part(len: u64, zeros: usize, offset: u64) -> Part
 // The part from an offset on of the file whose set, stream and cluster there are known.
 pub fn file_part(
     vol: &[u8],
-    y: Layout,
+    sys: &System<'_>,
     b: Allocation,
     k: u32,
     set: &[u8; 608],
     zeros: usize,
     offset: u64,
 ) -> Part
-    requires { Readable y vol.now set.now b k offset }
-    ensures { result ≡ file_part y vol.now set.now zeros offset }
+    requires { Readable sys.now.y vol.now set.now b k offset }
+    ensures { result ≡ file_part sys.now.y vol.now set.now zeros offset }
 {
     let valid = entry_set::entry::valid_length(set);
     let len = entry_set::entry::data_length(set);
     if offset < valid {
-        return stored_part(vol, y, b, k, valid as usize, offset as usize);
+        return stored_part(vol, sys, b, k, valid as usize, offset as usize);
     }
     if offset < len {
         return zero_part(len, zeros, offset);

@@ -1,20 +1,16 @@
 // Reading a file back: the number alone, and the part alone (02, 2027-01).
-ghost use Rattle.std.specs.Prelude.{◌≡◌, true, ◌*◌, ◌≤◌, ◌<◌, eqb, length, replicate};
+ghost use Rattle.std.specs.Prelude.{◌≡◌, eqb, length};
 ghost use Rattle.tables.specs.Lists.{every};
-ghost use Rattle.boot.specs.Internal.{Laid, Apart};
 ghost use Rattle.std.specs.Result.{result_unwrap_or};
 ghost use Rattle.boot.specs.Causes.{number};
-ghost use Rattle.directory.specs.Internal.{file_opened};
 ghost use Rattle.directory.specs.Directory.{root_record};
 ghost use Rattle.read_file.specs.Part.{no_part, part_bytes, part_place};
 ghost use Rattle.read_file.specs.Read.{zero_cause, read_cause, read_in, read_number, read_part};
-ghost use Rattle.read_file.specs.Internal.{root_file, root_file_set};
 
 use crate::part::Part;
 use boot::cause::Cause;
 use boot::geometry::Geometry;
-use boot::layout::Layout;
-use directory::open_file::OpenFile;
+use boot::system::System;
 
 // Whether all bytes of a slice are 0. With no way out on the way, the compiler compares 16 bytes at a time.
 fn all_zero(zeros: &[u8]) -> bool
@@ -33,59 +29,34 @@ fn zero_cause(zeros: &[u8]) -> Result<(), Cause>
     Err(Cause::BadZeros)
 }
 
-// Opens the root and the file at a slot of it, and copies the file's set.
-fn open_in_root(
-    vol: &[u8],
-    map: &[u8],
-    y: Layout,
-    root: u32,
-    slot: u32,
-    offset: u64,
-    set: &mut [u8; 608],
-) -> Result<OpenFile, Cause>
-    requires { Laid y × ((length vol.now ≡ y.len) × ((y.count ≤ 8 * length map.now) × (Apart y × (set.old ≡ replicate 608 0)))) }
-    ensures { let d = vol.now in (file_opened result ≡ root_file y d map.now (root_record y d root) slot offset) × (set.new ≡ root_file_set y d (root_record y d root) slot) }
-{
-    let dir = directory::directory::root_dir(vol, map, y, root)?;
-    directory::open_file::open_file(vol, map, y, dir, slot, offset, set)
-}
-
 // What refuses a read once the limits are known to hold. It takes no offset, so that none can change it.
-fn number_in(
-    vol: &[u8],
-    map: &[u8],
-    y: Layout,
-    root: u32,
-    zeros: &[u8],
-    slot: u32,
-) -> Result<(), Cause>
-    requires { Laid y × ((length vol.now ≡ y.len) × ((y.count ≤ 8 * length map.now) × Apart y)) }
-    ensures { number result ≡ read_cause y vol.now map.now (root_record y vol.now root) zeros.now slot }
+fn number_in(vol: &[u8], sys: &System<'_>, root: u32, zeros: &[u8], slot: u32) -> Result<(), Cause>
+    requires { length vol.now ≡ sys.now.y.len }
+    ensures { number result ≡ read_cause sys.now.y vol.now sys.now.map.now (root_record sys.now.y vol.now root) zeros.now slot }
 {
     zero_cause(zeros)?;
     let mut set = [0u8; 608];
-    open_in_root(vol, map, y, root, slot, 0, &mut set)?;
+    directory::open_file::open_in_root(vol, sys, root, slot, 0, &mut set)?;
     Ok(())
 }
 
 // The part once the limits are known to hold. The walk that tests the file's chain notes the cluster of the offset.
 fn part_in(
     vol: &[u8],
-    map: &[u8],
-    y: Layout,
+    sys: &System<'_>,
     root: u32,
     zeros: &[u8],
     slot: u32,
     offset: u64,
 ) -> Result<Part, Cause>
-    requires { Laid y × ((length vol.now ≡ y.len) × ((y.count ≤ 8 * length map.now) × Apart y)) }
-    ensures { (number result ≡ read_cause y vol.now map.now (root_record y vol.now root) zeros.now slot) × (result_unwrap_or result no_part ≡ read_in y vol.now map.now (root_record y vol.now root) zeros.now slot offset) }
+    requires { length vol.now ≡ sys.now.y.len }
+    ensures { (number result ≡ read_cause sys.now.y vol.now sys.now.map.now (root_record sys.now.y vol.now root) zeros.now slot) × (result_unwrap_or result no_part ≡ read_in sys.now.y vol.now sys.now.map.now (root_record sys.now.y vol.now root) zeros.now slot offset) }
 {
     zero_cause(zeros)?;
     let mut set = [0u8; 608];
-    let f = open_in_root(vol, map, y, root, slot, offset, &mut set)?;
+    let f = directory::open_file::open_in_root(vol, sys, root, slot, offset, &mut set)?;
     let k = f.place.cluster;
-    Ok(crate::part::file_part(vol, y, f.stream, k, &set, zeros.len(), offset))
+    Ok(crate::part::file_part(vol, sys, f.stream, k, &set, zeros.len(), offset))
 }
 
 // The same behind the limits.
@@ -99,8 +70,8 @@ fn find_part(
 ) -> Result<Part, Cause>
     ensures { (number result ≡ read_number g vol.now map.now zeros.now slot) × (result_unwrap_or result no_part ≡ read_part g vol.now map.now zeros.now slot offset) }
 {
-    let y = boot::layout::admit(g, vol.len(), map)?;
-    part_in(vol, map, y, g.root_cluster, zeros, slot, offset)
+    let sys = boot::system::admit(g, vol.len(), map)?;
+    part_in(vol, &sys, g.root_cluster, zeros, slot, offset)
 }
 
 // What refuses a read of the file at a slot of the root.
@@ -113,8 +84,8 @@ pub fn read_number(
 ) -> Result<(), Cause>
     ensures { number result ≡ read_number g vol.now map.now zeros.now slot }
 {
-    let y = boot::layout::admit(g, vol.len(), map)?;
-    number_in(vol, map, y, g.root_cluster, zeros, slot)
+    let sys = boot::system::admit(g, vol.len(), map)?;
+    number_in(vol, &sys, g.root_cluster, zeros, slot)
 }
 
 // Where the bytes from an offset on of the file at a slot of the root lie, as numbers; refused, an empty part.

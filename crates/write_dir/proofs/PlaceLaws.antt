@@ -24,42 +24,6 @@ lesser_low a n r e = omega arith
 parts_room : (x one two l : ℕ) → one ≤ x → two ≤ x - one → x ≤ l → (one + (x - one) ≤ l) × (one + two + (x - one - two) ≤ l)
 parts_room x one two l a b h = (omega arith, omega arith)
 
-part_full : (x n r : ℕ) → r ≡ min x n → 0 < n - r → r ≡ x
-part_full x n r e h = omega arith
-
-part_first : (size at x one : ℕ) → one ≡ size - at → at < size → 0 < x - one → size < at + x
-part_first size at x one e i h = omega arith
-
-part_second : (size at x one two : ℕ) → one ≡ size - at → two ≡ size - 0 → at < size → 0 < x - one - two → 2 * size < at + x
-part_second size at x one two e g i h = omega arith
-
-part_before : (x one two : ℕ) → 0 < x - one - two → 0 < x - one
-part_before x one two h = omega arith
-
--- the parts of n entries in a first and a second cluster
-pub parts_reach : (size at n one two : ℕ) → at < size → one ≡ min (size - at) (32 * n)
-    → two ≡ min (size - 0) (32 * n - one)
-    → (one ≤ 32 * n) × (two ≤ 32 * n - one) × (0 < 32 * n - one → size < at + 32 * n) × (0 < 32 * n - one - two → 2 * size < at + 32 * n)
-parts_reach size at n one two i p q = (
-  lesser_low (size - at) (32 * n) one p,
-  lesser_low (size - 0) (32 * n - one) two q,
-  λ h. part_first size at (32 * n) one (part_full (size - at) (32 * n) one p h) i h,
-  λ h. part_second size at (32 * n) one two (part_full (size - at) (32 * n) one p (part_before (32 * n) one two h)) (part_full (size - 0) (32 * n - one) two q h) i h,
-)
-
-parts_sum : (x one two : ℕ) → one ≤ x → two ≤ x - one → one + two ≤ x
-parts_sum x one two a b = omega arith
-
--- and they lie in the set
-pub parts_fit : (size at n one two l : ℕ) → n ≤ 19 → l ≡ 608 → one ≡ min (size - at) (32 * n)
-    → two ≡ min (size - 0) (32 * n - one)
-    → (one + (32 * n - one) ≤ l) × (one + two + (32 * n - one - two) ≤ l) × (one + two ≤ 608)
-parts_fit size at n one two l f e p q =
-    let a = lesser_low (size - at) (32 * n) one p in
-    let b = lesser_low (size - 0) (32 * n - one) two q in
-    let r = parts_room (32 * n) one two l a b (omega (arith, f, e)) in
-    (r.0, r.1, omega (arith, f, parts_sum (32 * n) one two a b))
-
 module _ (y : Layout) where
   -- one cluster of a store
   store_part : (d : List ℕ) (k : ℕ) (ks : List ℕ) (at : ℕ) (s : List ℕ) (from n r next : ℕ) → at < y.size → from + n ≤ length s
@@ -73,6 +37,13 @@ module _ (y : Layout) where
       let u : drop (y.size - at) bs ≡ take (n - r) (drop next s) =
       q.1 ∙ drop-take r n (drop from s) (omega arith) ∙ ap (take (n - r)) (drop-drop r from s ∙ ap (λ (x : ℕ). drop x s) i) in
       store_here y d k ks at bs low ∙ ap₂ (λ (a b : List ℕ). store_at y (put_bytes y d k at a) ks 0 b) t u
+
+  -- what is stored of the first n bytes, said of all of them
+  pub stored_part : (d d' : List ℕ) (k at : ℕ) (bs : List ℕ) (n r : ℕ) → n ≤ length bs → r ≡ min (y.size - at) (length (take n bs))
+      → d' ≡ put_bytes y d k at (take r (take n bs)) → (r ≡ min (y.size - at) n) × (d' ≡ put_bytes y d k at (take r bs))
+  stored_part d d' k at bs n r h e q =
+      let l = length-take-le n bs h in
+      (omega (arith, e, l), q ∙ ap (put_bytes y d k at) (take-take r n bs (omega (arith, e, l))))
 
   -- one cluster after the other
   pub store_spot : (d d₁ d₂ d₃ : List ℕ) (spot : Spot) (s : List ℕ) (n one two three : ℕ) → Laid y → Reaches y spot n → length s ≡ 608

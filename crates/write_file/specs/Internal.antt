@@ -15,6 +15,7 @@ use Rattle.write_file.specs.declared.write.Stored.{Stored}
 use Rattle.write_file.specs.Write.{end_cause, with_data}
 
 -- what internal functions require: a volume in the limits, a directory that opens, and a hint in the heap
+-- Kept: its first facts are a System's too, but the claim's laws take it as well, with a layout and a map alone
 pub record Ready (y : Layout) (d m : List ℕ) (a : Allocation) (hint : ℕ) : Type 0 where
   pub laid : Laid y
   pub apart : Apart y

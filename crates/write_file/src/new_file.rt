@@ -1,7 +1,6 @@
 // New file: the set of an empty file stored in a directory, which grows where it must (Rust: `make_in`, no directory).
-ghost use Rattle.std.specs.Prelude.{◌≡◌, Ok, ◌*◌, ◌≤◌, length};
+ghost use Rattle.std.specs.Prelude.{◌≡◌, Ok, ◌≤◌, length};
 ghost use Rattle.tables.specs.Count.{count};
-ghost use Rattle.boot.specs.Internal.{Laid};
 ghost use Rattle.metadata.specs.Usable.{is_usable};
 ghost use Rattle.boot.specs.Causes.{number, space_cause};
 ghost use Rattle.file.specs.Outcome.{file_answer};
@@ -14,7 +13,8 @@ ghost use Rattle.write_file.specs.NewFile.{placed, new_file_in, new_file};
 
 use boot::cause::Cause;
 use boot::geometry::Geometry;
-use boot::layout::Layout;
+use boot::system::System;
+use directory::directory::OpenDirectory;
 use directory::entries::Room;
 use entry_set::stamp::Stamps;
 use file::answer::Carried;
@@ -22,15 +22,15 @@ use stream::allocation::Allocation;
 
 // Refuses n more clusters for a directory where fewer are usable. They are searched only where some are wanted, those behind its last one
 // first.
-fn space_cause(vol: &[u8], map: &[u8], y: Layout, dir: Allocation, n: u32) -> Result<(), Cause>
-    requires { Laid y × ((length vol.now ≡ y.len) × (y.count ≤ 8 * length map.now)) }
-    ensures { number result ≡ space_cause n (count (is_usable y vol.now map.now) 2 y.count) }
+fn space_cause(vol: &[u8], sys: &System<'_>, dir: Allocation, n: u32) -> Result<(), Cause>
+    requires { length vol.now ≡ sys.now.y.len }
+    ensures { number result ≡ space_cause n (count (is_usable sys.now.y vol.now sys.now.map.now) 2 sys.now.y.count) }
 {
     if n == 0 {
         return Ok(());
     }
     let next = dir.last.wrapping_add(1);
-    if choice::choice::enough(vol, map, y, next, n as u64) {
+    if choice::choice::enough(vol, sys, next, n as u64) {
         return Ok(());
     }
     Err(Cause::NoSpace)
@@ -39,20 +39,25 @@ fn space_cause(vol: &[u8], map: &[u8], y: Layout, dir: Allocation, n: u32) -> Re
 // Stores a set of n entries in a directory where there is room for it, the directory grown first (Rust: `insert`).
 fn insert(
     vol: &mut [u8],
-    map: &[u8],
-    y: Layout,
+    sys: &System<'_>,
     dir: Allocation,
     room: Room,
     set: &[u8; 608],
     n: usize,
     hint: u32,
 ) -> Carried
-    requires { Ready y vol.old map.now dir hint × ((1 ≤ n) × ((n ≤ 19) × ((room ≡ room_for y.size (bytes_in y vol.old dir) n) × (room.clusters ≤ count (is_usable y vol.old map.now) 2 y.count)))) }
-    ensures { let o = placed y (grow_by y map.now room.clusters (standing vol.old dir hint)) n set.now in (file_answer hint (Ok result) ≡ o.answer) × (vol.new ≡ o.volume) }
+    requires { Ready sys.now.y vol.old sys.now.map.now dir hint × ((1 ≤ n) × ((n ≤ 19) × ((room ≡ room_for sys.now.y.size (bytes_in sys.now.y vol.old dir) n) × (room.clusters ≤ count (is_usable sys.now.y vol.old sys.now.map.now) 2 sys.now.y.count)))) }
+    ensures { let o = placed sys.now.y (grow_by sys.now.y sys.now.map.now room.clusters (standing vol.old dir hint)) n set.now in (file_answer hint (Ok result) ≡ o.answer) × (vol.new ≡ o.volume) }
 {
-    let w = write_dir::place::grow_by(vol, map, y, dir, room.clusters, hint);
-    let spot = directory::spot::locate(vol, y, w.allocation, room.slot);
-    write_dir::place::write_set(vol, y, spot, set, n);
+    let w = write_dir::place::grow_by(vol, sys, dir, room.clusters, hint);
+    // The system is lent again, for as long as the volume is.
+    let grown = OpenDirectory {
+        vol,
+        sys: &*sys,
+        allocation: w.allocation,
+    };
+    let spot = grown.locate(room.slot);
+    write_dir::place::write_set(vol, sys, spot, set, n);
     Carried {
         slot: room.slot,
         hint: w.hint,
@@ -62,8 +67,7 @@ fn insert(
 // Makes an empty file in a directory that opens: refused by its name, its attributes or the directory's space, else its set stored.
 fn new_file_in(
     vol: &mut [u8],
-    map: &[u8],
-    y: Layout,
+    sys: &System<'_>,
     dir: Allocation,
     name: &[u16],
     attributes: u16,
@@ -71,8 +75,8 @@ fn new_file_in(
     t: Stamps,
     hint: u32,
 ) -> Result<Carried, Cause>
-    requires { Ready y vol.old map.now dir hint }
-    ensures { let o = new_file_in y vol.old map.now dir name.now attributes hash t hint in (file_answer hint result ≡ o.answer) × (vol.new ≡ o.volume) }
+    requires { Ready sys.now.y vol.old sys.now.map.now dir hint }
+    ensures { let o = new_file_in sys.now.y vol.old sys.now.map.now dir name.now attributes hash t hint in (file_answer hint result ≡ o.answer) × (vol.new ≡ o.volume) }
 {
     if !entry_set::name::name_ok(name) {
         return Err(Cause::BadName);
@@ -81,10 +85,16 @@ fn new_file_in(
         return Err(Cause::BadAttributes);
     }
     let n = 2 + entry_set::set::name_entries(name.len());
-    let room = directory::entries::free_run(vol, y, dir, n as u32);
-    space_cause(vol, map, y, dir, room.clusters)?;
+    // The system is lent again, for as long as the volume is.
+    let opened = OpenDirectory {
+        vol,
+        sys: &*sys,
+        allocation: dir,
+    };
+    let room = opened.free_run(n as u32);
+    space_cause(vol, sys, dir, room.clusters)?;
     let set = entry_set::set::new_set(name, attributes, hash, t);
-    Ok(insert(vol, map, y, dir, room, &set, n, hint))
+    Ok(insert(vol, sys, dir, room, &set, n, hint))
 }
 
 // Makes an empty file in the root (Rust: `make_in`, no directory).
@@ -100,10 +110,10 @@ pub fn make_in(
 ) -> Result<Carried, Cause>
     ensures { let o = new_file g vol.old map.now name.now attributes hash t hint in (file_answer hint result ≡ o.answer) × (vol.new ≡ o.volume) }
 {
-    let y = boot::layout::admit(g, vol.len(), map)?;
-    if !boot::layout::in_heap(y.count, hint) {
+    let sys = boot::system::admit(g, vol.len(), map)?;
+    if !boot::layout::in_heap(sys.y.count, hint) {
         return Err(Cause::OutsideHeap);
     }
-    let root = directory::directory::root_dir(vol, map, y, g.root_cluster)?;
-    new_file_in(vol, map, y, root, name, attributes, hash, t, hint)
+    let root = OpenDirectory::root_dir(vol, &sys, g.root_cluster)?.allocation;
+    new_file_in(vol, &sys, root, name, attributes, hash, t, hint)
 }

@@ -10,26 +10,22 @@ pub fat_chain-requires : goal.fat_chain-requires
 fat_chain-requires c =
     let p = c.requires in
     let a = c.args in
-    (p.0, (p.1.0, (p.1.1.0, in_heap_lem a.y.count a.first p.1.1.1.0)))
+    (p.0, in_heap_lem a.sys.now.y.count a.first p.1.0)
 
 pub returns-in_err-w : goal.returns-in_err-w
 returns-in_err-w c =
-    let p = c.requires.1.1.1 in
     let q = err_from_is_err_and c.from_residual.result c.from_residual.ensures.1 in
-    rw (q.1, q.2) (chain-not _ _ _ _ _ _ _ c.in_err-w.ensures p.0 p.1 _ (sym (cause_walk _ _ _ (cause-not0 _))) (cause-not0 _))
+    rw (q.1, q.2) (chain-not _ _ _ _ _ _ _ c.in_err-w.ensures c.requires.1.0 c.requires.1.1 _ (sym (cause_walk _ _ _ (cause-not0 _))) (cause-not0 _))
 
 pub returns-in_err-walk_cause : goal.returns-in_err-walk_cause
 returns-in_err-walk_cause c =
-    let p = c.requires.1.1.1 in
     let q = err_from_is_err_and c.from_residual-in_err-walk_cause.result c.from_residual-in_err-walk_cause.ensures.1 in
-    rw (q.1, q.2) (chain-not _ _ _ _ _ _ _ c.in_ok-w.ensures p.0 p.1 _ c.in_err-walk_cause.ensures (cause-not0 _))
+    rw (q.1, q.2) (chain-not _ _ _ _ _ _ _ c.in_ok-w.ensures c.requires.1.0 c.requires.1.1 _ c.in_err-walk_cause.ensures (cause-not0 _))
 
 pub returns-then-w : goal.returns-then-w
 returns-then-w c =
-    let p = c.requires.1.1.1 in
-    chain-done _ _ _ _ _ _ _ c.in_ok-w.ensures p.0 p.1 _ c.in_ok-walk_cause.ensures refl (cc)
+    chain-done _ _ _ _ _ _ _ c.in_ok-w.ensures c.requires.1.0 c.requires.1.1 _ c.in_ok-walk_cause.ensures refl (cc)
 
 pub returns-else-w : goal.returns-else-w
 returns-else-w c =
-    let p = c.requires.1.1.1 in
-    chain_nine _ _ _ _ _ _ _ c.in_ok-w.ensures p.0 p.1 _ c.in_ok-walk_cause.ensures refl (cc)
+    chain_nine _ _ _ _ _ _ _ c.in_ok-w.ensures c.requires.1.0 c.requires.1.1 _ c.in_ok-walk_cause.ensures refl (cc)

@@ -16,24 +16,24 @@ returns-in_err-stream_cause c =
     let a = c.args in
     let b : Allocation = record { first = a.first; last = a.first + a.n - 1; count = a.n; no_fat_chain = true } in
     let q = err_from_is_err_and c.from_residual.result c.from_residual.ensures.1 in
-    rw (q.1, q.2) (stream_not a.y a.vol.now a.map.now b a.goal _ c.in_err-stream_cause.ensures (cause-not0 _))
+    rw (q.1, q.2) (stream_not a.sys.now.y a.vol.now a.sys.now.map.now b a.goal _ c.in_err-stream_cause.ensures (cause-not0 _))
 
 pub system_cause-requires : goal.system_cause-requires
 system_cause-requires c =
     let a = c.args in
     let p = c.requires in
     let b : Allocation = record { first = a.first; last = a.first + a.n - 1; count = a.n; no_fat_chain = true } in
-    (p.0, (p.1.0, (p.1.1.0, (along_heap a.y a.vol.now b (sym c.in_ok-stream_cause.ensures), omega arith))))
+    (p.0, (along_heap a.sys.now.y a.vol.now b (sym c.in_ok-stream_cause.ensures), omega arith))
 
 pub returns-in_err-system_cause : goal.returns-in_err-system_cause
 returns-in_err-system_cause c =
     let a = c.args in
     let b : Allocation = record { first = a.first; last = a.first + a.n - 1; count = a.n; no_fat_chain = true } in
     let q = err_from_is_err_and c.from_residual-in_err-system_cause.result c.from_residual-in_err-system_cause.ensures.1 in
-    rw (q.1, q.2) (stream_system a.y a.vol.now a.map.now b a.goal (sym c.in_ok-stream_cause.ensures) _ c.in_err-system_cause.ensures (cause-not0 _))
+    rw (q.1, q.2) (stream_system a.sys.now.y a.vol.now a.sys.now.map.now b a.goal (sym c.in_ok-stream_cause.ensures) _ c.in_err-system_cause.ensures (cause-not0 _))
 
 pub returns : goal.returns
 returns c =
     let a = c.args in
     let b : Allocation = record { first = a.first; last = a.first + a.n - 1; count = a.n; no_fat_chain = true } in
-    stream_done a.y a.vol.now a.map.now b a.goal (sym c.in_ok-stream_cause.ensures) _ c.in_ok-system_cause.ensures refl _ (sym (reach_run (fat_entry a.y a.vol.now) true a.first a.goal refl))
+    stream_done a.sys.now.y a.vol.now a.sys.now.map.now b a.goal (sym c.in_ok-stream_cause.ensures) _ c.in_ok-system_cause.ensures refl _ (sym (reach_run (fat_entry a.sys.now.y a.vol.now) true a.first a.goal refl))

@@ -16,24 +16,24 @@ pub returns-then-len-eq0 : goal.returns-then-len-eq0
 returns-then-len-eq0 c =
     let p = c.requires in
     let a = c.args in
-    let z = takes_none a.y.size (data_length a.set.now) (omega (arith, p.0.size_low)) (omega arith) in
-    let e = record_none a.y a.vol.now a.set.now z in
-    rw c.empty_record.ensures (stream_none a.y a.vol.now a.map.now (file_record a.y a.vol.now a.set.now) _ e (omega (arith, ap (λ (x : Allocation). x.count) e, start_low a.y.size (valid_length a.set.now) a.offset (file_record a.y a.vol.now a.set.now).count)))
+    let z = takes_none a.sys.now.y.size (data_length a.set.now) (omega (arith, a.sys.now.laid.size_low)) (omega arith) in
+    let e = record_none a.sys.now.y a.vol.now a.set.now z in
+    rw c.empty_record.ensures (stream_none a.sys.now.y a.vol.now a.sys.now.map.now (file_record a.sys.now.y a.vol.now a.set.now) _ e (omega (arith, ap (λ (x : Allocation). x.count) e, start_low a.sys.now.y.size (valid_length a.set.now) a.offset (file_record a.sys.now.y a.vol.now a.set.now).count)))
 
 pub overflow_cast-n : goal.overflow_cast-n
 overflow_cast-n c =
     let p = c.requires in
     let a = c.args in
-    let n : c.clusters_for-n.result ≡ clusters_for a.y.size (data_length a.set.now) = (cc) in
-    let q = (formed_of a.y.count a.y.size a.set.now p.1.1.1).lengths.room (λ z. omega (arith, z)) in
-    omega (arith, n, q, p.0.count_high)
+    let n : c.clusters_for-n.result ≡ clusters_for a.sys.now.y.size (data_length a.set.now) = (cc) in
+    let q = (formed_of a.sys.now.y.count a.sys.now.y.size a.set.now p.1).lengths.room (λ z. omega (arith, z)) in
+    omega (arith, n, q, a.sys.now.laid.count_high)
 
 pub start_steps-goal-requires : goal.start_steps-goal-requires
 start_steps-goal-requires c =
     let p = c.requires in
     let a = c.args in
-    let n : c.clusters_for-n.result ≡ clusters_for a.y.size (data_length a.set.now) = (cc) in
-    (p.0, omega (arith, n, takes_some a.y.size (data_length a.set.now) (omega (arith, p.0.size_low)) (λ q. omega (arith, q))))
+    let n : c.clusters_for-n.result ≡ clusters_for a.sys.now.y.size (data_length a.set.now) = (cc) in
+    omega (arith, n, takes_some a.sys.now.y.size (data_length a.set.now) (omega (arith, a.sys.now.laid.size_low)) (λ q. omega (arith, q)))
 
 pub open_run-requires : goal.open_run-requires
 open_run-requires c =
@@ -42,11 +42,11 @@ open_run-requires c =
     let f = c.first_cluster-first in
     let k = c.clusters_for-n in
     let g = c.start_steps-goal in
-    let l = (formed_of a.y.count a.y.size a.set.now p.1.1.1).lengths in
+    let l = (formed_of a.sys.now.y.count a.sys.now.y.size a.set.now p.1).lengths in
     let z : data_length a.set.now ≢ 0 = λ q. omega (arith, q) in
-    let n : k.result ≡ clusters_for a.y.size (data_length a.set.now) = (cc) in
-    let m : 1 ≤ k.result = omega (arith, n, takes_some a.y.size (data_length a.set.now) (omega (arith, p.0.size_low)) z) in
-    (p.0, (p.1.0, (p.1.1.0, (omega (arith, n, f.ensures, l.run z (cc)), omega (arith, m, g.ensures, start_low a.y.size (valid_length a.set.now) a.offset k.result)))))
+    let n : k.result ≡ clusters_for a.sys.now.y.size (data_length a.set.now) = (cc) in
+    let m : 1 ≤ k.result = omega (arith, n, takes_some a.sys.now.y.size (data_length a.set.now) (omega (arith, a.sys.now.laid.size_low)) z) in
+    (p.0, (omega (arith, n, f.ensures, l.run z (cc)), omega (arith, m, g.ensures, start_low a.sys.now.y.size (valid_length a.set.now) a.offset k.result)))
 
 pub returns-then-no_fat_chain : goal.returns-then-no_fat_chain
 returns-then-no_fat_chain c =
@@ -55,12 +55,12 @@ returns-then-no_fat_chain c =
     let f = c.first_cluster-first in
     let k = c.clusters_for-n in
     let g = c.start_steps-goal in
-    let l = (formed_of a.y.count a.y.size a.set.now p.1.1.1).lengths in
+    let l = (formed_of a.sys.now.y.count a.sys.now.y.size a.set.now p.1).lengths in
     let z : data_length a.set.now ≢ 0 = λ q. omega (arith, q) in
-    let n : k.result ≡ clusters_for a.y.size (data_length a.set.now) = (cc) in
-    let m : 1 ≤ k.result = omega (arith, n, takes_some a.y.size (data_length a.set.now) (omega (arith, p.0.size_low)) z) in
-    let e = record_run a.y a.vol.now a.set.now f.result k.result f.ensures n m (cc) in
-    c.open_run.ensures ∙ ap₂ (λ (x : Allocation) (u : ℕ). opened_stream a.y a.vol.now a.map.now x u) e (g.ensures ∙ ap (λ (x : Allocation). start_steps a.y.size (valid_length a.set.now) a.offset x.count) e)
+    let n : k.result ≡ clusters_for a.sys.now.y.size (data_length a.set.now) = (cc) in
+    let m : 1 ≤ k.result = omega (arith, n, takes_some a.sys.now.y.size (data_length a.set.now) (omega (arith, a.sys.now.laid.size_low)) z) in
+    let e = record_run a.sys.now.y a.vol.now a.set.now f.result k.result f.ensures n m (cc) in
+    c.open_run.ensures ∙ ap₂ (λ (x : Allocation) (u : ℕ). opened_stream a.sys.now.y a.vol.now a.sys.now.map.now x u) e (g.ensures ∙ ap (λ (x : Allocation). start_steps a.sys.now.y.size (valid_length a.set.now) a.offset x.count) e)
 
 pub open_chain-requires : goal.open_chain-requires
 open_chain-requires c =
@@ -69,11 +69,11 @@ open_chain-requires c =
     let f = c.first_cluster-first in
     let k = c.clusters_for-n in
     let g = c.start_steps-goal in
-    let l = (formed_of a.y.count a.y.size a.set.now p.1.1.1).lengths in
+    let l = (formed_of a.sys.now.y.count a.sys.now.y.size a.set.now p.1).lengths in
     let z : data_length a.set.now ≢ 0 = λ q. omega (arith, q) in
-    let n : k.result ≡ clusters_for a.y.size (data_length a.set.now) = (cc) in
-    let m : 1 ≤ k.result = omega (arith, n, takes_some a.y.size (data_length a.set.now) (omega (arith, p.0.size_low)) z) in
-    (p.0, (p.1.0, (p.1.1.0, (ap (in_heap a.y.count) f.ensures ∙ l.first z, omega (arith, m, g.ensures, start_low a.y.size (valid_length a.set.now) a.offset k.result)))))
+    let n : k.result ≡ clusters_for a.sys.now.y.size (data_length a.set.now) = (cc) in
+    let m : 1 ≤ k.result = omega (arith, n, takes_some a.sys.now.y.size (data_length a.set.now) (omega (arith, a.sys.now.laid.size_low)) z) in
+    (p.0, (ap (in_heap a.sys.now.y.count) f.ensures ∙ l.first z, omega (arith, m, g.ensures, start_low a.sys.now.y.size (valid_length a.set.now) a.offset k.result)))
 
 pub returns-else-no_fat_chain : goal.returns-else-no_fat_chain
 returns-else-no_fat_chain c =
@@ -82,9 +82,9 @@ returns-else-no_fat_chain c =
     let f = c.first_cluster-first in
     let k = c.clusters_for-n in
     let g = c.start_steps-goal in
-    let l = (formed_of a.y.count a.y.size a.set.now p.1.1.1).lengths in
+    let l = (formed_of a.sys.now.y.count a.sys.now.y.size a.set.now p.1).lengths in
     let z : data_length a.set.now ≢ 0 = λ q. omega (arith, q) in
-    let n : k.result ≡ clusters_for a.y.size (data_length a.set.now) = (cc) in
-    let m : 1 ≤ k.result = omega (arith, n, takes_some a.y.size (data_length a.set.now) (omega (arith, p.0.size_low)) z) in
-    let e = record_chain a.y a.vol.now a.set.now f.result k.result f.ensures n m (cc) in
-    c.open_chain.ensures ∙ ap₂ (λ (x : Allocation) (u : ℕ). opened_stream a.y a.vol.now a.map.now x u) e (g.ensures ∙ ap (λ (x : Allocation). start_steps a.y.size (valid_length a.set.now) a.offset x.count) e)
+    let n : k.result ≡ clusters_for a.sys.now.y.size (data_length a.set.now) = (cc) in
+    let m : 1 ≤ k.result = omega (arith, n, takes_some a.sys.now.y.size (data_length a.set.now) (omega (arith, a.sys.now.laid.size_low)) z) in
+    let e = record_chain a.sys.now.y a.vol.now a.set.now f.result k.result f.ensures n m (cc) in
+    c.open_chain.ensures ∙ ap₂ (λ (x : Allocation) (u : ℕ). opened_stream a.sys.now.y a.vol.now a.sys.now.map.now x u) e (g.ensures ∙ ap (λ (x : Allocation). start_steps a.sys.now.y.size (valid_length a.set.now) a.offset x.count) e)

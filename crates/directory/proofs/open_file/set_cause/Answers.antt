@@ -1,8 +1,5 @@
-use Rattle.directory.proofs.OpenLaws.{cause_ill, cause_directory, cause_none}
+use Rattle.directory.proofs.OpenLaws.{cause_directory, cause_none}
 use Rattle.directory.proofs.open_file.set_cause.Goals as goal
-
-pub returns-then-not-well_formed : goal.returns-then-not-well_formed
-returns-then-not-well_formed c = cause_ill _ _ _ (cc)
 
 pub returns-then-is_directory : goal.returns-then-is_directory
 returns-then-is_directory c = cause_directory _ _ _ (cc) (cc)

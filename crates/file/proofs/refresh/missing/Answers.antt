@@ -4,7 +4,7 @@ use Rattle.file.proofs.refresh.missing.Goals as goal
 
 pub overflow_cast-result : goal.overflow_cast-result
 unfolding missing
-overflow_cast-result c = omega (arith, c.clusters_for.ensures, c.saturating_sub.ensures, c.requires.1)
+overflow_cast-result c = omega (arith, c.clusters_for.ensures, c.saturating_sub.ensures, c.requires)
 
 pub returns : goal.returns
 unfolding missing

@@ -9,7 +9,7 @@ use Rattle.file.proofs.refresh.zero_range.Goals as goal
 pub fill-requires : goal.fill-requires
 fill-requires c =
     let p = c.requires in
-    (p.0, (p.1.0, (along_heap _ _ _ p.1.1.1.0, (omega arith, (p.1.1.0, (p.1.1.1.1.1, omega arith))))))
+    (p.0, (along_heap _ _ _ p.1.0, (omega arith, (p.1.1.1, omega arith))))
 
 pub returns-then-from-to : goal.returns-then-from-to
 returns-then-from-to c =
@@ -17,8 +17,8 @@ returns-then-from-to c =
     let p = c.requires in
     let e = c.fill.ensures in
     let n : a.from + (a.to - a.from) - 1 ≡ a.to - 1 = omega arith in (
-      e.0 ∙ ap (λ l. store_at a.y a.vol.now l a.from (replicate (a.to - a.from) 0)) (sym (clusters_along a.y a.vol.now a.b p.1.1.1.0)),
-      e.1 ∙ ap (λ (x : ℕ). place_at a.y a.vol.now a.b (x / a.y.size)) n ∙ sym (zeroed_some _ _ _ _ _ _ (omega arith)),
+      e.0 ∙ ap (λ l. store_at a.sys.now.y a.vol.now l a.from (replicate (a.to - a.from) 0)) (sym (clusters_along a.sys.now.y a.vol.now a.b p.1.0)),
+      e.1 ∙ ap (λ (x : ℕ). place_at a.sys.now.y a.vol.now a.b (x / a.sys.now.y.size)) n ∙ sym (zeroed_some _ _ _ _ _ _ (omega arith)),
     )
 
 pub returns : goal.returns

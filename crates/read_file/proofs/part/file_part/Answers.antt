@@ -11,7 +11,7 @@ stored_part-requires c =
     let a = c.args in
     let v = c.valid_length-valid.ensures in
     let h : a.offset < valid_length a.set.now = omega (arith, v) in
-    (p.laid, (p.long, (p.reads, (omega arith, (omega (arith, v, valid_room a.y a.vol.now a.set.now a.b a.k a.offset p), p.seen h)))))
+    (p.long, (p.reads, (omega arith, (omega (arith, v, valid_room a.sys.now.y a.sys.now.laid a.vol.now a.set.now a.b a.k a.offset p), p.seen h))))
 
 pub returns-then-offset-valid : goal.returns-then-offset-valid
 returns-then-offset-valid c =
@@ -19,14 +19,14 @@ returns-then-offset-valid c =
     let a = c.args in
     let v = c.valid_length-valid.ensures in
     let h : a.offset < valid_length a.set.now = omega (arith, v) in
-    (cc) ∙ file-stored a.y a.vol.now a.set.now a.b a.k a.offset p a.zeros h
+    (cc) ∙ file-stored a.sys.now.y a.sys.now.laid a.vol.now a.set.now a.b a.k a.offset p a.zeros h
 
 pub zero_part-requires : goal.zero_part-requires
 zero_part-requires c =
     let p = c.requires in
     let a = c.args in
     let e = c.data_length-len.ensures in
-    (omega arith, omega (arith, e, length_high a.y a.vol.now a.set.now a.b a.k a.offset p, p.laid.len_high))
+    (omega arith, omega (arith, e, length_high a.sys.now.y a.sys.now.laid a.vol.now a.set.now a.b a.k a.offset p, a.sys.now.laid.len_high))
 
 pub returns-then-offset-len : goal.returns-then-offset-len
 returns-then-offset-len c =
@@ -34,7 +34,7 @@ returns-then-offset-len c =
     let a = c.args in
     let v = c.valid_length-valid.ensures in
     let e = c.data_length-len.ensures in
-    (cc) ∙ file_zeros a.y a.vol.now a.set.now a.b a.k a.offset p a.zeros (omega (arith, v)) (omega (arith, e))
+    (cc) ∙ file_zeros a.sys.now.y a.sys.now.laid a.vol.now a.set.now a.b a.k a.offset p a.zeros (omega (arith, v)) (omega (arith, e))
 
 pub returns : goal.returns
 returns c =
@@ -42,4 +42,4 @@ returns c =
     let a = c.args in
     let v = c.valid_length-valid.ensures in
     let e = c.data_length-len.ensures in
-    (cc) ∙ file_past a.y a.vol.now a.set.now a.b a.k a.offset p a.zeros (omega (arith, v)) (omega (arith, e))
+    (cc) ∙ file_past a.sys.now.y a.sys.now.laid a.vol.now a.set.now a.b a.k a.offset p a.zeros (omega (arith, v)) (omega (arith, e))

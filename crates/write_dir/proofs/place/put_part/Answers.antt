@@ -1,20 +1,25 @@
-use mathlib.Core.Path.{sym}
+use mathlib.Core.Path.{sym, ◌∙◌}
 use native.Mathlib.Omega.{arith}
-use lib.ListN.{drop}
+use lib.ListN.{length}
+use borrow.Author.Tests.{eqb-true, eqb-false}
+use Rattle.std.proofs.lemmas.List.{length-take}
 use Rattle.boot.specs.Layout.{cluster_at}
 use Rattle.boot.proofs.Apart.{in_heap_lem}
 use Rattle.boot.proofs.Clusters.{cluster_in}
 use Rattle.write_dir.proofs.PlaceLaws.{put_none}
 use Rattle.write_dir.proofs.place.put_part.Goals as goal
 
-pub returns-then-n-eq0 : goal.returns-then-n-eq0
-returns-then-n-eq0 c =
+pub returns-then-is_empty : goal.returns-then-is_empty
+returns-then-is_empty c =
     let a = c.args in
-    (omega arith, sym (put_none a.y a.vol.now a.k a.at (drop a.from a.src.now)))
+    let z = eqb-true (length a.src.now) 0 (sym c.is_empty.ensures ∙ c.if-is_empty.true) in
+    (omega (arith, z), sym (put_none a.sys.now.y a.vol.now a.k a.at a.src.now))
 
 pub put_piece-requires : goal.put_piece-requires
 unfolding cluster_at
 put_piece-requires c =
+    let a = c.args in
     let p = c.requires in
-    let h = in_heap_lem _ _ (p.1.1.1.1 (omega arith)) in
-    (p.0, (p.1.0, (h.0, (h.1, (omega (arith, cluster_in _ _ p.0 h.0 h.1), omega arith)))))
+    let z = eqb-false (length a.src.now) 0 (sym c.is_empty.ensures ∙ c.if-is_empty.false) in
+    let h = in_heap_lem _ _ (p.1.1 (omega (arith, z))) in
+    (p.0, (h.0, (h.1, omega (arith, cluster_in _ _ a.sys.now.laid h.0 h.1, length-take c.min-stored.result a.src.now))))

@@ -15,11 +15,10 @@ returns-then-not-attributes_ok c = let p = c.requires in shown_as (new_attribute
 pub name_entries-n-requires : goal.name_entries-n-requires
 name_entries-n-requires c = name_few c.args.name.now (cc)
 
-pub free_run-room-requires : goal.free_run-room-requires
-free_run-room-requires c =
+pub invariant_of-opened : goal.invariant_of-opened
+invariant_of-opened c =
     let r = c.requires in
-    let n = c.name_entries-n.ensures in
-    (r.laid, (r.long, (r.apart, (ready_reads _ _ _ _ _ r, (omega arith, omega (arith, n.1))))))
+    record { long = r.long; reads = ready_reads _ _ _ _ _ r }
 
 pub returns-in_err-space_cause : goal.returns-in_err-space_cause
 returns-in_err-space_cause c =

@@ -3,12 +3,6 @@ use native.Mathlib.Omega.{arith}
 use Rattle.write_length.proofs.SetLengthLaws.{cut-some, cut_idle}
 use Rattle.write_length.proofs.set_length.cut_to.Goals as goal
 
-pub cut_in-requires : goal.cut_in-requires
-cut_in-requires c =
-    let i = c.args in
-    let p = c.requires in
-    (p.0, (p.1.0, (p.1.1.0, (p.1.1.1.0, (omega arith, p.1.1.1.1)))))
-
 pub returns-then-keep-b : goal.returns-then-keep-b
 returns-then-keep-b c = c.cut_in.ensures ∙ cut-some _ _ _ _ (omega arith)
 

@@ -1,4 +1,0 @@
-use Rattle.directory.proofs.entries.in_use.Goals as goal
-
-pub returns : goal.returns
-returns c = cc
