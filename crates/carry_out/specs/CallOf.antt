@@ -1,12 +1,12 @@
--- The call that a kind and plain arguments give.
-use Rattle.std.specs.Prelude.{List, ℕ}
+-- What `carry_out` is given, as a call of a list.
+use Rattle.std.specs.Prelude.{ℕ}
 use Rattle.entry_set.specs.declared.stamp.Stamps.{Stamps}
 use Rattle.write.specs.Calls.{Call, New, Write, SetLength, Remove}
-use Rattle.carry_out.specs.declared.carry_out.Kind.{Kind}
+use Rattle.carry_out.specs.declared.carry_out.FileCall.{FileCall}
 
--- name, attributes, hash, slot, offset or length, data, stamps, hint: each kind takes its own
-unfoldable pub call_of : Kind → List ℕ → ℕ → ℕ → ℕ → ℕ → List ℕ → Stamps → ℕ → Call
-call_of Kind.NewFile name attributes hash slot number bs t hint = New name attributes hash t hint
-call_of Kind.Write name attributes hash slot number bs t hint = Write slot number bs t.modified hint
-call_of Kind.SetLength name attributes hash slot number bs t hint = SetLength slot number t.modified hint
-call_of Kind.Remove name attributes hash slot number bs t hint = Remove slot hint
+-- the call without stamps and hint, the stamps, the hint
+unfoldable pub call_of : FileCall → Stamps → ℕ → Call
+call_of (FileCall.NewFile name attributes hash) t hint = New name.now attributes hash t hint
+call_of (FileCall.Write slot offset bs) t hint = Write slot offset bs.now t.modified hint
+call_of (FileCall.SetLength slot len) t hint = SetLength slot len t.modified hint
+call_of (FileCall.Remove slot) t hint = Remove slot hint

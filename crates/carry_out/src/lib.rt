@@ -1,4 +1,4 @@
-// One call given by its kind: what the claim over lists calls a step.
+// One call with its arguments: what the claim over lists calls a step.
 #![tactic(auto)]
 
 pub mod carry_out;

@@ -1,13 +1,13 @@
 // The calls: each on a volume as the Rust had it, its answer and all that it left held against the Rust's.
-ghost use Rattle.sample_run.specs.declared.row.TheConstants.{UNITS, VOLUME, WORDS};
-ghost use Rattle.std.specs.Prelude.{◌≤◌, length};
+ghost use Rattle.sample_run.specs.declared.row.TheConstants.{VOLUME, WORDS};
+ghost use Rattle.std.specs.Prelude.{◌≡◌, ◌≤◌, length, take, bytes_eq};
 
 use crate::row::{
     DATA, GEOMETRY, MAP, NAME, Row, UNITS, VOLUME, WORDS, ends_of, of_file, of_stream,
 };
 use boot::cause::{Cause, number};
 use boot::geometry::{GEOMETRY_WORDS, Geometry, geometry_of};
-use carry_out::carry_out::{Kind as FileCall, carry_out};
+use carry_out::carry_out::{FileCall, carry_out};
 use file::answer::Carried;
 use metadata::free::free_clusters;
 use primitives::words::{put_u32, u16_at, u32_at};
@@ -30,13 +30,22 @@ enum StreamCall {
     Shrink,
 }
 
+// The calls that change files, without their arguments.
+#[derive(Clone, Copy)]
+enum FileKind {
+    NewFile,
+    Write,
+    SetLength,
+    Remove,
+}
+
 // The kinds of calls.
 #[derive(Clone, Copy)]
 enum Kind {
     FreeCount,
     Clusters,
     Stream(StreamCall),
-    File(FileCall),
+    File(FileKind),
 }
 
 // The name of each kind, by its number.
@@ -46,24 +55,37 @@ const KINDS: [(&str, Kind); 9] = [
     ("allocate", Kind::Stream(StreamCall::Allocate)),
     ("extend", Kind::Stream(StreamCall::Extend)),
     ("shrink", Kind::Stream(StreamCall::Shrink)),
-    ("new file", Kind::File(FileCall::NewFile)),
-    ("write", Kind::File(FileCall::Write)),
-    ("set length", Kind::File(FileCall::SetLength)),
-    ("remove", Kind::File(FileCall::Remove)),
+    ("new file", Kind::File(FileKind::NewFile)),
+    ("write", Kind::File(FileKind::Write)),
+    ("set length", Kind::File(FileKind::SetLength)),
+    ("remove", Kind::File(FileKind::Remove)),
 ];
 
 // A call: the kind's name, the row with what the Rust answered and left, and what the row gives the call. The volume ends at byte `end`.
 #[derive(Clone, Copy)]
 struct Call<'a> {
-    name: &'static str,
+    kind_name: &'static str,
     row: &'a Row,
     end: usize,
     map: &'a [u8],
+    name: &'a [u16],
     data: &'a [u8],
-    units: usize,
     geometry: Geometry,
     ghost volume_in_row: { (VOLUME ≤ end) × (end ≤ WORDS) },
-    ghost name_in_row: { units ≤ UNITS },
+}
+
+// Whether two rows begin with the same n bytes.
+// Kept: on the interpreter, `==` of the two slices would take most of the program's time, and a closure over the indices no less.
+fn same(a: &Row, b: &Row, n: usize) -> bool
+    requires { n ≤ WORDS }
+    ensures { result ≡ bytes_eq (take n a.now) (take n b.now) }
+{
+    for i in 0..n {
+        if a[i] != b[i] {
+            return false;
+        }
+    }
+    true
 }
 
 impl Call<'_> {
@@ -80,11 +102,14 @@ impl Call<'_> {
         let volume = u32_at(row, WORDS);
         let call = u32_at(row, WORDS + 4);
         let number = u32_at(&got, 0);
-        let same = got[..self.end] == row[..self.end];
-        let verdict = if same { "agrees" } else { "DIFFERS" };
+        let verdict = if same(&got, row, self.end) {
+            "agrees"
+        } else {
+            "DIFFERS"
+        };
         let _ = println!(to;
             "volume {volume} call {call} {}{way}: {number} {verdict}",
-            self.name
+            self.kind_name
         );
     }
 
@@ -113,6 +138,7 @@ impl Call<'_> {
         let x = of_stream(self.row);
         let s = x.record;
         // what the call gives, and the record that it is given, which is the answer's where it is refused
+        // Kept: a match here and below, since each case calls another function with other arguments.
         let (r, allocation) = match call {
             StreamCall::Allocate => {
                 let near = if s.no_fat_chain { Some(s.first) } else { None };
@@ -151,54 +177,58 @@ impl Call<'_> {
         self.line(to, way, left, &[number(&r), x.slot, x.hint]);
     }
 
-    // A call on files, made twice: by the library's function for it, and by carry_out, which gets values other than 0 for what the kind does
-    // not read.
-    fn on_file(&self, to: &impl Print, before: &Row, call: FileCall) {
-        let row = self.row;
-        let mut units = [0u16; UNITS];
-        for (i, unit) in units[..self.units].iter_mut().enumerate() {
-            *unit = u16_at(row, NAME + 2 * i);
-        }
-        let (name, data): (&[u16], &[u8]) = match call {
-            FileCall::NewFile => (&units[..self.units], b"not read"),
-            FileCall::Write => (&[88; 3], self.data),
-            FileCall::SetLength | FileCall::Remove => (&[88; 3], b"not read"),
-        };
+    // A call on files, made twice: by the library's function for it, and by carry_out.
+    fn on_file(&self, to: &impl Print, before: &Row, kind: FileKind) {
+        let name = self.name;
+        let data = self.data;
         let map = self.map;
         let g = self.geometry;
-        let x = of_file(row);
+        let x = of_file(self.row);
+        let slot = x.slot;
         let t = x.stamps;
+        let hint = x.hint;
         let mut left = *before;
         let vol = &mut left[VOLUME..self.end];
-        let r = match call {
-            FileCall::NewFile => make_in(vol, map, g, name, x.attributes, x.hash, t, x.hint),
-            FileCall::Write => write_into(vol, map, g, x.slot, x.number, data, t.modified, x.hint),
-            FileCall::SetLength => set_length(vol, map, g, x.slot, x.number, t.modified, x.hint),
-            FileCall::Remove => remove(vol, map, g, x.slot, x.hint),
+        // what the library's function gives, and the call for carry_out
+        let (r, call) = match kind {
+            FileKind::NewFile => {
+                let attributes = x.attributes;
+                let hash = x.hash;
+                let r = make_in(vol, map, g, name, attributes, hash, t, hint);
+                (
+                    r,
+                    FileCall::NewFile {
+                        name,
+                        attributes,
+                        hash,
+                    },
+                )
+            }
+            FileKind::Write => {
+                let offset = x.number;
+                let r = write_into(vol, map, g, slot, offset, data, t.modified, hint);
+                (r, FileCall::Write { slot, offset, data })
+            }
+            FileKind::SetLength => {
+                let len = x.number;
+                let r = set_length(vol, map, g, slot, len, t.modified, hint);
+                (r, FileCall::SetLength { slot, len })
+            }
+            FileKind::Remove => {
+                let r = remove(vol, map, g, slot, hint);
+                (r, FileCall::Remove { slot })
+            }
         };
-        self.file_line(to, "", &left, x.hint, r);
+        self.file_line(to, "", &left, hint, r);
         left = *before;
-        let r = carry_out(
-            &mut left[VOLUME..self.end],
-            map,
-            g,
-            call,
-            name,
-            x.attributes,
-            x.hash,
-            x.slot,
-            x.number,
-            data,
-            t,
-            x.hint,
-        );
-        self.file_line(to, " by carry_out", &left, x.hint, r);
+        let r = carry_out(&mut left[VOLUME..self.end], map, g, call, t, hint);
+        self.file_line(to, " by carry_out", &left, hint, r);
     }
 }
 
 // The call that a row asks for; no line where it is of no kind, or one of its slices is longer than there is room for.
 pub fn replay(to: &impl Print, before: &Row, row: &Row) {
-    let Some(&(name, kind)) = KINDS.get(u32_at(row, WORDS + 8) as usize) else {
+    let Some(&(kind_name, kind)) = KINDS.get(u32_at(row, WORDS + 8) as usize) else {
         return;
     };
     let x = ends_of(row);
@@ -207,13 +237,17 @@ pub fn replay(to: &impl Print, before: &Row, row: &Row) {
         for (i, word) in words.iter_mut().enumerate() {
             *word = u32_at(row, GEOMETRY + 4 * i);
         }
+        let mut units = [0u16; UNITS];
+        for (i, unit) in units[..x.units].iter_mut().enumerate() {
+            *unit = u16_at(row, NAME + 2 * i);
+        }
         let call = Call {
-            name,
+            kind_name,
             row,
             end: x.volume,
             map: &row[MAP..x.map],
+            name: &units[..x.units],
             data: &row[DATA..x.data],
-            units: x.units,
             geometry: geometry_of(&words),
         };
         match kind {

@@ -22,7 +22,7 @@ pub fn all(to: &impl Print) {
     for (k, entry) in [END, 5, 9, 0, 0, 0, END].iter().enumerate() {
         put_u32(&mut vol, 12300 + 4 * k, *entry);
     }
-    copy_in(&mut vol, 16896, set, 0, set.len());
+    copy_in(&mut vol, 16896, set);
     let zeros = [0u8; 100];
     let mut spoiled = [0u8; 100];
     spoiled[99] = 1;

@@ -166,9 +166,9 @@ fn new_length(to: &impl Print, name: &str, len: u64) {
     let mut vol = [0u8; 24576];
     vol[16384] = 0x0F;
     put_u32(&mut vol, 12300, END);
-    copy_in(&mut vol, 16896, set, 0, set.len());
-    copy_in(&mut vol, 17408, &[0xA5; 700], 0, 700);
-    copy_in(&mut vol, 18108, &[0xB5; 836], 0, 836);
+    copy_in(&mut vol, 16896, set);
+    copy_in(&mut vol, 17408, &[0xA5; 700]);
+    copy_in(&mut vol, 18108, &[0xB5; 836]);
     let given = Stamp {
         value: 0x5B65_A80F,
         increment: 150,

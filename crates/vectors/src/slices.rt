@@ -16,7 +16,7 @@ fn copies(to: &impl Print) {
     ] {
         let mut dst = [0xEEu8; 16];
         if n <= 12 && from <= 12 - n && at <= 16 - n {
-            copy_in(&mut dst, at, &src, from, n);
+            copy_in(&mut dst, at, &src[from..from + n]);
         }
         let _ = print!(to; "copy {at} {from} {n} ");
         out::bytes(to, &dst);
