@@ -7,7 +7,7 @@ settles. So `result ≡ result` and `result ≡ f result` say nothing, and an eq
 is settled by two: its bytes and where they lie. `main` is left out. A public call (one of the calls of 01 and 02, listed here, or a
 function that is exported to C) has no `requires`, and each of its equations cites the definition that is named for it here, applied to
 every argument of the call. An equation for a map that shows different results differently, listed here, settles the result; one for every
-number settles what it speaks of; `MatchOption` settles an option that it settles case by case, `IfOk` what is returned. Contracts that are
+number settles what it speaks of; `MatchOption` and `MatchResult` settle what they settle case by case, `IfOk` what is returned. Contracts that are
 wrong on purpose are tried first.
 """
 
@@ -191,6 +191,8 @@ def claims_of(term):
         return [c for part in parted(term, "×") for c in claims_of(part)]
     if term[0] == "MatchOption" and len(term) == 4 and isinstance(term[3], list) and term[3][0] == "λ" and term[3][1].endswith("."):
         return [("cases", bare(term[1]), claims_of([term[2]]), term[3][1][:-1], claims_of(term[3][2:]))]
+    if term[0] == "MatchResult" and len(term) == 4 and all(isinstance(t, list) and t[0] == "λ" and t[1].endswith(".") for t in term[2:]):
+        return [("each", bare(term[1]), [(t[1][:-1], claims_of(t[2:])) for t in term[2:]])]
     if term[0] == "IfOk" and len(term) == 3 and isinstance(term[2], list) and term[2][0] == "λ" and term[2][1].endswith("."):
         return [("returned", bare(term[1]), term[2][1][:-1], claims_of(term[2][2:]))]
     sides = parted(term, "≡")
@@ -252,6 +254,12 @@ def gives(term, result):
     return found
 
 
+def given_by(kind):
+    """The types in an option or a result, and None for what is neither."""
+    m = re.fullmatch(r"(?:Option|Result)<(.*?)(?:, (\w+))?>", kind or "")
+    return (m[1], m[2]) if m else (None, None)
+
+
 def settled(path, told, kind, structs):
     """Whether a path is settled: by an equation for it or for a whole that it is part of, or by one for each of its fields."""
     if any(path[:n] in told for n in range(1, len(path) + 1)):
@@ -260,7 +268,7 @@ def settled(path, told, kind, structs):
         return all(path + part in told for part in LENT)
     if all(path + (full,) in told for full in SHOWN_TOGETHER):
         return True
-    fields = structs.get(kind)
+    fields = structs.get(re.sub(r"<'\w+>$", "", kind) if kind else kind)
     return bool(fields) and all(settled(path + ("." + f,), told, t, structs) for f, t in fields)
 
 
@@ -272,6 +280,12 @@ def told_by(claims, result, kind, structs, uses):
             none = told_by(claim[2], None, None, structs, uses)
             some = told_by(claim[4], claim[3], None, structs, uses)
             told |= {path for path in some if path == ("result",) or path in none}
+            if settled(("result",), some, given_by(kind)[0], structs):
+                told.add(("result",))
+        if claim[0] == "each" and claim[1] == result:
+            parts = zip(claim[2], given_by(kind))
+            if all(settled(("result",), told_by(claims, name, None, structs, uses), one, structs) for (name, claims), one in parts):
+                told.add(("result",))
         if claim[0] == "returned" and claim[1] == result and ("result",) in told_by(claim[3], claim[2], None, structs, uses):
             told.add(("result", SHOWN_TOGETHER[1]))
     while True:
@@ -298,10 +312,11 @@ def applied(term, name):
 
 
 def structs_of(texts):
-    """The fields of each struct, by its name."""
+    """The fields of each struct, by its name, without the ghost fields, which hold no value."""
     found = {}
     for text in texts:
-        for name, body in re.findall(r"\bstruct (\w+)\s*\{([^}]*)\}", text):
+        for name, body in re.findall(r"\bstruct (\w+)(?:<'\w+>)?\s*\{((?:[^{}]|\{[^}]*\})*)\}", text):
+            body = re.sub(r"(?:pub )?ghost \w+: \{[^}]*\}", "", body)
             found[name] = re.findall(r"(?:pub )?(\w+): ([^,\n]+)", body)
     return found
 
@@ -415,7 +430,7 @@ def text_faults(path, text, structs, calls):
 
 # ---- contracts that are wrong on purpose: what each must be reported for
 
-USES = "ghost use Rattle.c.specs.D.{right};\nghost use Rattle.c.specs.E.{other};\nghost use Rattle.boot.specs.Causes.{number};\nghost use Rattle.std.specs.Result.{result_unwrap_or};\nghost use Rattle.file.specs.Outcome.{file_answer};\npub struct Pair {\n    pub a: u32,\n    pub b: u32,\n}\n"
+USES = "ghost use Rattle.c.specs.D.{right};\nghost use Rattle.c.specs.E.{other};\nghost use Rattle.boot.specs.Causes.{number};\nghost use Rattle.std.specs.Result.{result_unwrap_or};\nghost use Rattle.file.specs.Outcome.{file_answer};\npub struct Pair {\n    pub a: u32,\n    pub b: u32,\n}\npub struct View<'a> {\n    pub all: &'a [u8],\n    pub ghost long: { 1 ≤ length all.now },\n}\n"
 CALLS = {"c::f": "c.specs.D.right"}
 BAD = [
     ("fn h(x: u32) -> u32 ensures { result ≡ result } {", "same text on both sides"),
@@ -455,6 +470,10 @@ BAD = [
     ("fn h(x: u32) -> Option<u32> ensures { MatchOption result (x ≡ 0) (λ p. p ≤ x) } {", "what its result equals"),
     ("fn h(&mut self) -> Option<u32> ensures { MatchOption result (self.old ≡ 0) (λ p. (p ≡ right self.old) × (self.new ≡ 0)) } {", "what `self` equals"),
     ("fn h(&mut self) ensures { right self.old ≡ 0 } {", "what `self` equals"),
+    ("fn h(x: u32) -> Option<Pair> ensures { MatchOption result (x ≡ 0) (λ p. p.a ≡ right x) } {", "what its result equals"),
+    ("fn h(x: u32) -> Result<Pair, Cause> ensures { MatchResult result (λ p. p.a ≡ right x) (λ e. e ≡ other x) } {", "what its result equals"),
+    ("fn h(x: u32) -> Result<Pair, Cause> ensures { MatchResult result (λ p. p ≡ right x) (λ e. x ≡ 0) } {", "what its result equals"),
+    ("fn h(v: &[u8]) -> Result<View<'_>, Cause> ensures { MatchResult result (λ p. p.all.now ≡ v.now) (λ e. e ≡ other v) } {", "what its result equals"),
     ("pub fn f(x: u32, y: u32) -> Result<Pair, Cause> ensures { file_answer y result ≡ right x } {", "does not cite `right`"),
     ('pub extern "C" fn e(x: u32) -> u32 ensures { result ≡ right x } {', "no public call for it"),
 ]
@@ -466,6 +485,8 @@ GOOD = [
     "fn h(x: u32) -> Result<Pair, Cause> ensures { (number result ≡ right x) × IfOk result (λ p. p ≡ right x) } {",
     "fn h(x: u32) -> Result<Pair, Cause> ensures { ((n : ℕ) → let o = right x n in file_answer n result ≡ o) × other x } {",
     "fn h(&mut self) -> Option<u32> ensures { MatchOption result ((self.old ≡ 0) × (self.new ≡ self.old)) (λ p. (p ≡ right self.old) × (self.new ≡ 0)) } {",
+    "fn h(x: u32) -> Option<Pair> ensures { MatchOption result (x ≡ 0) (λ p. (p.a ≡ right x) × (p.b ≡ x)) } {",
+    "fn h(v: &[u8]) -> Result<View<'_>, Cause> ensures { MatchResult result (λ p. (p.all.now ≡ v.now) × (p.all.ref_ptr ≡ v.entry.ref_ptr)) (λ e. e ≡ other v) } {",
     "fn h(x: u32) -> Pair ensures a { result.a ≡ right x } ensures b { other x result.a ≡ result.b } {",
     "fn h(x: u32) -> Pair ensures { (other x result.a ≡ result.b) × (result.a ≡ right x) } {",
     "pub fn f(v: &mut [u8]) -> u32 ensures { (let o = right v.old in (result ≡ o.a) × (v.new ≡ o.b)) } {",
