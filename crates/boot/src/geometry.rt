@@ -89,7 +89,7 @@ impl Shaped {
     pub fn in_clusters(self, n: u32) -> u64
         ensures { (result ≡ n * cluster_size self.g) × (result ≤ 32768 * n) }
     {
-        n as u64 * self.cluster_size()
+        u64::from(n) * self.cluster_size()
     }
 
     // Clusters of one bitmap.
@@ -97,7 +97,7 @@ impl Shaped {
         ensures { (result ≡ bitmap_clusters self.g) × (result ≤ 65536) }
     {
         let size = self.cluster_size();
-        let bytes = (self.g.cluster_count as u64 + 7) / 8;
+        let bytes = (u64::from(self.g.cluster_count) + 7) / 8;
         ((bytes + (size - 1)) / size) as u32
     }
 
@@ -106,10 +106,10 @@ impl Shaped {
     fn room_ok(self, len: usize) -> bool
         ensures { result ≡ all (room_tests self.g len) }
     {
-        let fats = self.g.number_of_fats as u64 * self.g.fat_length as u64;
-        4 * (self.g.cluster_count as u64 + 2) <= self.in_sectors(self.g.fat_length as u64)
-            && self.g.fat_offset as u64 + fats <= self.g.cluster_heap_offset as u64
-            && self.in_sectors(self.g.cluster_heap_offset as u64)
+        let fats = u64::from(self.g.number_of_fats) * u64::from(self.g.fat_length);
+        4 * (u64::from(self.g.cluster_count) + 2) <= self.in_sectors(u64::from(self.g.fat_length))
+            && u64::from(self.g.fat_offset) + fats <= u64::from(self.g.cluster_heap_offset)
+            && self.in_sectors(u64::from(self.g.cluster_heap_offset))
                 + self.in_clusters(self.g.cluster_count)
                 <= len as u64
             && len <= 16777216
@@ -186,7 +186,7 @@ fn runs_apart(a: u32, b: u32, n: u32) -> bool
     requires { n ≤ 65536 }
     ensures { result ≡ apart a b n }
 {
-    let (a, b, n) = (a as u64, b as u64, n as u64);
+    let (a, b, n) = (u64::from(a), u64::from(b), u64::from(n));
     a + n <= b || b + n <= a
 }
 

@@ -31,7 +31,7 @@ fn fats(i: u32, n: u32) -> u64
     requires { i < 2 }
     ensures { (result ≡ i * n) × (result ≤ n) }
 {
-    i as u64 * n as u64
+    u64::from(i) * u64::from(n)
 }
 
 // The first cluster of FAT i's bitmap.
@@ -48,7 +48,7 @@ impl Shaped {
         requires { i < 2 }
         ensures { result ≡ fat_start self.g i }
     {
-        self.in_sectors(self.g.fat_offset as u64 + fats(i, self.g.fat_length)) as usize
+        self.in_sectors(u64::from(self.g.fat_offset) + fats(i, self.g.fat_length)) as usize
     }
 
     // The first byte of cluster k.
@@ -56,7 +56,7 @@ impl Shaped {
         requires { 2 ≤ k }
         ensures { result ≡ cluster_start self.g k }
     {
-        (self.in_sectors(self.g.cluster_heap_offset as u64) + self.in_clusters(k - 2)) as usize
+        (self.in_sectors(u64::from(self.g.cluster_heap_offset)) + self.in_clusters(k - 2)) as usize
     }
 
     // The layout in a volume of len bytes.

@@ -3,11 +3,11 @@ use mathlib.Core.Path.{◌≡◌, refl, sym, ◌∙◌, ap}
 use mathlib.Core.Bool.{Bool, true, false, false≢true}
 use mathlib.Core.List.{List, [], ◌∷◌}
 use Prim.Native.Nat.{ℕ, zero, suc, ◌+◌, ◌-◌, ◌≤◌, ◌<◌}
-use native.Mathlib.Decide.{ℕ_discrete, dec_lt}
+use native.Mathlib.Decide.{ℕ_discrete}
 use native.Mathlib.Omega.{arith}
-use Rattle.tables.specs.Count.{count, keep}
+use Rattle.std.specs.Prelude.{Option, Some, None, unwrap_or, MatchOption}
+use Rattle.tables.specs.Count.{keep}
 use Rattle.tables.proofs.Cases.{not_so}
-use Rattle.tables.proofs.CountLaws.{count_none, count-beyond}
 use Rattle.search.specs.Search.{fewest}
 use Rattle.search.proofs.Lowest.{fewest_bounds, fewest_before, fewest_at}
 use Rattle.choice.specs.Choice.{around}
@@ -36,6 +36,10 @@ module _ (u : ℕ → Bool) where
   none_before : (s n b : ℕ) → s ≤ b → b < fewest u n s → u b ≡ true → ⊥
   none_before s n b l h t = false≢true (sym (fewest_before u n s b l h) ∙ t)
 
+  -- none passes where the search finds none
+  keep-unfound : (s n : ℕ) → fewest u n s ≡ s + n → keep u s n ≡ []
+  keep-unfound s n e = keep-nil s n (λ b l h. none_before s n b l (omega arith))
+
   head : (s n k : ℕ) → k ≡ fewest u n s → k < s + n → (l : List ℕ) × (keep u s n ≡ k ∷ l)
   head s n k e h =
       let b = fewest_bounds u n s in
@@ -47,29 +51,10 @@ module _ (u : ℕ → Bool) where
     unfolding first_usable around
     first_after k e h = let r = head start (C + 2 - start) k e (omega arith) in rw r.1 refl
 
-    -- none there, one before it
-    pub first_before : (end k : ℕ) → end ≡ fewest u (C + 2 - start) start → C + 2 ≤ end → k ≡ fewest u (start - 2) 2 → 1 ≤ count u 2 C
-        → first_usable u C start ≡ k
+    -- none there: what the search before it finds, 0 where that finds none either
+    pub first_before : fewest u (C + 2 - start) start ≡ start + (C + 2 - start) → (o : Option ℕ)
+        → MatchOption o (fewest u (start - 2) 2 ≡ 2 + (start - 2)) (λ k. (k ≡ fewest u (start - 2) 2) × ((2 ≤ k) × (k < 2 + (start - 2))))
+        → first_usable u C start ≡ unwrap_or o 0
     unfolding first_usable around
-    first_before end k e f g c =
-        let z : keep u start (C + 2 - start) ≡ [] = keep-nil start (C + 2 - start) (λ b l h. none_before start (C + 2 - start) b l (omega arith)) in
-        let r = head 2 (start - 2) k g (omega (arith, below)) in
-        rw (z, r.1) refl
-      where
-        -- if none were there either, none would be counted
-        below : k < start
-        below =
-            elim (dec_lt k start) [
-              | yes h ↦ h
-              | no h ↦ absurd (omega (arith, count-beyond u 2 (C + 2) (C + 2) (omega arith) (omega arith) (λ j l b. not_so (u j) (none h j l b)), count_none u (C + 2) (C + 2 - (C + 2)) (omega arith), ap (count u 2) (same C)))
-            ]
-          where
-            same : (C : ℕ) → C + 2 - 2 ≡ C
-            same C = omega arith
-
-            none : (k < start → ⊥) → (j : ℕ) → 2 ≤ j → j < C + 2 → u j ≡ true → ⊥
-            none h j l b =
-                elim (dec_lt j start) [
-                  | yes w ↦ none_before 2 (start - 2) j l (omega arith)
-                  | no w ↦ none_before start (C + 2 - start) j (omega arith) (omega arith)
-                ]
+    first_before e (Some k) f = let r = head 2 (start - 2) k f.0 f.1.1 in rw (keep-unfound start (C + 2 - start) e, r.1) refl
+    first_before e None f = rw (keep-unfound start (C + 2 - start) e, keep-unfound 2 (start - 2) f) refl

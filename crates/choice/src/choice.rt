@@ -91,10 +91,9 @@ fn counts_to(vol: &[u8], sys: &System<'_>, n: u64) -> bool
     let end = sys.y.count + 2;
     let mut k: u32 = 2;
     for _ in 0..n {
-        let next = metadata::usable::next_usable(vol, sys, k, end - k);
-        if next == end {
+        let Some(next) = metadata::usable::next_usable(vol, sys, k, end - k) else {
             return false;
-        }
+        };
         k = next + 1;
     }
     true
@@ -149,10 +148,8 @@ pub fn first_usable(vol: &[u8], sys: &System<'_>, start: u32) -> u32
     requires { (length vol.now ≡ sys.now.y.len) × ((2 ≤ start) × ((start < sys.now.y.count + 2) × (1 ≤ count (is_usable sys.now.y vol.now sys.now.map.now) 2 sys.now.y.count))) }
     ensures { result ≡ first_usable (is_usable sys.now.y vol.now sys.now.map.now) sys.now.y.count start }
 {
-    let end = sys.y.count + 2;
-    let after = metadata::usable::next_usable(vol, sys, start, end - start);
-    if after < end {
-        return after;
+    if let Some(k) = metadata::usable::next_usable(vol, sys, start, sys.y.count + 2 - start) {
+        return k;
     }
-    metadata::usable::next_usable(vol, sys, 2, start - 2)
+    metadata::usable::next_usable(vol, sys, 2, start - 2).unwrap_or(0)
 }

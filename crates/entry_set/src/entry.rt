@@ -56,6 +56,7 @@ pub fn valid_length(set: &[u8; 608]) -> u64
 }
 
 // The stream's first cluster, 0 where it is empty.
+// Kept: the standard stores 0 there.
 pub fn first_cluster(set: &[u8; 608]) -> u32
     ensures { result ≡ first_cluster set.now }
 {

@@ -1,4 +1,5 @@
 // A set built, changed and unset in an array of 608 bytes, before anything is stored.
+// Kept: the array is one for sets of any size, and n, here and where a set is copied or stored, counts its entries.
 ghost use Rattle.std.specs.Prelude.{◌≡◌, ◌+◌, ◌≤◌, ◌<◌, length};
 ghost use Rattle.entry_set.specs.Fields.{name_entries};
 ghost use Rattle.entry_set.specs.Put.{put_stamp, put_modified, put_accessed, put_stream, archived, sealed, refreshed, cleared};

@@ -19,7 +19,7 @@ pub struct Stamps {
 }
 
 // The stamp whose 6 bytes stand from byte `at` on: the value low byte first, the increment, the offset.
-// Kept: callers hold the bytes inside longer arrays, and From would have each of them cut out an array of its own first.
+// Kept: a new file's three stamps stand one behind the other, and a row of the sample holds more; From of six bytes would have each cut out.
 pub fn stamp_at(bytes: &[u8], at: usize) -> Stamp
     requires { at + 6 ≤ length bytes.now }
     ensures { result ≡ stamp_at bytes.now at }

@@ -74,6 +74,7 @@ pub fn free_count(vol: &[u8], sys: &System<'_>) -> u32
 }
 
 // The first of the n clusters from k that is not marked; k + n where there is none. Bytes of marks alone are passed at once.
+// Kept: k + n is where a search goes on, which the callers count with.
 pub fn first_unmarked(vol: &[u8], sys: &System<'_>, k: u32, n: u32) -> u32
     requires { (length vol.now ≡ sys.now.y.len) × ((2 ≤ k) × (k + n ≤ sys.now.y.count + 2)) }
     ensures { (result ≡ first_unmarked sys.now.y vol.now k n) × ((k ≤ result) × (result ≤ k + n)) }

@@ -1,5 +1,5 @@
 // Which clusters may be taken: unmarked, not in the system map and not bad.
-ghost use Rattle.std.specs.Prelude.{◌≡◌, ◌+◌, ◌*◌, ◌≤◌, ◌<◌, length};
+ghost use Rattle.std.specs.Prelude.{◌≡◌, ◌+◌, ◌*◌, ◌≤◌, ◌<◌, length, MatchOption};
 ghost use Rattle.metadata.specs.Fat.{fat_entry};
 ghost use Rattle.metadata.specs.Internal.{entry_of, first_bad, none_refused};
 ghost use Rattle.search.specs.Search.{all_from, fewest};
@@ -45,10 +45,10 @@ pub fn usable(vol: &[u8], sys: &System<'_>, k: u32) -> bool
     is_free(vol, sys, k) && bad_in(vol, sys, k, 1).is_none()
 }
 
-// The first of the n clusters from k that may be taken; k + n where there is none.
-pub fn next_usable(vol: &[u8], sys: &System<'_>, k: u32, n: u32) -> u32
+// The first of the n clusters from k that may be taken.
+pub fn next_usable(vol: &[u8], sys: &System<'_>, k: u32, n: u32) -> Option<u32>
     requires { (length vol.now ≡ sys.now.y.len) × ((2 ≤ k) × (k + n ≤ sys.now.y.count + 2)) }
-    ensures { (result ≡ fewest (is_usable sys.now.y vol.now sys.now.map.now) n k) × ((k ≤ result) × (result ≤ k + n)) }
+    ensures { MatchOption result (fewest (is_usable sys.now.y vol.now sys.now.map.now) n k ≡ k + n) (λ j. (j ≡ fewest (is_usable sys.now.y vol.now sys.now.map.now) n k) × ((k ≤ j) × (j < k + n))) }
 {
     let end = k + n;
     let mut at = k;
@@ -56,14 +56,14 @@ pub fn next_usable(vol: &[u8], sys: &System<'_>, k: u32, n: u32) -> u32
     while at < end {
         let free = crate::bitmap::first_unmarked(vol, sys, at, end - at);
         if free == end {
-            return end;
+            return None;
         }
         if usable(vol, sys, free) {
-            return free;
+            return Some(free);
         }
         at = free + 1;
     }
-    end
+    None
 }
 
 // Whether none of the n clusters from first is in the system map or bad.

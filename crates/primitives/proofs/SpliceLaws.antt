@@ -1,7 +1,7 @@
 -- The laws of a part that is replaced. Assumes nothing.
 use Rattle.std.proofs.Common.{◌≡◌, ℕ, suc, ◌+◌, ◌-◌, ◌<◌, ◌≤◌, List, [], ◌∷◌, ◌++◌, length, get_or, take, drop, set, sym, ap, ◌∙◌, ap₂, append_assoc, append-nil, add-zero, add-suc, add-one, arith, length-append, length-drop, take-append-drop, length-take-le, get_or-drop, drop-cons, get_or-take, drop-drop, take_at, get_or-append-add, drop_at}
 use native.Mathlib.Decide.{dec_lt}
-use lib.ListN.{get_or-append}
+use lib.ListN.{get_or-append, drop_of_length-le}
 use lib.Seq.{set_at, append_snoc}
 use borrow.Rule.Slice.PartMut.{put_mid}
 use Rattle.primitives.specs.Splice.{splice}
@@ -51,6 +51,11 @@ module _ (d : List ℕ) (at : ℕ) (s : List ℕ) (fits : at + length s ≤ leng
 pub splice-nil : (d : List ℕ) (at : ℕ) → splice d at [] ≡ d
 unfolding splice
 splice-nil d at = simp (add-zero, append-nil, take-append-drop)
+
+-- a part that is all of the list
+pub splice_whole : (d s : List ℕ) → length s ≡ length d → splice d 0 s ≡ s
+unfolding splice
+splice_whole d s e = ap (λ (r : List ℕ). s ++ r) (drop_of_length-le d {i = 0 + length s} (omega arith)) ∙ append-nil s
 
 pub splice_more : (d : List ℕ) (at : ℕ) (s : List ℕ) (x : ℕ) → at + length s < length d
     → set (splice d at s) (at + length s) x ≡ splice d at (s ++ (x ∷ []))

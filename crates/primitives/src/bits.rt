@@ -47,13 +47,14 @@ fn same_block(bitmap: &[u8], i: usize, b: u8) -> bool
 }
 
 // The first of the n bit numbers from k whose byte is not b; k + n where there is none. One test for each byte.
+// Kept: k + n, here and below, since who asks goes on from there.
 fn past_each_byte(bitmap: &[u8], b: u8, k: u32, n: u32) -> u32
     requires { (k + n ≤ 65536) × (k + n ≤ 8 * length bitmap.now) }
     ensures { result ≡ fewest (λ j. not (byte_is bitmap.now b (j / 8))) n k }
 {
     let end = k + n;
     let mut at = k;
-    // Kept: a step goes to the end of a byte, and the first begins inside one.
+    // Kept: it begins inside a byte; a loop over bytes would give back the greater of k and a byte's first bit.
     while at < end {
         let i = (at / 8) as usize;
         if bitmap[i] != b {
@@ -71,7 +72,7 @@ fn past_bytes(bitmap: &[u8], b: u8, k: u32, n: u32) -> u32
 {
     let end = k + n;
     let mut at = k;
-    // Kept: a step is 64 bytes, and the first begins inside a byte.
+    // Kept: the same by 64 bytes, and what is left goes on from where it stops.
     while 520 <= end - at && same_block(bitmap, (at / 8) as usize, b) {
         at = 8 * (at / 8) + 512;
     }

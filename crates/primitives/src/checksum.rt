@@ -33,7 +33,7 @@ pub fn entry_set_checksum(set: &[u8]) -> u16
 }
 
 // The checksum of the first n bytes of a set that is held in an array.
-// Kept: the definition takes the bytes and n, as callers have them; each would else prove that a part's checksum is that one.
+// Kept: callers count a set's entries, and this is where the array is cut, once for all of them.
 pub fn array_checksum(set: &[u8; 608], n: usize) -> u16
     requires { n ≤ 608 }
     ensures { result ≡ checksum set.now n }

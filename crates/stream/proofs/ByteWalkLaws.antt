@@ -8,6 +8,7 @@ use lib.ListN.{length, take, drop, replicate, length-drop}
 use lib.Seq.{drop-drop, take_all}
 use Rattle.std.proofs.lemmas.List.{length-take, length-take-le}
 use Rattle.primitives.specs.Splice.{splice}
+use Rattle.primitives.proofs.SpliceLaws.{splice_whole}
 use Rattle.tables.specs.Lists.{every}
 use Rattle.boot.specs.declared.layout.Layout.{Layout}
 use Rattle.boot.specs.Internal.{Laid}
@@ -20,8 +21,9 @@ use Rattle.stream.specs.declared.bytes.ByteWalk.{ByteWalk}
 use Rattle.stream.specs.Internal.{after, along, reached}
 use Rattle.stream.specs.Internal.{byte_walk, piece_length, past_piece}
 use Rattle.stream.specs.Bytes.{bytes_of, store_at}
-use Rattle.stream.proofs.StreamLaws.{along_head}
+use Rattle.stream.proofs.StreamLaws.{along_head, length-along}
 use Rattle.stream.proofs.BytesSteps.{Sought, some_left, left_after, cluster_room, piece_is, splice-none, store_next, store_empty, take_zeros, drop_zeros, reach_none, reach_sum, reach_next, read_next, last_here, last_next, last_inside, last_from}
+use Rattle.stream.proofs.BytesLaws.{length_of}
 use Rattle.stream.proofs.RowLaws.{run_inside, store_run, read_run}
 
 pub zeros_part : (m i n : ℕ) → i + m ≤ n → ◌≡◌ {A = List ℕ} (take m (drop i (replicate n 0))) (replicate m 0)
@@ -214,16 +216,25 @@ module _ (y : Layout) where
     pub goes : splice dst c.from (take (c.end - c.from) (drop c.at (bytes_of y d (along (fat_entry y d) c.run c.cluster stands.left)))) ≡ e
 
   module _ (d : List ℕ) (l : Laid y) (long : length d ≡ y.len) where
-    pub reading_start : (a : Allocation) (i n : ℕ) (dst : List ℕ) (c : ByteWalk) → Sought y d a.no_fat_chain a.first a.count i n → n ≤ length dst
-        → c ≡ byte_walk y d a i n → Reading d dst c (splice dst 0 (take n (drop i (bytes_of y d (along (fat_entry y d) a.no_fat_chain a.first a.count)))))
-    reading_start a i n dst c s fits e =
-        let z : i % y.size + (n - 0) ≤ (a.count - i / y.size) * y.size = omega (arith, s.room) in
+    pub reading_start : (w : Fits y d) (a : Allocation) (i : ℕ) (dst : List ℕ) (c : ByteWalk)
+        → Sought y d a.no_fat_chain a.first a.count i (length dst) → c ≡ byte_walk y d a i (length dst)
+        → Reading d dst c (take (length dst) (drop i (bytes_of y d (along (fat_entry y d) a.no_fat_chain a.first a.count))))
+    reading_start w a i dst c s e =
+        let n = length dst in
+        let k = reached (fat_entry y d) a.no_fat_chain a.first (i / y.size) in
+        let m = a.count - i / y.size in
+        let ks = along (fat_entry y d) a.no_fat_chain k m in
+        let bs = drop (i % y.size) (bytes_of y d ks) in
+        let z : i % y.size + (n - 0) ≤ m * y.size = omega (arith, s.room) in
         let u : n - 0 ≡ n = omega arith in
-        subst (λ (x : ByteWalk). Reading d dst x (splice dst 0 (take n (drop i (bytes_of y d (along (fat_entry y d) a.no_fat_chain a.first a.count)))))) (sym e)
+        let whole : length (bytes_of y d ks) ≡ m * y.size =
+        length_of y d w ks s.heap ∙ ap (λ (x : ℕ). x * y.size) (length-along (fat_entry y d) a.no_fat_chain k m) in
+        let full : length (take n bs) ≡ n = length-take-le n bs (omega (arith, length-drop (i % y.size) (bytes_of y d ks), whole, s.room)) in
+        subst (λ (x : ByteWalk). Reading d dst x (take n (drop i (bytes_of y d (along (fat_entry y d) a.no_fat_chain a.first a.count))))) (sym e)
         (record {
-          stands = record { left = a.count - i / y.size; low = s.place; room = z; heap = s.heap };
-          fits = fits;
-          goes = rw u (ap (λ (x : List ℕ). splice dst 0 (take n x)) s.reads);
+          stands = record { left = m; low = s.place; room = z; heap = s.heap };
+          fits = omega arith;
+          goes = rw u (splice_whole dst (take n bs) full ∙ ap (take n) s.reads);
         })
 
     pub reading_turn : (dst : List ℕ) (c : ByteWalk) (e : List ℕ) (s : Reading d dst c e) → c.from < c.end

@@ -13,6 +13,7 @@ pub struct Allocation {
 }
 
 // A newly made empty record.
+// Kept: its clusters are 0, as the standard has an empty stream's first one.
 pub fn empty_record() -> Allocation
     ensures { result ≡ empty }
 {

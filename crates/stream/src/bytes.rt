@@ -1,6 +1,5 @@
 // The bytes of a stream: a part of them read, stored, or filled with zeros, by one walk that goes through each cluster once.
 ghost use Rattle.std.specs.Prelude.{◌≡◌, true, ◌+◌, ◌-◌, ◌*◌, ◌/◌, ◌≤◌, ◌<◌, min, length, take, drop, replicate};
-ghost use Rattle.primitives.specs.Splice.{splice};
 ghost use Rattle.tables.specs.Lists.{every};
 ghost use Rattle.boot.specs.Layout.{cluster_at, in_heap};
 ghost use Rattle.metadata.specs.Fat.{fat_entry};
@@ -174,20 +173,12 @@ pub fn fill(
     }
 }
 
-// Reads n bytes of a stream, from its byte `at` on, into dst.
-pub fn read(
-    vol: &[u8],
-    sys: &System<'_>,
-    a: Allocation,
-    known: Place,
-    at: usize,
-    dst: &mut [u8],
-    n: usize,
-)
-    requires { (length vol.now ≡ sys.now.y.len) × ((every (in_heap sys.now.y.count) (along (fat_entry sys.now.y vol.now) a.no_fat_chain a.first a.count) ≡ true) × ((at + n ≤ a.count * sys.now.y.size) × ((n ≤ length dst.old) × Known sys.now.y vol.now a known at))) }
-    ensures { dst.new ≡ splice dst.old 0 (take n (drop at (bytes_of sys.now.y vol.now (along (fat_entry sys.now.y vol.now) a.no_fat_chain a.first a.count)))) }
+// Fills dst with the bytes of a stream from its byte `at` on.
+pub fn read(vol: &[u8], sys: &System<'_>, a: Allocation, known: Place, at: usize, dst: &mut [u8])
+    requires { (length vol.now ≡ sys.now.y.len) × ((every (in_heap sys.now.y.count) (along (fat_entry sys.now.y vol.now) a.no_fat_chain a.first a.count) ≡ true) × ((at + length dst.old ≤ a.count * sys.now.y.size) × Known sys.now.y vol.now a known at)) }
+    ensures { dst.new ≡ take (length dst.old) (drop at (bytes_of sys.now.y vol.now (along (fat_entry sys.now.y vol.now) a.no_fat_chain a.first a.count))) }
 {
-    let mut walk = ByteWalk::new(vol, sys, a, known, at, n);
+    let mut walk = ByteWalk::new(vol, sys, a, known, at, dst.len());
     // Kept: as in `store`, whose walk it is.
     while let Some(piece) = walk.next(vol, sys) {
         let to = &mut dst[piece.from..piece.from + piece.len];

@@ -7,7 +7,7 @@ ghost use Rattle.write_alloc.specs.Internal.{prev_taken, taken_from, taken_of, w
 use boot::system::System;
 
 // The cluster reached, 0 before the first, and how many are still to be taken.
-// Kept: 0 is no cluster's number, and the definition `take_each` begins at it likewise.
+// Kept: 0 is no cluster's number, and `take_single` takes the cluster before likewise, 0 for none.
 #[derive(Clone, Copy)]
 pub struct Taken {
     pub prev: u32,
@@ -71,10 +71,9 @@ pub fn take_usable(vol: &mut [u8], sys: &System<'_>, from: u32, end: u32, start:
     let mut k = from;
     // Kept: a step goes to the next usable cluster, and the count of those left ends it too.
     while k < end && taken.left != 0 {
-        let next = metadata::usable::next_usable(vol, sys, k, end - k);
-        if next == end {
+        let Some(next) = metadata::usable::next_usable(vol, sys, k, end - k) else {
             break;
-        }
+        };
         take_one(vol, sys, taken.prev, next);
         taken = Taken {
             prev: next,

@@ -17,7 +17,7 @@ use stream::allocation::Allocation;
 use write_alloc::answer::Updated;
 
 // The kept clusters of a stream: the last one (0: none), whether their numbers rise by one, and the cluster after them.
-// Kept: the record of no clusters holds 0 as its last, so that 0 is handed on as it stands.
+// Kept: 0 is no cluster's number, and where no cluster is kept nothing reads it.
 #[derive(Clone, Copy)]
 pub struct Kept {
     pub last: u32,

@@ -30,7 +30,7 @@ pub returns-then-free-end : goal.returns-then-free-end
 returns-then-free-end c =
     let l = c.loop-at in
     let f = none-on _ _ _ _ l.at _ _ l.invariant.1.1 c.first_unmarked-free.ensures.0 in
-    (sym (fewest_is _ _ _ _ (omega arith) (omega arith) (λ h. absurd (omega arith)) (λ j a b. f j a (omega arith))), (omega arith, omega arith))
+    fewest_is _ _ _ _ (omega arith) (omega arith) (λ h. absurd (omega arith)) (λ j a b. f j a (omega arith))
 
 pub returns-then-usable : goal.returns-then-usable
 returns-then-usable c =
@@ -47,4 +47,4 @@ loop-at-preserved c =
 pub returns : goal.returns
 returns c =
     let l = c.loop-at in
-    (sym (fewest_is _ _ _ _ (omega arith) (omega arith) (λ h. absurd (omega arith)) (λ j a b. l.invariant.1.1 j a (omega arith))), (omega arith, omega arith))
+    fewest_is _ _ _ _ (omega arith) (omega arith) (λ h. absurd (omega arith)) (λ j a b. l.invariant.1.1 j a (omega arith))

@@ -8,6 +8,7 @@ use Rattle.primitives.specs.Splice.{splice}
 use Rattle.stream.specs.declared.bytes.Piece.{Piece}
 use Rattle.primitives.proofs.SpliceLaws.{put_mid-splice, length-splice}
 use Rattle.boot.proofs.Apart.{in_heap_lem}
+use Rattle.metadata.proofs.Frame.{fits}
 use Rattle.stream.specs.Internal.{piece_length}
 use Rattle.stream.proofs.BytesSteps.{sought}
 use Rattle.stream.proofs.ByteWalkLaws.{length-part, length-whole_part, piece_whole, some_piece, in_first, piece_in, reading_start, reading_turn, reading_end}
@@ -17,8 +18,8 @@ pub loop-piece-init : goal.loop-piece-init
 loop-piece-init c =
     let p = c.requires in
     let a = c.args in
-    let s = sought _ _ _ _ _ a.at a.n a.sys.now.laid p.0 p.1.0 p.1.1.0 in
-    reading_start a.sys.now.y a.vol.now a.sys.now.laid p.0 a.a a.at a.n a.dst.now _ s p.1.1.1.0 c.new-walk.ensures
+    let s = sought _ _ _ _ _ a.at (length a.dst.now) a.sys.now.laid p.0 p.1.0 p.1.1.0 in
+    reading_start a.sys.now.y a.vol.now a.sys.now.laid p.0 (fits a.sys.now a.vol.now p.0) a.a a.at a.dst.now _ s c.new-walk.ensures
 
 pub next-requires : goal.next-requires
 next-requires c =

@@ -12,7 +12,7 @@ loop-k-preserved c =
     let i = l.invariant in
     let p = c.requires in
     let a = c.args in
-    let q = c.next_usable-next in
+    let q = c.in-Some in
     let len = l.auto.vol ∙ p.0 in
     let u = ap (is_usable a.sys.now.y l.vol a.sys.now.map.now) q.ensures.0 ∙ fewest_at (is_usable a.sys.now.y l.vol a.sys.now.map.now) (a.end - l.k) l.k (omega arith) in (
       omega arith,
@@ -33,8 +33,8 @@ returns-else-taken-ne0 c = took _ _ _ _ _ _ _ _ _ _ (sym (takes_done _ _ _ _ _ _
 pub returns-after-loop-k : goal.returns-after-loop-k
 returns-after-loop-k c = took _ _ _ _ _ _ _ _ _ _ (sym (takes_end _ _ _ _ _ _ _ (omega arith)) ∙ c.loop-k.invariant.1.1.1)
 
-pub returns-then-next-end : goal.returns-then-next-end
-returns-then-next-end c =
+pub returns-in_default : goal.returns-in_default
+returns-in_default c =
     let l = c.loop-k in
     took _ _ _ _ _ _ _ _ _ _
-    (sym (takes_past _ _ _ _ l.k _ _ _ (omega arith) c.next_usable-next.ensures.0 ∙ takes_end _ _ _ _ _ _ _ (omega arith)) ∙ l.invariant.1.1.1)
+    (sym (takes_past _ _ _ _ l.k _ _ _ (omega arith) (sym c.in_default.ensures) ∙ takes_end _ _ _ _ _ _ _ (omega arith)) ∙ l.invariant.1.1.1)

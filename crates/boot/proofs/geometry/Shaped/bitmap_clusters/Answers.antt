@@ -1,10 +1,9 @@
 use native.Mathlib.Omega.{arith}
 use native.Mathlib.Nat.{div-le_self}
 use Rattle.boot.specs.Geometry.{bitmap_clusters}
-use mathlib.Core.Path.{refl}
 use Prim.Native.Nat.{◌+◌, ◌-◌, ◌/◌}
 use Rattle.boot.proofs.geometry.Shaped.bitmap_clusters.Goals as goal
 
 pub returns : goal.returns
 unfolding bitmap_clusters
-returns c = (rw c.cluster_size-size.ensures.0 refl, omega (arith, div-le_self ((c.args.self.g.cluster_count + 7) / 8 + (c.cluster_size-size.result - 1)) c.cluster_size-size.result))
+returns c = (cc, omega (arith, div-le_self ((c.from.result + 7) / 8 + (c.cluster_size-size.result - 1)) c.cluster_size-size.result))

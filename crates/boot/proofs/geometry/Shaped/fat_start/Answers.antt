@@ -1,7 +1,6 @@
-use native.Mathlib.Omega.{arith}
 use Rattle.boot.specs.Layout.{fat_start}
 use Rattle.boot.proofs.geometry.Shaped.fat_start.Goals as goal
 
 pub returns : goal.returns
 unfolding fat_start
-returns c = rw (← c.fats.ensures.0) (omega arith)
+returns c = cc
