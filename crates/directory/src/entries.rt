@@ -48,7 +48,7 @@ fn used_windows(part: &[u8], first: u32, n: u32) -> u32
 {
     let last = 32 * ((n - 1) as usize);
     let mut at = 32 * (first as usize);
-    // Kept: the answer is where it stops, be it at an entry not in use or at the part's end.
+    // Kept: the answer is the entry where it stops; an iterator over the windows would be counted, and its count made that entry again.
     while at + last < part.len() && primitives::bits::bit_test(part[at + last], 7) {
         at += last + 32;
     }
@@ -147,7 +147,7 @@ impl OpenDirectory<'_> {
         let per = (self.sys.y.size / 32) as u32;
         let mut cluster = e.cluster;
         let mut more = (e.at / 32) as u32 + m;
-        // Kept: it enters two clusters at most, and to count them first would divide by `per`.
+        // Kept: it goes from cluster to cluster, two at most, and has what is left as it goes; a `for` wants count and rest by `/` and `%` first.
         while per <= more {
             cluster = self.next_cluster(cluster);
             more -= per;
@@ -263,10 +263,10 @@ impl OpenDirectory<'_> {
             }
         }
         let t = self.last_used(e, base, total - base);
-        let missing = t.slot + need - total;
+        let missing = u64::from(t.slot + need - total);
         Room {
             slot: t.slot,
-            clusters: entry_set::entry::clusters_for(self.sys.y.size, 32 * (missing as u64)) as u32,
+            clusters: entry_set::entry::clusters_for(self.sys.y.size, 32 * missing) as u32,
         }
     }
 }

@@ -99,7 +99,7 @@ fn start_steps(sys: &System<'_>, set: &[u8; 608], offset: u64, n: u32) -> u32
     ensures { result ≡ start_steps sys.now.y.size (valid_length set.now) offset n }
 {
     let at = entry_set::entry::valid_length(set).min(offset);
-    (at / (sys.y.size as u64)).min((n - 1) as u64) as u32
+    (at / (sys.y.size as u64)).min(u64::from(n - 1)) as u32
 }
 
 // Opens the stream of a set for a call on its bytes from an offset on.
@@ -116,6 +116,7 @@ fn open_stream(
     if len == 0 {
         return Ok(OpenStream {
             allocation: stream::allocation::empty_record(),
+            // Kept: an empty stream has no cluster, and no byte of it is sought.
             place: Place {
                 cluster: 0,
                 steps: 0,
@@ -173,7 +174,14 @@ impl OpenDirectory<'_> {
             cluster: e.cluster,
             steps: (at / self.sys.y.size) as u32,
         };
-        stream::bytes::read(self.vol, self.sys, self.allocation, known, at, set, 32 * n);
+        stream::bytes::read(
+            self.vol,
+            self.sys,
+            self.allocation,
+            known,
+            at,
+            &mut set[..32 * n],
+        );
     }
 
     // Opens the file of a set that is copied, whose entry is known.

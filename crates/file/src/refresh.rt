@@ -48,7 +48,7 @@ pub fn length_cause(
     ensures { number result ≡ length_cause sys.now.y vol.now sys.now.map.now b len }
 {
     let needed = entry_set::entry::clusters_for(sys.y.size, len);
-    let there = b.count as u64;
+    let there = u64::from(b.count);
     if needed <= there {
         return Ok(());
     }
@@ -64,7 +64,7 @@ fn missing(sys: &System<'_>, b: Allocation, len: u64) -> u32
     requires { missing sys.now.y b len ≤ 32768 }
     ensures { result ≡ missing sys.now.y b len }
 {
-    entry_set::entry::clusters_for(sys.y.size, len).saturating_sub(b.count as u64) as u32
+    entry_set::entry::clusters_for(sys.y.size, len).saturating_sub(u64::from(b.count)) as u32
 }
 
 // Fills a stream with zeros from one byte up to another; nothing where that is not above it (Rust: `zero_range`). Answers the place that

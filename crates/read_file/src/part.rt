@@ -17,6 +17,7 @@ pub struct Part {
 }
 
 // An empty part.
+// Kept: 02 asks for an empty part at a file's end and where a read is refused, not for none.
 pub fn no_part() -> Part
     ensures { result ≡ no_part }
 {
@@ -89,13 +90,13 @@ pub fn file_part(
 }
 
 // A part lent, of the volume or of the zeros as its offset lies (01's form). The contract says which bytes it holds and where it lies.
-pub fn lend<'a>(vol: &'a [u8], zeros: &'a [u8], z: bool, start: u32, len: u32) -> &'a [u8]
-    requires { Inside (length vol.now) (length zeros.now) (record { zeros = z; start = start; len = len }) }
-    ensures { (result.now ≡ part_bytes vol.now zeros.entry.now (record { zeros = z; start = start; len = len })) × (result.ref_ptr ≡ part_place vol.entry.ref_ptr zeros.entry.ref_ptr (record { zeros = z; start = start; len = len })) }
+pub fn lend<'a>(vol: &'a [u8], zeros: &'a [u8], part: Part) -> &'a [u8]
+    requires { Inside (length vol.now) (length zeros.now) part }
+    ensures { (result.now ≡ part_bytes vol.now zeros.entry.now part) × (result.ref_ptr ≡ part_place vol.entry.ref_ptr zeros.entry.ref_ptr part) }
 {
-    let a = start as usize;
-    let n = len as usize;
-    if z {
+    let a = part.start as usize;
+    let n = part.len as usize;
+    if part.zeros {
         return &zeros[a..a + n];
     }
     &vol[a..a + n]

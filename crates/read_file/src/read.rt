@@ -106,6 +106,6 @@ pub fn read<'a>(
 ) -> &'a [u8]
     ensures { let p = read_part g vol.now map.now zeros.now slot offset in (result.now ≡ part_bytes vol.now zeros.now p) × (result.ref_ptr ≡ part_place vol.entry.ref_ptr zeros.entry.ref_ptr p) }
 {
-    let p = read_part(vol, map, g, zeros, slot, offset);
-    crate::part::lend(vol, zeros, p.zeros, p.start, p.len)
+    let part = read_part(vol, map, g, zeros, slot, offset);
+    crate::part::lend(vol, zeros, part)
 }

@@ -6,8 +6,8 @@ use mathlib.Core.List.{List, [], ◌∷◌, ◌++◌, append_assoc, append-nil}
 use Prim.Native.Nat.{ℕ, zero, suc, ◌+◌, ◌-◌, ◌≤◌, ◌<◌}
 use native.Mathlib.Numerals.{sub-one}
 use native.Mathlib.Omega.{arith}
-use lib.ListN.{length, get_or, replicate, length-append, length-replicate, drop_of_length-le}
-use Rattle.primitives.specs.Splice.{splice}
+use lib.ListN.{length, get_or, replicate, length-append, length-replicate}
+use Rattle.primitives.proofs.SpliceLaws.{splice_whole}
 use Rattle.tables.specs.Lists.{Mem, here, there, every, last_or}
 use Rattle.tables.specs.Count.{count}
 use Rattle.tables.proofs.Cases.{not_so}
@@ -60,11 +60,6 @@ nothing_in {k} m = none [] m refl
     none (x ∷ xs) (here e) q = omega arith
     none (x ∷ xs) (there n) q = omega arith
     none [] x'' q = elim x'' [ ]
-
-splice_whole : (c s : List ℕ) → length s ≡ length c → splice c 0 s ≡ s
-unfolding splice
-splice_whole c s e =
-    ap (λ (r : List ℕ). s ++ r) (drop_of_length-le c {i = 0 + length s} (omega arith)) ∙ append-nil s
 
 -- ---- a directory that grew
 

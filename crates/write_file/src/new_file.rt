@@ -30,7 +30,7 @@ fn space_cause(vol: &[u8], sys: &System<'_>, dir: Allocation, n: u32) -> Result<
         return Ok(());
     }
     let next = dir.last.wrapping_add(1);
-    if choice::choice::enough(vol, sys, next, n as u64) {
+    if choice::choice::enough(vol, sys, next, u64::from(n)) {
         return Ok(());
     }
     Err(Cause::NoSpace)

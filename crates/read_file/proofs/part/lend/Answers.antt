@@ -4,16 +4,16 @@ use native.Mathlib.Omega.{arith}
 use Rattle.read_file.specs.Part.{part_bytes, part_place}
 use Rattle.read_file.proofs.part.lend.Goals as goal
 
-pub returns-then-z : goal.returns-then-z
+pub returns-then-part : goal.returns-then-part
 unfolding part_bytes part_place
-returns-then-z c =
+returns-then-part c =
     let a = c.args in
-    let e : a.start + a.len - a.start ≡ a.len = omega arith in
-    rw (c.if-z.true, e) (refl, ap (λ (k : ℕ). (a.zeros.ref_ptr.0, k)) (omega arith))
+    let e : a.part.start + a.part.len - a.part.start ≡ a.part.len = omega arith in
+    rw (c.if-part.true, e) (refl, ap (λ (k : ℕ). (a.zeros.ref_ptr.0, k)) (omega arith))
 
 pub returns : goal.returns
 unfolding part_bytes part_place
 returns c =
     let a = c.args in
-    let e : a.start + a.len - a.start ≡ a.len = omega arith in
-    rw (c.if-z.false, e) (refl, ap (λ (k : ℕ). (a.vol.ref_ptr.0, k)) (omega arith))
+    let e : a.part.start + a.part.len - a.part.start ≡ a.part.len = omega arith in
+    rw (c.if-part.false, e) (refl, ap (λ (k : ℕ). (a.vol.ref_ptr.0, k)) (omega arith))

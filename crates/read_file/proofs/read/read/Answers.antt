@@ -7,4 +7,4 @@ use Rattle.read_file.proofs.read.read.Goals as goal
 pub lend-requires : goal.lend-requires
 lend-requires c =
     let a = c.args in
-    subst (Inside (length a.vol.now) (length a.zeros.now)) (sym c.read_part-p.ensures) (read_inside a.g a.vol.now a.map.now a.zeros.now a.slot a.offset)
+    subst (Inside (length a.vol.now) (length a.zeros.now)) (sym c.read_part-part.ensures) (read_inside a.g a.vol.now a.map.now a.zeros.now a.slot a.offset)

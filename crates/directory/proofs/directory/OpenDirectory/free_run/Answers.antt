@@ -84,8 +84,8 @@ loop-base-preserved c =
     let j = window_in (bytes d) g.result.slot a.need t.result.slot t.ensures.0 in
     (omega (arith, m.ensures.0), (t.ensures.1, window_passed (bytes d) g.result.slot a.need t.result.slot t.ensures.0 a.need (omega arith) (slot_passed d.sys.now.y d.vol.now w d.allocation d.reads l.base (omega (arith, m.ensures.0)) l.e l.invariant.1.0 a.need g.result.slot p.0 g.ensures.0 l.invariant.1.1)))
 
-pub overflow_add-missing : goal.overflow_add-missing
-overflow_add-missing c =
+pub overflow_add-t : goal.overflow_add-t
+overflow_add-t c =
     let d = c.args.self.now in
     let l = c.loop-base in
     let t = c.last_used-t in
@@ -93,8 +93,8 @@ overflow_add-missing c =
     let i = window_in (bytes d) l.base (m.result - l.base) t.result.slot t.ensures.0 in
     omega arith
 
-pub overflow_sub-missing : goal.overflow_sub-missing
-overflow_sub-missing c =
+pub overflow_sub-t : goal.overflow_sub-t
+overflow_sub-t c =
     let d = c.args.self.now in
     let l = c.loop-base in
     let t = c.last_used-t in
@@ -125,8 +125,10 @@ returns c =
     let i = window_in (bytes d) l.base (m.result - l.base) t.result.slot t.ensures.0 in
     let z : l.base + (m.result - l.base) ≡ entry_count (bytes d) = omega (arith, m.ensures.0) in
     let n : length (bytes d) ≡ 32 * entry_count (bytes d) = omega (arith, length-entries d.sys.now.y d.vol.now w d.allocation d.reads, entries_is d.sys.now.y d.vol.now w d.allocation d.reads) in
-    ap (λ (x : ℕ). record { slot = t.result.slot; clusters = x }) c.clusters_for.ensures
-    ∙ ap (λ (x : ℕ). record { slot = t.result.slot; clusters = clusters_for d.sys.now.y.size (32 * (t.result.slot + a.need - x)) }) m.ensures.0
+    let k : c.clusters_for.result ≡ clusters_for d.sys.now.y.size (32 * (t.result.slot + a.need - entry_count (bytes d))) =
+    c.clusters_for.ensures ∙ ap (λ (x : ℕ). clusters_for d.sys.now.y.size (32 * x)) c.from-missing.ensures
+    ∙ ap (λ (x : ℕ). clusters_for d.sys.now.y.size (32 * (t.result.slot + a.need - x))) m.ensures.0 in
+    ap (λ (x : ℕ). record { slot = t.result.slot; clusters = x }) k
     ∙ room_past d.sys.now.y.size (d.sys.now.y.size / 32) d.sys.now.laid.whole (omega (arith, d.sys.now.laid.size_low)) (bytes d) a.need n t.result.slot (omega arith)
     (window_passed (bytes d) l.base (m.result - l.base) t.result.slot t.ensures.0 a.need (omega arith) l.invariant.1.1)
     (ap (λ (k : ℕ). all_from (λ i. not (in_use (bytes d) i)) t.result.slot (k - t.result.slot)) (sym z) ∙ window_rest (bytes d) l.base (m.result - l.base) t.result.slot t.ensures.0)
