@@ -24,14 +24,14 @@ pub fn flag_of(w: u32) -> bool
 fn flag_word(flag: bool) -> u32
     ensures { result ≡ flag_word flag }
 {
-    if flag { 1 } else { 0 }
+    u32::from(flag)
 }
 
 // A near cluster, given where the word before it is not 0.
 pub fn near_of(has_near: u32, near: u32) -> Option<u32>
     ensures { result ≡ cond (flag_of has_near) (Some near) None }
 {
-    if flag_of(has_near) { Some(near) } else { None }
+    flag_of(has_near).then_some(near)
 }
 
 // A stream's record: first, last, count, no_fat_chain.

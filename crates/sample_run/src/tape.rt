@@ -16,6 +16,7 @@ pub fn all(rt: &HostRuntime) {
         let at = u16_at(&head, 2) as usize;
         let end = at + usize::from(len);
         let _ = rt.stdin().read_exact(&mut row[at..end]);
+        // Kept: the sample's own numbers, as its bytes hold them.
         match what {
             // nothing more
             0 => {}

@@ -84,6 +84,7 @@ fn trial(to: &impl Print, name: &str, marks: u8, fat: [u32; 5], call: Call) {
     let _ = println!(to; "{name}");
     let g = volume();
     // what the call gives, and the record and the hint that it is given: they are the answer where it is refused
+    // Kept: a match, since each case calls another function with other arguments.
     let (r, allocation, hint) = match call {
         Call::Allocate(n, hint) => {
             let r = allocate_clusters(&mut vol, MAP, g, n, None, hint);

@@ -28,6 +28,7 @@ fn stores(to: &impl Print) {
         (8, 4, 0x00000000FFFFFFF7u64),
     ] {
         let mut s = [0xEEu8; 12];
+        // Kept: each width has its own function of the library.
         let digits = match width {
             2 if at <= 10 => {
                 put_u16(&mut s, at, v as u16);

@@ -1,10 +1,13 @@
+use mathlib.Core.Path.{◌≡◌, refl, ◌∙◌}
+use mathlib.Core.Bool.{Bool, true, false}
+use mir.Val.{bool_byte}
 use Rattle.exfat.specs.Words.{flag_word}
 use Rattle.exfat.proofs.words.flag_word.Goals as goal
 
-pub returns-then-flag : goal.returns-then-flag
+word : (b : Bool) → bool_byte b ≡ flag_word b
 unfolding flag_word
-returns-then-flag c = cc
+word true = refl
+word false = refl
 
-pub returns-else-flag : goal.returns-else-flag
-unfolding flag_word
-returns-else-flag c = cc
+pub returns : goal.returns
+returns c = c.from.ensures ∙ word c.args.flag
