@@ -12,7 +12,7 @@
  * is not const, `list`, `out`) overlaps no other argument.
  *
  * What the library needs: an x86-64 with Linux's calling convention and its SSE2 registers; the C functions memcpy, memmove and
- * memset; and stack, at most 1,672 bytes in exfat_write, the deepest call, besides what these three take. It uses the red zone of
+ * memset; and stack, at most 1,640 bytes in exfat_write, the deepest call, besides what these three take. It uses the red zone of
  * 128 bytes below the stack pointer, and keeps no data of its own.
  *
  * Arguments that the calls share
