@@ -1,8 +1,8 @@
 #!/usr/bin/env python3
 """What the prover refuses first in each must-fail edit. Runs after `rt ci`, which prints a line of each edit; SAID is what it printed.
 
-An edit counts where the first refusal is a function's promised result, a loop's invariant, or a law, which should be false under the
-edit: the script prints how its proof fails, and cannot tell whether another proof would do. Any other first refusal is a lesser
+An edit counts where the first refusal is a function's promised result, a loop's or a type's invariant, or a law, which should be false
+under the edit: the script prints how its proof fails, and cannot tell whether another proof would do. Any other first refusal is a lesser
 reason: an index, a cast, an overflow, a call's `requires`, a loop's end, a name out of scope, a text that does not parse or has a wrong
 type, a limit of the prover's, or nothing at all. An edit that is refused for a lesser reason says so in a line of its own,
 `# lesser: why`, which rt passes over. An edit that could not be tried, or has no line, is a fault. Lines that are wrong on purpose are
@@ -27,6 +27,9 @@ REFUSED = "refused, as it must be: "
 ERROR = re.compile(r"(?P<path>[^\s:]+\.(?:rt|antt)):(?P<line>\d+):\d+: error(?P<code>\[[^\]]*\])?: (?:`(?P<name>[^`\s]+)`: )?(?P<text>.*)")
 OPEN = re.compile(r"note: (?P<path>[^\s:]+\.rt):(?P<line>\d+):\d+: it is not proved that (?P<text>.*?) \(`(?P<name>[^`]+)`\)")
 
+# a value of a type whose facts, its ghost fields, do not hold of it
+VALUE = re.compile(r"note: (?P<path>[^\s:]+\.rt):(?P<line>\d+):\d+: `search` found no proof \(`(?P<name>invariant_of[^`]*)`\)")
+
 # messages that tell nothing of the statement: the text is wrong, or the prover stopped at a limit
 TEXT = re.compile(
     r"is not in scope|^not in scope|can be named from here|is not a constructor|does not define it|is no library|was not admitted"
@@ -36,6 +39,7 @@ TEXT = re.compile(
 # the facts about a function that its contract and its loops state; all others are about single steps
 PROMISE = re.compile(r"returns(-[\w'-]+)?")
 INVARIANT = re.compile(r"loop(-[\w'-]+)?-(init|preserved)(-[\w'-]+)?")
+FACTS = re.compile(r"invariant_of-[\w'-]+")
 
 
 def statement_of(text, name):
@@ -58,6 +62,8 @@ def fact_of(name, function, where):
         return True, "promised result, %s" % fact
     if INVARIANT.fullmatch(name):
         return True, "loop's invariant, %s" % fact
+    if FACTS.fullmatch(name):
+        return True, "type's invariant, %s" % fact
     return False, "%s, %s, a fact about a single step" % (where, fact)
 
 
@@ -66,7 +72,7 @@ def first_refused(said, read):
     if not said.startswith(REFUSED):
         return False, "no refusal that tells what is false: %s" % said[:100]
     said = said[len(REFUSED) :]
-    goal = OPEN.match(said)
+    goal = OPEN.match(said) or VALUE.match(said)
     if goal:
         return fact_of(goal["name"], "the function at %s:%s" % (goal["path"], goal["line"]), goal["path"])
     m = ERROR.match(said)
@@ -107,6 +113,7 @@ BAD = [
     ("BAD EDIT: an 'old:' text is in src/lib.rt 0 times, and not once", "an edit that does not fit"),
     ("NOT TRIED: its check was killed", "an edit that was not tried"),
     ("refused, as it must be", "no refusal"),
+    (REFUSED + "note: src/m.rt:2:17: `search` found no proof (`overflow_add-a`); `search` gave up", "a single step that no search finds"),
     (AT % (5, "sub-sum", "the goal fails"), "a single step first"),
     (NOTE % ("the index is within bounds", "index-a"), "a single step that no file answers"),
     (AT % (11, "loop-i-ends", "the goal fails"), "a loop's end"),
@@ -126,6 +133,7 @@ GOOD = [
     AT % (8, "loop-i-preserved", "the goal fails"),
     NOTE % ("what the function ensures holds when it returns", "returns-then-v-ge7"),
     NOTE % ("the invariant of the loop holds", "loop-i-init"),
+    REFUSED + "note: src/m.rt:2:17: `search` found no proof (`invariant_of-result-in-None`); `search` gave up",
     LAW % 6,
 ]
 
