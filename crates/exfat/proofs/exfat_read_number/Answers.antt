@@ -1,4 +1,0 @@
-use Rattle.exfat.proofs.exfat_read_number.Goals as goal
-
-pub returns : goal.returns
-returns c = cc
