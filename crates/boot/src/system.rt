@@ -14,21 +14,26 @@ use crate::layout::Layout;
 // Kept: the volume's bytes and their length stay beside it, since what stores has the bytes by `&mut`: as a field, each call would have to
 // promise that it is the same reference and the same system. Bounds of one number, as `k < y.count + 2` or `1 <= n`, stay clauses: a type
 // for each would be opened wherever the number is counted with.
+// APART says whether it is known that no two of the parts overlap, and WIDE whether it is known that the map has a bit for each cluster (0: not
+// known, 1: known): a function asks only for what it needs, and takes any value of the others.
 #[derive(Clone, Copy)]
-pub struct System<'a> {
+pub struct Places<'a, const APART: usize, const WIDE: usize> {
     pub y: Layout,
     pub map: &'a [u8],
     pub ghost laid: { Laid y },
-    pub ghost apart: { Apart y },
-    pub ghost wide: { y.count ≤ 8 * length map.now },
+    pub ghost apart: { 1 ≤ APART → Apart y },
+    pub ghost wide: { 1 ≤ WIDE → y.count ≤ 8 * length map.now },
 }
+
+// All of these facts known.
+pub type System<'a> = Places<'a, 1, 1>;
 
 // What every public call begins with: the layout and the map, or the cause that refuses it before all else.
 pub fn admit(g: Geometry, len: usize, map: &[u8]) -> Result<System<'_>, Cause>
     ensures { MatchResult result (λ s. (s.y ≡ layout_of g len) × ((s.map.now ≡ map.now) × ((s.map.ref_ptr ≡ map.entry.ref_ptr) × (limits g len map.now ≡ true)))) (λ e. (e ≡ Limits) × (limits g len map.now ≡ false)) }
 {
     match geometry::accepted(g, len, map) {
-        Some(shaped) => Ok(System {
+        Some(shaped) => Ok(Places {
             y: shaped.layout(len),
             map,
         }),
@@ -36,7 +41,7 @@ pub fn admit(g: Geometry, len: usize, map: &[u8]) -> Result<System<'_>, Cause>
     }
 }
 
-impl System<'_> {
+impl<const APART: usize, const WIDE: usize> Places<'_, APART, WIDE> {
     // The first byte of cluster k (Rust: `cluster_offset`).
     pub fn cluster_offset(&self, k: u32) -> usize
         requires { (2 ≤ k) × (k < self.now.y.count + 2) }

@@ -10,4 +10,4 @@ pub invariant_of-result : goal.invariant_of-result
 invariant_of-result c =
     let e = c.in-Some.ensures in
     let p = accepted_of _ _ _ e.1 in
-    rw (c.layout.ensures, e.0) (record { laid = laid_of _ _ p; apart = apart_of _ _ p; wide = map_wide _ _ _ e.1 })
+    rw (c.layout.ensures, e.0) (record { laid = laid_of _ _ p; apart = λ _. apart_of _ _ p; wide = λ _. map_wide _ _ _ e.1 })
