@@ -18,7 +18,7 @@ use Rattle.primitives.proofs.BitLaws.{put_same, put_other}
 use Rattle.primitives.proofs.WordLaws.{length_put, put_off, get_same, get_put, get_put_below}
 use Rattle.primitives.proofs.SpliceLaws.{length-splice, splice_off}
 use Rattle.boot.specs.declared.layout.Layout.{Layout}
-use Rattle.boot.specs.declared.system.System.{System}
+use Rattle.boot.specs.declared.system.Places.{Places}
 use Rattle.boot.specs.Geometry.{bitmap_bytes}
 use Rattle.boot.specs.Internal.{Laid, Apart}
 use Rattle.boot.specs.Layout.{cluster_at, in_heap, is_bitmap_cluster}
@@ -35,8 +35,8 @@ pub record Fits (y : Layout) (d : List ℕ) : Type 0 where
   pub long : length d ≡ y.len
 
 -- as a system's layout does
-pub fits : (s : System) (d : List ℕ) → length d ≡ s.y.len → Fits s.y d
-fits s d e = record { laid = s.laid; apart = s.apart; long = e }
+pub fits : {W : ℕ} (s : Places 1 W) (d : List ℕ) → length d ≡ s.y.len → Fits s.y d
+fits s d e = record { laid = s.laid; apart = s.apart (omega arith); long = e }
 
 -- it depends on the volume's length alone
 pub fits_kept : (y : Layout) (d e : List ℕ) → length e ≡ length d → Fits y d → Fits y e

@@ -5,7 +5,7 @@ ghost use Rattle.metadata.specs.Internal.{entry_of, first_bad, none_refused};
 ghost use Rattle.search.specs.Search.{all_from, fewest};
 ghost use Rattle.metadata.specs.Usable.{is_free, is_usable};
 
-use boot::system::System;
+use boot::system::Places;
 
 // The entry of a bad cluster.
 const BAD: u32 = 0xFFFF_FFF7;
@@ -19,7 +19,7 @@ fn first_bad(fat: &[u8], first: u32, n: u32) -> Option<u32>
 }
 
 // The first of the n clusters from first that is bad in the active FAT. The FAT begins mid-volume; that part is handed on.
-fn bad_in(vol: &[u8], sys: &System<'_>, first: u32, n: u32) -> Option<u32>
+fn bad_in<const APART: usize, const WIDE: usize>(vol: &[u8], sys: &Places<'_, APART, WIDE>, first: u32, n: u32) -> Option<u32>
     requires { (length vol.now ≡ sys.now.y.len) × (first + n ≤ sys.now.y.count + 2) }
     ensures { result ≡ first_bad (fat_entry sys.now.y vol.now) first n }
 {
@@ -30,7 +30,7 @@ fn bad_in(vol: &[u8], sys: &System<'_>, first: u32, n: u32) -> Option<u32>
 
 // Whether cluster k is unmarked and not in the system map.
 #[tactic(auto, unfolding(crate::specs::Usable::is_free))]
-fn is_free(vol: &[u8], sys: &System<'_>, k: u32) -> bool
+fn is_free<const APART: usize>(vol: &[u8], sys: &Places<'_, APART, 1>, k: u32) -> bool
     requires { (length vol.now ≡ sys.now.y.len) × ((2 ≤ k) × (k < sys.now.y.count + 2)) }
     ensures { result ≡ is_free sys.now.y vol.now sys.now.map.now k }
 {
@@ -38,7 +38,7 @@ fn is_free(vol: &[u8], sys: &System<'_>, k: u32) -> bool
 }
 
 // Whether cluster k may be taken.
-pub fn usable(vol: &[u8], sys: &System<'_>, k: u32) -> bool
+pub fn usable<const APART: usize>(vol: &[u8], sys: &Places<'_, APART, 1>, k: u32) -> bool
     requires { (length vol.now ≡ sys.now.y.len) × ((2 ≤ k) × (k < sys.now.y.count + 2)) }
     ensures { result ≡ is_usable sys.now.y vol.now sys.now.map.now k }
 {
@@ -46,7 +46,7 @@ pub fn usable(vol: &[u8], sys: &System<'_>, k: u32) -> bool
 }
 
 // The first of the n clusters from k that may be taken.
-pub fn next_usable(vol: &[u8], sys: &System<'_>, k: u32, n: u32) -> Option<u32>
+pub fn next_usable<const APART: usize>(vol: &[u8], sys: &Places<'_, APART, 1>, k: u32, n: u32) -> Option<u32>
     requires { (length vol.now ≡ sys.now.y.len) × ((2 ≤ k) × (k + n ≤ sys.now.y.count + 2)) }
     ensures { MatchOption result (fewest (is_usable sys.now.y vol.now sys.now.map.now) n k ≡ k + n) (λ j. (j ≡ fewest (is_usable sys.now.y vol.now sys.now.map.now) n k) × ((k ≤ j) × (j < k + n))) }
 {
@@ -67,7 +67,7 @@ pub fn next_usable(vol: &[u8], sys: &System<'_>, k: u32, n: u32) -> Option<u32>
 }
 
 // Whether none of the n clusters from first is in the system map or bad.
-fn none_refused(vol: &[u8], sys: &System<'_>, first: u32, n: u32) -> bool
+fn none_refused<const APART: usize>(vol: &[u8], sys: &Places<'_, APART, 1>, first: u32, n: u32) -> bool
     requires { (length vol.now ≡ sys.now.y.len) × ((2 ≤ first) × (first + n ≤ sys.now.y.count + 2)) }
     ensures { result ≡ none_refused sys.now.y vol.now sys.now.map.now first n }
 {
@@ -75,7 +75,7 @@ fn none_refused(vol: &[u8], sys: &System<'_>, first: u32, n: u32) -> bool
 }
 
 // Whether the n clusters from first are all usable (Rust: `run_is_free`): the marks and the map by the byte, then the FAT's entries.
-pub fn run_is_free(vol: &[u8], sys: &System<'_>, first: u32, n: u32) -> bool
+pub fn run_is_free<const APART: usize>(vol: &[u8], sys: &Places<'_, APART, 1>, first: u32, n: u32) -> bool
     requires { (length vol.now ≡ sys.now.y.len) × ((2 ≤ first) × (first + n ≤ sys.now.y.count + 2)) }
     ensures { result ≡ all_from (is_usable sys.now.y vol.now sys.now.map.now) first n }
 {

@@ -3,4 +3,4 @@ use Rattle.metadata.proofs.bitmap.allocated.Goals as goal
 
 pub returns : goal.returns
 unfolding marked mark_byte
-returns c = cc
+returns _ c = cc

@@ -3,4 +3,4 @@ use Rattle.metadata.proofs.bitmap.free_count.Goals as goal
 
 pub returns : goal.returns
 unfolding free_count
-returns c = cc
+returns _ c = cc

@@ -3,4 +3,4 @@ use Rattle.metadata.proofs.bitmap.mark.Goals as goal
 
 pub returns : goal.returns
 unfolding set_mark mark_byte
-returns c = cc
+returns _ c = cc

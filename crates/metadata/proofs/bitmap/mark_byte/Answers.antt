@@ -8,7 +8,7 @@ use Rattle.metadata.proofs.bitmap.mark_byte.Goals as goal
 
 pub returns : goal.returns
 unfolding mark_byte
-returns c =
+returns _ c =
     let a = c.args in
     let p = c.requires in
     let b = (c.slice_known-1.given (a.sys.now.y.bitmap + (a.k - 2) / 8)).fits in

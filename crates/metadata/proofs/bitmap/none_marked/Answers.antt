@@ -4,6 +4,6 @@ use Rattle.metadata.proofs.WindowLaws.{marks_part}
 use Rattle.metadata.proofs.bitmap.none_marked.Goals as goal
 
 pub returns : goal.returns
-returns c =
+returns _ c =
     let a = c.args in
     c.none_set.ensures ∙ rw c.bitmap.ensures.0 (marks_part a.sys.now.y a.vol.now _ a.first a.n (omega arith) (omega arith))

@@ -3,4 +3,4 @@ use Rattle.metadata.proofs.fat.fat_entry.Goals as goal
 
 pub returns : goal.returns
 unfolding fat_entry
-returns c = cc
+returns _ c = cc

@@ -1,3 +1,4 @@
+use native.Mathlib.Omega.{arith}
 use Rattle.std.proofs.lemmas.Result.{err_from_is_err_and}
 use Rattle.boot.proofs.Admission.{refuses, admits}
 use Rattle.metadata.proofs.Stores.{free_is, free_refused}
@@ -10,7 +11,7 @@ returns-in_err-sys c =
 
 pub free_count-requires : goal.free_count-requires
 free_count-requires c = let a = admits _ _ _ _ _ c.in_ok-sys.ensures in
-    a.long
+    (omega arith, a.long)
 
 pub returns : goal.returns
 returns c = rw (c.free_count.ensures, ← c.in_ok-sys.ensures.1.0) (free_is _ _ _ _ (admits _ _ _ _ _ c.in_ok-sys.ensures))

@@ -27,24 +27,24 @@ none_more y d m k at f e j a b =
     ]
 
 pub returns-then-free-end : goal.returns-then-free-end
-returns-then-free-end c =
+returns-then-free-end _ c =
     let l = c.loop-at in
     let f = none-on _ _ _ _ l.at _ _ l.invariant.1.1 c.first_unmarked-free.ensures.0 in
     fewest_is _ _ _ _ (omega arith) (omega arith) (λ h. absurd (omega arith)) (λ j a b. f j a (omega arith))
 
 pub returns-then-usable : goal.returns-then-usable
-returns-then-usable c =
+returns-then-usable _ c =
     let l = c.loop-at in
     let f = none-on _ _ _ _ l.at _ _ l.invariant.1.1 c.first_unmarked-free.ensures.0 in
     (sym (fewest_is _ _ _ _ (omega arith) (omega arith) (λ h. cc) f), (omega arith, omega arith))
 
 pub loop-at-preserved : goal.loop-at-preserved
-loop-at-preserved c =
+loop-at-preserved _ c =
     let l = c.loop-at in
     let f = none-on _ _ _ _ l.at _ _ l.invariant.1.1 c.first_unmarked-free.ensures.0 in
     (omega arith, (omega arith, none_more _ _ _ _ _ f (cc)))
 
 pub returns : goal.returns
-returns c =
+returns _ c =
     let l = c.loop-at in
     fewest_is _ _ _ _ (omega arith) (omega arith) (λ h. absurd (omega arith)) (λ j a b. l.invariant.1.1 j a (omega arith))
