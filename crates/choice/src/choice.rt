@@ -8,7 +8,7 @@ ghost use Rattle.search.specs.Internal.{past_failing};
 ghost use Rattle.choice.specs.Choice.{choose};
 ghost use Rattle.choice.specs.Internal.{first_usable, run_fits};
 
-use boot::system::System;
+use boot::system::Places;
 
 // A run from a cluster on, usable clusters one by one, or too few.
 #[derive(Clone, Copy)]
@@ -19,7 +19,7 @@ pub enum Choice {
 }
 
 // One past the last of the n clusters from low that is not usable; low where all are. More than one cluster is tested at once first.
-fn usable_tail(vol: &[u8], sys: &System<'_>, low: u32, n: u32) -> u32
+fn usable_tail<const APART: usize>(vol: &[u8], sys: &Places<'_, APART, 1>, low: u32, n: u32) -> u32
     requires { (length vol.now ≡ sys.now.y.len) × ((2 ≤ low) × (low + n ≤ sys.now.y.count + 2)) }
     ensures { (result ≡ past_failing (is_usable sys.now.y vol.now sys.now.map.now) low n) × ((low ≤ result) × (result ≤ low + n)) }
 {
@@ -35,7 +35,7 @@ fn usable_tail(vol: &[u8], sys: &System<'_>, low: u32, n: u32) -> u32
 }
 
 // One past the last of the n clusters from low that is marked; low where none is. A byte of none marked is one test.
-fn unmarked_tail(vol: &[u8], sys: &System<'_>, low: u32, n: u32) -> u32
+fn unmarked_tail<const APART: usize, const WIDE: usize>(vol: &[u8], sys: &Places<'_, APART, WIDE>, low: u32, n: u32) -> u32
     requires { (length vol.now ≡ sys.now.y.len) × ((2 ≤ low) × (low + n ≤ sys.now.y.count + 2)) }
     ensures { (result ≡ past_failing (λ k. not (marked sys.now.y vol.now k)) low n) × ((low ≤ result) × (result ≤ low + n)) }
 {
@@ -60,7 +60,7 @@ fn unmarked_tail(vol: &[u8], sys: &System<'_>, low: u32, n: u32) -> u32
 
 // The lowest run of n usable clusters from start to end (Rust: the closure `scan` of `free_run`). A window of n clusters is tested
 // from its end, by its marks first; no run starts before base. Behind a window whose last cluster is marked, the marked ones are passed.
-fn scan(vol: &[u8], sys: &System<'_>, start: u32, end: u32, n: u32) -> Option<u32>
+fn scan<const APART: usize>(vol: &[u8], sys: &Places<'_, APART, 1>, start: u32, end: u32, n: u32) -> Option<u32>
     requires { (length vol.now ≡ sys.now.y.len) × ((2 ≤ start) × ((start ≤ end) × ((end ≤ sys.now.y.count + 2) × (1 ≤ n)))) }
     ensures { result ≡ run_from (is_usable sys.now.y vol.now sys.now.map.now) end n start }
 {
@@ -84,7 +84,7 @@ fn scan(vol: &[u8], sys: &System<'_>, start: u32, end: u32, n: u32) -> Option<u3
 }
 
 // Whether n clusters or more are usable, counted.
-fn counts_to(vol: &[u8], sys: &System<'_>, n: u64) -> bool
+fn counts_to<const APART: usize>(vol: &[u8], sys: &Places<'_, APART, 1>, n: u64) -> bool
     requires { length vol.now ≡ sys.now.y.len }
     ensures { result ≡ leb n (count (is_usable sys.now.y vol.now sys.now.map.now) 2 sys.now.y.count) }
 {
@@ -100,7 +100,7 @@ fn counts_to(vol: &[u8], sys: &System<'_>, n: u64) -> bool
 }
 
 // Whether the n clusters from near lie in the heap and are all usable.
-fn run_fits(vol: &[u8], sys: &System<'_>, near: u32, n: u64) -> bool
+fn run_fits<const APART: usize>(vol: &[u8], sys: &Places<'_, APART, 1>, near: u32, n: u64) -> bool
     requires { length vol.now ≡ sys.now.y.len }
     ensures { result ≡ run_fits (is_usable sys.now.y vol.now sys.now.map.now) sys.now.y.count near n }
 {
@@ -110,7 +110,7 @@ fn run_fits(vol: &[u8], sys: &System<'_>, near: u32, n: u64) -> bool
 }
 
 // Whether n clusters or more are usable: those from near on are looked at first, and counted only where they do not suffice.
-pub fn enough(vol: &[u8], sys: &System<'_>, near: u32, n: u64) -> bool
+pub fn enough<const APART: usize>(vol: &[u8], sys: &Places<'_, APART, 1>, near: u32, n: u64) -> bool
     requires { length vol.now ≡ sys.now.y.len }
     ensures { result ≡ leb n (count (is_usable sys.now.y vol.now sys.now.map.now) 2 sys.now.y.count) }
 {
@@ -118,7 +118,7 @@ pub fn enough(vol: &[u8], sys: &System<'_>, near: u32, n: u64) -> bool
 }
 
 // The lowest run of n usable clusters where none starts at or after start: those that start there are not tested again.
-fn scan_before(vol: &[u8], sys: &System<'_>, start: u32, n: u32) -> Option<u32>
+fn scan_before<const APART: usize>(vol: &[u8], sys: &Places<'_, APART, 1>, start: u32, n: u32) -> Option<u32>
     requires { (length vol.now ≡ sys.now.y.len) × ((2 ≤ start) × ((start < sys.now.y.count + 2) × ((1 ≤ n) × (run_from (is_usable sys.now.y vol.now sys.now.map.now) (sys.now.y.count + 2) n start ≡ None)))) }
     ensures { result ≡ run_from (is_usable sys.now.y vol.now sys.now.map.now) (sys.now.y.count + 2) n 2 }
 {
@@ -127,7 +127,7 @@ fn scan_before(vol: &[u8], sys: &System<'_>, start: u32, n: u32) -> Option<u32>
 }
 
 // The choice of n clusters for a search that starts at start (Rust: `free_run`, `free_list`).
-pub fn choose_clusters(vol: &[u8], sys: &System<'_>, start: u32, n: u32) -> Choice
+pub fn choose_clusters<const APART: usize>(vol: &[u8], sys: &Places<'_, APART, 1>, start: u32, n: u32) -> Choice
     requires { (length vol.now ≡ sys.now.y.len) × ((2 ≤ start) × ((start < sys.now.y.count + 2) × (1 ≤ n))) }
     ensures { result ≡ choose (is_usable sys.now.y vol.now sys.now.map.now) sys.now.y.count n start }
 {
@@ -144,7 +144,7 @@ pub fn choose_clusters(vol: &[u8], sys: &System<'_>, start: u32, n: u32) -> Choi
 }
 
 // The first usable cluster from start on, then from 2; there is one.
-pub fn first_usable(vol: &[u8], sys: &System<'_>, start: u32) -> u32
+pub fn first_usable<const APART: usize>(vol: &[u8], sys: &Places<'_, APART, 1>, start: u32) -> u32
     requires { (length vol.now ≡ sys.now.y.len) × ((2 ≤ start) × ((start < sys.now.y.count + 2) × (1 ≤ count (is_usable sys.now.y vol.now sys.now.map.now) 2 sys.now.y.count))) }
     ensures { result ≡ first_usable (is_usable sys.now.y vol.now sys.now.map.now) sys.now.y.count start }
 {

@@ -8,7 +8,7 @@ use native.Mathlib.Nat.{sub-zero, zero-sub, suc-mul, add-mul, mul-le-mul_right, 
 use native.Mathlib.Numerals.{add-one, sub-one}
 use native.Mathlib.Omega.{arith}
 use lib.Dec.{leb}
-use lib.ListN.{length, take, drop, replicate, length-drop, drop_of_length-le}
+use lib.ListN.{length, take, drop, replicate, length-append, length-drop, drop_of_length-le}
 use lib.Seq.{length-take-le, take_all, take-nil, drop-nil, take-append-le, drop-append-le, take-append-add, drop-append-add, take-take, drop-drop}
 use borrow.Author.Tests.{le-leb, lt-leb}
 use Rattle.primitives.specs.Splice.{splice}
@@ -370,6 +370,13 @@ module _ (y : Layout) (d : List ℕ) (l : Laid y) (long : length d ≡ y.len) wh
   pub length_cluster : (k : ℕ) → in_heap y.count k ≡ true → length (cluster_bytes y d k) ≡ y.size
   unfolding cluster_bytes
   length_cluster k h = length-take-le y.size (drop (cluster_at y k) d) (omega (arith, length-drop (cluster_at y k) d, cluster_room k h))
+
+  pub bytes_length : (ks : List ℕ) → every (in_heap y.count) ks ≡ true → length (bytes_of y d ks) ≡ length ks * y.size
+  unfolding bytes_of
+  bytes_length [] e = omega arith
+  bytes_length (k ∷ ks) e =
+      let n = length_cluster k (every_head (in_heap y.count) k ks e) in
+      omega (arith, length-append (cluster_bytes y d k) (bytes_of y d ks), bytes_length ks (every_tail (in_heap y.count) k ks e), suc-mul (length ks) y.size)
 
   -- whole clusters passed over
   pub bytes_over : (m : ℕ) (ks : List ℕ) (at : ℕ) → m ≤ length ks → every (in_heap y.count) ks ≡ true

@@ -10,7 +10,7 @@ ghost use Rattle.stream.specs.Bytes.{bytes_of, store_at};
 ghost use Rattle.std.specs.Option.{MatchOption};
 
 use crate::allocation::Allocation;
-use boot::system::System;
+use boot::system::Places;
 
 // A cluster of a stream that is known, and how many steps from the first one lead to it.
 #[derive(Clone, Copy)]
@@ -20,7 +20,7 @@ pub struct Place {
 }
 
 // The cluster that so many steps along a stream lead to; in a run they are one sum.
-pub fn seek(vol: &[u8], sys: &System<'_>, run: bool, first: u32, steps: u32) -> u32
+pub fn seek<const APART: usize, const WIDE: usize>(vol: &[u8], sys: &Places<'_, APART, WIDE>, run: bool, first: u32, steps: u32) -> u32
     requires { (length vol.now ≡ sys.now.y.len) × (every (in_heap sys.now.y.count) (along (fat_entry sys.now.y vol.now) run first steps) ≡ true) }
     ensures { result ≡ reached (fat_entry sys.now.y vol.now) run first steps }
 {
@@ -35,7 +35,7 @@ pub fn seek(vol: &[u8], sys: &System<'_>, run: bool, first: u32, steps: u32) -> 
 }
 
 // Stores src in cluster k, from its byte `at` on, and past its end in those that follow it in the heap.
-pub fn put_piece(vol: &mut [u8], sys: &System<'_>, k: u32, at: usize, src: &[u8])
+pub fn put_piece<const APART: usize, const WIDE: usize>(vol: &mut [u8], sys: &Places<'_, APART, WIDE>, k: u32, at: usize, src: &[u8])
     requires { (length vol.old ≡ sys.now.y.len) × ((2 ≤ k) × ((k < sys.now.y.count + 2) × (cluster_at sys.now.y k + at + length src.now ≤ sys.now.y.len))) }
     ensures { vol.new ≡ put_bytes sys.now.y vol.old k at src.now }
 {
@@ -44,7 +44,7 @@ pub fn put_piece(vol: &mut [u8], sys: &System<'_>, k: u32, at: usize, src: &[u8]
 }
 
 // Stores n zeros in cluster k, from its byte `at` on, and past its end in those that follow it in the heap.
-pub fn put_zeros(vol: &mut [u8], sys: &System<'_>, k: u32, at: usize, n: usize)
+pub fn put_zeros<const APART: usize, const WIDE: usize>(vol: &mut [u8], sys: &Places<'_, APART, WIDE>, k: u32, at: usize, n: usize)
     requires { (length vol.old ≡ sys.now.y.len) × ((2 ≤ k) × ((k < sys.now.y.count + 2) × (cluster_at sys.now.y k + at + n ≤ sys.now.y.len))) }
     ensures { vol.new ≡ put_bytes sys.now.y vol.old k at (replicate n 0) }
 {
@@ -53,7 +53,7 @@ pub fn put_zeros(vol: &mut [u8], sys: &System<'_>, k: u32, at: usize, n: usize)
 }
 
 // Fills dst with the bytes from byte `at` of cluster k on and past its end from those that follow it in the heap.
-fn get_piece(vol: &[u8], sys: &System<'_>, k: u32, at: usize, dst: &mut [u8])
+fn get_piece<const APART: usize, const WIDE: usize>(vol: &[u8], sys: &Places<'_, APART, WIDE>, k: u32, at: usize, dst: &mut [u8])
     requires { (length vol.now ≡ sys.now.y.len) × ((2 ≤ k) × ((k < sys.now.y.count + 2) × (cluster_at sys.now.y k + at + length dst.old ≤ sys.now.y.len))) }
     ensures { dst.new ≡ take (length dst.old) (drop (cluster_at sys.now.y k + at) vol.now) }
 {
@@ -82,9 +82,9 @@ struct Piece {
 
 impl ByteWalk {
     // Before n bytes of a stream, from its byte `at` on. Nothing before the place that is known is gone through again.
-    fn new(
+    fn new<const APART: usize, const WIDE: usize>(
         vol: &[u8],
-        sys: &System<'_>,
+        sys: &Places<'_, APART, WIDE>,
         a: Allocation,
         known: Place,
         at: usize,
@@ -104,7 +104,7 @@ impl ByteWalk {
     }
 
     // The next piece: what is left in the cluster, or all of it in a run, whose clusters are one piece of the volume.
-    fn next(&mut self, vol: &[u8], sys: &System<'_>) -> Option<Piece>
+    fn next<const APART: usize, const WIDE: usize>(&mut self, vol: &[u8], sys: &Places<'_, APART, WIDE>) -> Option<Piece>
         requires { (length vol.now ≡ sys.now.y.len) × (self.old.from < self.old.end → (self.old.at < sys.now.y.size) × (self.old.cluster < sys.now.y.count + 2)) }
         ensures { MatchOption result ((self.old.end ≤ self.old.from) × (self.new ≡ self.old)) (λ p. (self.old.from < self.old.end) × ((p ≡ piece_of sys.now.y self.old) × (self.new ≡ past_piece sys.now.y vol.now self.old))) }
     {
@@ -131,7 +131,7 @@ impl ByteWalk {
 }
 
 // Stores src in a stream, from its byte `at` on.
-pub fn store(vol: &mut [u8], sys: &System<'_>, a: Allocation, known: Place, at: usize, src: &[u8])
+pub fn store<const WIDE: usize>(vol: &mut [u8], sys: &Places<'_, 1, WIDE>, a: Allocation, known: Place, at: usize, src: &[u8])
     requires { (length vol.old ≡ sys.now.y.len) × ((every (in_heap sys.now.y.count) (along (fat_entry sys.now.y vol.old) a.no_fat_chain a.first a.count) ≡ true) × ((at + length src.now ≤ a.count * sys.now.y.size) × (Known sys.now.y vol.old a known at × (1 ≤ length src.now)))) }
     ensures { vol.new ≡ store_at sys.now.y vol.old (along (fat_entry sys.now.y vol.old) a.no_fat_chain a.first a.count) at src.now }
 {
@@ -144,9 +144,9 @@ pub fn store(vol: &mut [u8], sys: &System<'_>, a: Allocation, known: Place, at: 
 }
 
 // Fills n bytes of a stream with zeros, from its byte `at` on, and answers the place of the last one.
-pub fn fill(
+pub fn fill<const WIDE: usize>(
     vol: &mut [u8],
-    sys: &System<'_>,
+    sys: &Places<'_, 1, WIDE>,
     a: Allocation,
     known: Place,
     at: usize,
@@ -174,7 +174,7 @@ pub fn fill(
 }
 
 // Fills dst with the bytes of a stream from its byte `at` on.
-pub fn read(vol: &[u8], sys: &System<'_>, a: Allocation, known: Place, at: usize, dst: &mut [u8])
+pub fn read<const APART: usize, const WIDE: usize>(vol: &[u8], sys: &Places<'_, APART, WIDE>, a: Allocation, known: Place, at: usize, dst: &mut [u8])
     requires { (length vol.now ≡ sys.now.y.len) × ((every (in_heap sys.now.y.count) (along (fat_entry sys.now.y vol.now) a.no_fat_chain a.first a.count) ≡ true) × ((at + length dst.old ≤ a.count * sys.now.y.size) × Known sys.now.y vol.now a known at)) }
     ensures { dst.new ≡ take (length dst.old) (drop at (bytes_of sys.now.y vol.now (along (fat_entry sys.now.y vol.now) a.no_fat_chain a.first a.count))) }
 {

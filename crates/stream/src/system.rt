@@ -8,7 +8,7 @@ ghost use Rattle.stream.specs.Internal.{along};
 ghost use Rattle.stream.specs.Stream.{system_cause};
 
 use boot::cause::Cause;
-use boot::system::System;
+use boot::system::Places;
 
 // Refuses the n clusters from first as a run by a system cluster among them. Bytes of the map that are 0 are one test.
 fn run_system_cause(map: &[u8], first: u32, n: u32) -> Result<(), Cause>
@@ -23,9 +23,9 @@ fn run_system_cause(map: &[u8], first: u32, n: u32) -> Result<(), Cause>
 }
 
 // Refuses n clusters of a stream by a system cluster among them.
-pub fn system_cause(
+pub fn system_cause<const APART: usize>(
     vol: &[u8],
-    sys: &System<'_>,
+    sys: &Places<'_, APART, 1>,
     run: bool,
     first: u32,
     n: u32,

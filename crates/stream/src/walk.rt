@@ -10,7 +10,7 @@ ghost use Rattle.stream.specs.Stream.{run_cause, read_run, check_chain, stream_o
 
 use crate::allocation::Allocation;
 use boot::cause::Cause;
-use boot::system::System;
+use boot::system::Places;
 
 // A chain walked to its end: its last cluster, its length, whether all are marked, whether none is barred (number 9), and the cluster
 // that the caller looks for, 0 where the chain ends before it.
@@ -25,7 +25,7 @@ pub struct Walk {
 }
 
 // Whether cluster k may not be in a stream (number 9): a bitmap's cluster in the root directory, a system cluster in any other stream.
-fn is_barred(sys: &System<'_>, root: bool, k: u32) -> bool
+fn is_barred<const APART: usize>(sys: &Places<'_, APART, 1>, root: bool, k: u32) -> bool
     requires { (2 ≤ k) × (k < sys.now.y.count + 2) }
     ensures { result ≡ barred sys.now.y sys.now.map.now root k }
 {
@@ -39,9 +39,9 @@ fn is_barred(sys: &System<'_>, root: bool, k: u32) -> bool
 // cluster `goal` steps from the first is noted on the way. A function by itself in the machine code too: inside its callers the loop
 // would not have what it reads in registers.
 #[inline(never)]
-pub fn fat_chain(
+pub fn fat_chain<const APART: usize>(
     vol: &[u8],
-    sys: &System<'_>,
+    sys: &Places<'_, APART, 1>,
     root: bool,
     first: u32,
     goal: u32,
@@ -78,7 +78,7 @@ pub fn fat_chain(
 }
 
 // Refuses the n clusters from first as a run by the earliest that is outside the heap or unmarked.
-fn run_cause(vol: &[u8], sys: &System<'_>, first: u32, n: u32) -> Result<(), Cause>
+fn run_cause<const APART: usize, const WIDE: usize>(vol: &[u8], sys: &Places<'_, APART, WIDE>, first: u32, n: u32) -> Result<(), Cause>
     requires { (length vol.now ≡ sys.now.y.len) × (1 ≤ n) }
     ensures { number result ≡ run_cause sys.now.y.count (marked sys.now.y vol.now) first n }
 {
@@ -100,7 +100,7 @@ fn run_cause(vol: &[u8], sys: &System<'_>, first: u32, n: u32) -> Result<(), Cau
 }
 
 // Refuses a run by its length, then by its clusters.
-fn read_run(vol: &[u8], sys: &System<'_>, a: Allocation) -> Result<(), Cause>
+fn read_run<const APART: usize, const WIDE: usize>(vol: &[u8], sys: &Places<'_, APART, WIDE>, a: Allocation) -> Result<(), Cause>
     requires { (length vol.now ≡ sys.now.y.len) × (1 ≤ a.count) }
     ensures { number result ≡ number_of (read_run sys.now.y.count (marked sys.now.y vol.now) a.first a.last a.count) }
 {
@@ -127,7 +127,7 @@ pub fn walk_cause(w: Walk, last: u32, count: u32) -> Result<(), Cause>
 
 // Refuses a chain by its walk, then by its length and last cluster, then by its marks. Gives whether the walk saw that none of its
 // clusters is a system cluster.
-fn read_chain(vol: &[u8], sys: &System<'_>, a: Allocation) -> Result<bool, Cause>
+fn read_chain<const APART: usize>(vol: &[u8], sys: &Places<'_, APART, 1>, a: Allocation) -> Result<bool, Cause>
     requires { length vol.now ≡ sys.now.y.len }
     ensures { (number result ≡ number_of (check_chain (marked sys.now.y vol.now) a.last a.count (read_chain sys.now.y.count (fat_entry sys.now.y vol.now) a.first))) × IfOk result (λ clear. clear ≡ chain_clear sys.now.y vol.now sys.now.map.now a.first) }
 {
@@ -141,7 +141,7 @@ fn read_chain(vol: &[u8], sys: &System<'_>, a: Allocation) -> Result<bool, Cause
 
 // A record's clusters tested (Rust: `clusters`, and the test of it): whether a walk of them saw that none is a system cluster, or what
 // refuses them.
-pub fn stream_test(vol: &[u8], sys: &System<'_>, a: Allocation) -> Result<bool, Cause>
+pub fn stream_test<const APART: usize>(vol: &[u8], sys: &Places<'_, APART, 1>, a: Allocation) -> Result<bool, Cause>
     requires { length vol.now ≡ sys.now.y.len }
     ensures { (number result ≡ number_of (stream_of sys.now.y vol.now a)) × IfOk result (λ clear. clear ≡ stream_clear sys.now.y vol.now sys.now.map.now a) }
 {
@@ -156,7 +156,7 @@ pub fn stream_test(vol: &[u8], sys: &System<'_>, a: Allocation) -> Result<bool, 
 }
 
 // Refuses a record by its clusters.
-pub fn stream_cause(vol: &[u8], sys: &System<'_>, a: Allocation) -> Result<(), Cause>
+pub fn stream_cause<const APART: usize>(vol: &[u8], sys: &Places<'_, APART, 1>, a: Allocation) -> Result<(), Cause>
     requires { length vol.now ≡ sys.now.y.len }
     ensures { number result ≡ number_of (stream_of sys.now.y vol.now a) }
 {
@@ -165,7 +165,7 @@ pub fn stream_cause(vol: &[u8], sys: &System<'_>, a: Allocation) -> Result<(), C
 }
 
 // The cluster after k in a stream.
-pub fn next_cluster(vol: &[u8], sys: &System<'_>, run: bool, k: u32) -> u32
+pub fn next_cluster<const APART: usize, const WIDE: usize>(vol: &[u8], sys: &Places<'_, APART, WIDE>, run: bool, k: u32) -> u32
     requires { (length vol.now ≡ sys.now.y.len) × (k < sys.now.y.count + 2) }
     ensures { result ≡ after (fat_entry sys.now.y vol.now) run k }
 {

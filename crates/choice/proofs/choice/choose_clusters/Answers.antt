@@ -4,13 +4,13 @@ use borrow.Author.Tests.{leb-true, leb-false}
 use Rattle.choice.proofs.choice.choose_clusters.Goals as goal
 
 pub returns-in-Some : goal.returns-in-Some
-returns-in-Some c = sym (choose-after _ _ _ _ _ (cc))
+returns-in-Some _ c = sym (choose-after _ _ _ _ _ (cc))
 
 pub returns-in-Some-scan_before : goal.returns-in-Some-scan_before
-returns-in-Some-scan_before c = sym (choose_lowest _ _ _ _ _ (cc) (cc))
+returns-in-Some-scan_before _ c = sym (choose_lowest _ _ _ _ _ (cc) (cc))
 
 pub returns-then-counts_to : goal.returns-then-counts_to
-returns-then-counts_to c = sym (choose_scattered _ _ _ _ (cc) (cc) (leb-true _ _ (cc)))
+returns-then-counts_to _ c = sym (choose_scattered _ _ _ _ (cc) (cc) (leb-true _ _ (cc)))
 
 pub returns : goal.returns
-returns c = sym (choose_few _ _ _ _ (cc) (cc) (leb-false _ _ (cc)))
+returns _ c = sym (choose_few _ _ _ _ (cc) (cc) (leb-false _ _ (cc)))

@@ -24,14 +24,14 @@ module _ (u : ℕ → Bool) (k end : ℕ) (h : k ≤ end) where
   next_one next e l = to-next next e ∙ count_yes u next end l (ap u e ∙ fewest_at u (end - k) k (omega arith))
 
 pub returns-in_default : goal.returns-in_default
-returns-in_default c =
+returns-in_default _ c =
     let a = c.args in
     let l = c.loop in
     let z = next-none (is_usable a.sys.now.y a.vol.now a.sys.now.map.now) l.k (a.sys.now.y.count + 2) (omega arith) c.in_default.ensures in
     sym (lt-leb a.n (count (is_usable a.sys.now.y a.vol.now a.sys.now.map.now) 2 a.sys.now.y.count) (omega arith))
 
 pub loop-preserved : goal.loop-preserved
-loop-preserved c =
+loop-preserved _ c =
     let a = c.args in
     let l = c.loop in
     let s = c.in-Some.ensures in

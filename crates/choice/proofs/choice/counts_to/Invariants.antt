@@ -5,4 +5,4 @@ use Rattle.metadata.specs.Usable.{is_usable}
 use Rattle.choice.proofs.choice.counts_to.Given as goal
 
 abbrev pub invariant-loop : goal.invariant-loop
-invariant-loop l = (2 ≤ l.k) × ((l.k ≤ l.end) × (l.counter + count (is_usable l.sys.y l.vol l.sys.map.now) l.k (l.end - l.k) ≡ count (is_usable l.sys.y l.vol l.sys.map.now) 2 l.sys.y.count))
+invariant-loop _ l = (2 ≤ l.k) × ((l.k ≤ l.end) × (l.counter + count (is_usable l.sys.y l.vol l.sys.map.now) l.k (l.end - l.k) ≡ count (is_usable l.sys.y l.vol l.sys.map.now) 2 l.sys.y.count))

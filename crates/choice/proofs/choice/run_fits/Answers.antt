@@ -9,19 +9,19 @@ use Rattle.choice.proofs.choice.run_fits.Goals.{then-in_heap, else-in_heap}
 use Rattle.choice.proofs.choice.run_fits.Goals as goal
 
 pub overflow_sub-sys : goal.overflow_sub-sys
-overflow_sub-sys c =
+overflow_sub-sys _ c =
     let i = in_heap_lem c.args.sys.now.y.count c.args.near (cc) in
     omega arith
 
 pub run_is_free-requires : goal.run_is_free-requires
-run_is_free-requires c =
+run_is_free-requires _ c =
     elim c.if-in_heap.branch [
       | then-in_heap w ↦ (let i = in_heap_lem c.args.sys.now.y.count c.args.near (cc) in let h = leb-true c.args.n w.from.result (cc) in search rules)
       | else-in_heap w ↦ absurd (false≢true (cc))
     ]
 
 pub returns-then-n-from : goal.returns-then-n-from
-returns-then-n-from c =
+returns-then-n-from _ c =
     elim c.if-in_heap.branch [
       | then-in_heap w ↦
           let i = in_heap_lem c.args.sys.now.y.count c.args.near (cc) in
@@ -31,7 +31,7 @@ returns-then-n-from c =
     ]
 
 pub returns-else-n-from : goal.returns-else-n-from
-returns-else-n-from c =
+returns-else-n-from _ c =
     elim c.if-in_heap.branch [
       | then-in_heap w ↦
           let i = in_heap_lem c.args.sys.now.y.count c.args.near (cc) in

@@ -17,21 +17,21 @@ weaker : (y : Layout) (d m : List ℕ) (k : ℕ) → not (marked y d k) ≡ fals
 weaker y d m k e = usable-not_free y d m k (free_marked y d m k (not-false (marked y d k) e))
 
 pub returns-then-last-base : goal.returns-then-last-base
-returns-then-last-base c =
+returns-then-last-base _ c =
     let a = c.args in
     let l = c.loop-base in
     let t = c.usable_tail-last in
     sym (window_hit (is_usable a.sys.now.y a.vol.now a.sys.now.map.now) a.end a.n l.base t.result t.ensures.0 (omega arith) (omega arith)) ∙ l.invariant.1.1
 
 pub loop-base-preserved-then-next-base : goal.loop-base-preserved-then-next-base
-loop-base-preserved-then-next-base c =
+loop-base-preserved-then-next-base _ c =
     let a = c.args in
     let l = c.loop-base in
     let t = c.usable_tail-last in
     (omega arith, (omega arith, window_skip (is_usable a.sys.now.y a.vol.now a.sys.now.map.now) (is_usable a.sys.now.y a.vol.now a.sys.now.map.now) (λ k e. e) a.end a.n l.base t.result t.ensures.0 (λ z. omega arith) ∙ l.invariant.1.1))
 
 pub loop-base-preserved-then-next-base-2 : goal.loop-base-preserved-then-next-base-2
-loop-base-preserved-then-next-base-2 c =
+loop-base-preserved-then-next-base-2 _ c =
     let a = c.args in
     let l = c.loop-base in
     let t = c.unmarked_tail-next in (
@@ -45,11 +45,11 @@ loop-base-preserved-then-next-base-2 c =
     )
 
 pub loop-base-preserved : goal.loop-base-preserved
-loop-base-preserved c =
+loop-base-preserved _ c =
     let a = c.args in
     let l = c.loop-base in
     let t = c.unmarked_tail-next in
     (omega arith, (omega arith, window_skip (is_usable a.sys.now.y a.vol.now a.sys.now.map.now) (λ k. not (marked a.sys.now.y a.vol.now k)) (weaker a.sys.now.y a.vol.now a.sys.now.map.now) a.end a.n l.base t.result t.ensures.0 (λ z. omega arith) ∙ l.invariant.1.1))
 
 pub returns : goal.returns
-returns c = sym (run_none _ _ _ _ (omega arith)) ∙ c.loop-base.invariant.1.1
+returns _ c = sym (run_none _ _ _ _ (omega arith)) ∙ c.loop-base.invariant.1.1

@@ -7,7 +7,7 @@ use Rattle.search.proofs.Runs.{run_before}
 use Rattle.choice.proofs.choice.scan_before.Goals as goal
 
 pub returns : goal.returns
-returns c =
+returns _ c =
     let a = c.args in
     let p = c.requires in
     let u = is_usable a.sys.now.y a.vol.now a.sys.now.map.now in

@@ -25,12 +25,12 @@ fail : (y : Layout) (d : List ℕ) (low k : ℕ) → low < k → marked y d (k -
 fail y d low k h e = tail_fail (λ i. not (marked y d i)) low k h (ap not e)
 
 pub returns-then-allocated : goal.returns-then-allocated
-returns-then-allocated c =
+returns-then-allocated _ c =
     let l = c.loop-k in
     (sym (fail _ _ _ _ (omega arith) (cc)) ∙ l.invariant.1.1, (omega arith, omega arith))
 
 pub returns-then-k-low : goal.returns-then-k-low
-returns-then-k-low c =
+returns-then-k-low _ c =
     let a = c.args in
     let l = c.loop-k in (
       sym (tail_none _ _ (a.low - a.low) (omega arith)) ∙ over _ _ _ a.low l.k (omega arith) (omega arith) (omega arith) (omega arith) (cc) ∙ l.invariant.1.1,
@@ -38,14 +38,14 @@ returns-then-k-low c =
     )
 
 pub loop-k-preserved-then-byte_unmarked : goal.loop-k-preserved-then-byte_unmarked
-loop-k-preserved-then-byte_unmarked c =
+loop-k-preserved-then-byte_unmarked _ c =
     let l = c.loop-k in
     (omega arith, (omega arith, over _ _ _ _ l.k (omega arith) (omega arith) (omega arith) (omega arith) (cc) ∙ l.invariant.1.1))
 
 pub loop-k-preserved : goal.loop-k-preserved
-loop-k-preserved c =
+loop-k-preserved _ c =
     let l = c.loop-k in
     (omega arith, (omega arith, pass _ _ _ _ (omega arith) (cc) ∙ l.invariant.1.1))
 
 pub returns : goal.returns
-returns c = (sym (tail_none _ _ _ (omega arith)) ∙ c.loop-k.invariant.1.1, (omega arith, omega arith))
+returns _ c = (sym (tail_none _ _ _ (omega arith)) ∙ c.loop-k.invariant.1.1, (omega arith, omega arith))

@@ -5,4 +5,4 @@ use Rattle.search.specs.Internal.{past_failing}
 use Rattle.choice.proofs.choice.usable_tail.Given as goal
 
 abbrev pub invariant-loop-last : goal.invariant-loop-last
-invariant-loop-last l = (l.low ≤ l.last) × ((l.last ≤ l.low + l.n) × (past_failing (is_usable l.sys.y l.vol l.sys.map.now) l.low (l.last - l.low) ≡ past_failing (is_usable l.sys.y l.vol l.sys.map.now) l.low l.n))
+invariant-loop-last _ l = (l.low ≤ l.last) × ((l.last ≤ l.low + l.n) × (past_failing (is_usable l.sys.y l.vol l.sys.map.now) l.low (l.last - l.low) ≡ past_failing (is_usable l.sys.y l.vol l.sys.map.now) l.low l.n))

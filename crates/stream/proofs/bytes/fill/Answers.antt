@@ -15,7 +15,7 @@ use Rattle.stream.proofs.ByteWalkLaws.{zeros_part, length-piece, some_piece, in_
 use Rattle.stream.proofs.bytes.fill.Goals as goal
 
 pub loop-piece-init : goal.loop-piece-init
-loop-piece-init c =
+loop-piece-init _ c =
     let p = c.requires in
     let a = c.args in
     let e = c.new-walk.ensures in
@@ -28,27 +28,27 @@ loop-piece-init c =
     }
 
 pub next-requires : goal.next-requires
-next-requires c =
+next-requires _ c =
     let p = c.requires in
     let i = c.loop-piece.invariant.storing in
-    (i.long, λ h. (i.stands.low, (in_heap_lem _ _ (in_first _ _ c.args.sys.now.laid i.long _ i.stands h)).1))
+    (omega arith, (i.long, λ h. (i.stands.low, (in_heap_lem _ _ (in_first _ _ c.args.sys.now.laid i.long _ i.stands h)).1)))
 
 pub put_zeros-requires : goal.put_zeros-requires
-put_zeros-requires c =
+put_zeros-requires _ c =
     let p = c.requires in
     let i = c.loop-piece.invariant.storing in
     let e = c.in-Some.ensures in
     let h = in_heap_lem _ _ (in_first _ _ c.args.sys.now.laid i.long _ i.stands e.0) in
-    rw e.1.0 (i.long, (h.0, (h.1, omega (arith, piece_in _ _ c.args.sys.now.laid i.long _ i.stands e.0))))
+    rw e.1.0 (omega arith, (i.long, (h.0, (h.1, omega (arith, piece_in _ _ c.args.sys.now.laid i.long _ i.stands e.0)))))
 
 pub loop-piece-smaller : goal.loop-piece-smaller
-loop-piece-smaller c =
+loop-piece-smaller _ c =
     let l = c.loop-piece in
     let e = c.in-Some.ensures in
     rw e.1.1 (omega (arith, some_piece c.args.sys.now.y l.vol l.walk l.invariant.storing.stands e.0))
 
 pub loop-piece-preserved : goal.loop-piece-preserved
-loop-piece-preserved c =
+loop-piece-preserved _ c =
     let p = c.requires in
     let a = c.args in
     let l = c.loop-piece in
@@ -74,7 +74,7 @@ last_step : (a : Allocation) (s at n : ℕ) → 1 ≤ s → 1 ≤ n → at + n �
 last_step a s at n low some h = (div-lt_iff_lt-mul {k = s} {x = at + n - 1} {y = a.count} (omega arith)).1 (omega arith)
 
 pub overflow_add-last : goal.overflow_add-last
-overflow_add-last c =
+overflow_add-last _ c =
     let p = c.requires in
     let a = c.args in
     let t = last_step a.a a.sys.now.y.size a.at a.n (omega (arith, a.sys.now.laid.size_low)) p.1.1.1.1 p.1.1.0 in
@@ -82,13 +82,13 @@ overflow_add-last c =
     omega (arith, a.sys.now.laid.count_high)
 
 pub returns-then-a : goal.returns-then-a
-returns-then-a c =
+returns-then-a _ c =
     let i = c.loop-piece.invariant.storing in
     let e = reach_run (fat_entry c.args.sys.now.y c.args.vol.now) c.args.a.no_fat_chain c.args.a.first ((c.args.at + c.args.n - 1) / c.args.sys.now.y.size) c.if-a.true in
     (storing_end _ _ _ _ _ i c.in_default.ensures.0, cc)
 
 pub returns-else-a : goal.returns-else-a
-returns-else-a c =
+returns-else-a _ c =
     let i = c.loop-piece.invariant in
     let e = (i.reaching c.if-a.false).there c.in_default.ensures.0 in
     (storing_end _ _ _ _ _ i.storing c.in_default.ensures.0, cc)

@@ -9,7 +9,7 @@ use Rattle.stream.proofs.ByteWalkLaws.{Storing, Reaching}
 use Rattle.stream.proofs.bytes.fill.Given as goal
 
 abbrev pub invariant-loop-piece : goal.invariant-loop-piece
-invariant-loop-piece l =
+invariant-loop-piece _ l =
     record {
       storing : Storing l.sys.y l.vol l.walk (replicate l.n 0) (store_at l.sys.y l.initial.vol (along (fat_entry l.sys.y l.initial.vol) l.a.no_fat_chain l.a.first l.a.count) l.at (replicate l.n 0));
       same_run : l.walk.run ≡ l.a.no_fat_chain;
@@ -17,4 +17,4 @@ invariant-loop-piece l =
     }
 
 abbrev pub decreases-loop-piece : goal.decreases-loop-piece
-decreases-loop-piece l = l.walk.end - l.walk.from
+decreases-loop-piece _ l = l.walk.end - l.walk.from

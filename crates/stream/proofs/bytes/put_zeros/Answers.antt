@@ -3,4 +3,4 @@ use Rattle.stream.proofs.bytes.put_zeros.Goals as goal
 
 pub returns : goal.returns
 unfolding put_bytes
-returns c = cc
+returns _ c = cc

@@ -8,4 +8,4 @@ use Rattle.stream.specs.Internal.{along, reached}
 use Rattle.stream.proofs.bytes.seek.Given as goal
 
 abbrev pub invariant-loop : goal.invariant-loop
-invariant-loop l = (every (in_heap l.sys.y.count) (along (fat_entry l.sys.y l.vol) l.fn.run l.k (l.steps - l.counter)) ≡ true) × (reached (fat_entry l.sys.y l.vol) l.fn.run l.k (l.steps - l.counter) ≡ reached (fat_entry l.sys.y l.vol) l.fn.run l.first l.steps)
+invariant-loop _ l = (every (in_heap l.sys.y.count) (along (fat_entry l.sys.y l.vol) l.fn.run l.k (l.steps - l.counter)) ≡ true) × (reached (fat_entry l.sys.y l.vol) l.fn.run l.k (l.steps - l.counter) ≡ reached (fat_entry l.sys.y l.vol) l.fn.run l.first l.steps)

@@ -10,41 +10,41 @@ use Rattle.stream.proofs.ByteWalkLaws.{part_is, length-part, piece_whole, some_p
 use Rattle.stream.proofs.bytes.store.Goals as goal
 
 pub loop-piece-init : goal.loop-piece-init
-loop-piece-init c =
+loop-piece-init _ c =
     let p = c.requires in
     let a = c.args in
     let s = sought _ _ _ _ _ a.at (length a.src.now) a.sys.now.laid p.0 p.1.0 p.1.1.0 in
     storing_start a.sys.now.y a.vol.now a.a a.at a.src.now _ s p.0 c.new-walk.ensures
 
 pub next-requires : goal.next-requires
-next-requires c =
+next-requires _ c =
     let p = c.requires in
     let i = c.loop-piece.invariant in
-    (i.long, λ h. (i.stands.low, (in_heap_lem _ _ (in_first _ _ c.args.sys.now.laid i.long _ i.stands h)).1))
+    (omega arith, (i.long, λ h. (i.stands.low, (in_heap_lem _ _ (in_first _ _ c.args.sys.now.laid i.long _ i.stands h)).1)))
 
 pub overflow_add-bytes : goal.overflow_add-bytes
-overflow_add-bytes c = let e = c.in-Some.ensures in rw e.1.0 (omega (arith, e.0, piece_whole c.args.sys.now.y c.loop-piece.walk, c.loop-piece.invariant.whole))
+overflow_add-bytes _ c = let e = c.in-Some.ensures in rw e.1.0 (omega (arith, e.0, piece_whole c.args.sys.now.y c.loop-piece.walk, c.loop-piece.invariant.whole))
 
 pub slice_bounds-bytes-end : goal.slice_bounds-bytes-end
-slice_bounds-bytes-end c = let e = c.in-Some.ensures in rw e.1.0 (omega (arith, e.0, piece_whole c.args.sys.now.y c.loop-piece.walk, c.loop-piece.invariant.whole))
+slice_bounds-bytes-end _ c = let e = c.in-Some.ensures in rw e.1.0 (omega (arith, e.0, piece_whole c.args.sys.now.y c.loop-piece.walk, c.loop-piece.invariant.whole))
 
 pub put_piece-requires : goal.put_piece-requires
-put_piece-requires c =
+put_piece-requires _ c =
     let y = c.args.sys.now.y in
     let l = c.loop-piece in
     let i = l.invariant in
     let e = c.in-Some.ensures in
     let h = in_heap_lem _ _ (in_first _ _ c.args.sys.now.laid i.long _ i.stands e.0) in
-    rw e.1.0 (i.long, (h.0, (h.1, omega (arith, length-part c.args.src.now l.walk.from (piece_length y l.walk), piece_in _ _ c.args.sys.now.laid i.long _ i.stands e.0))))
+    rw e.1.0 (omega arith, (i.long, (h.0, (h.1, omega (arith, length-part c.args.src.now l.walk.from (piece_length y l.walk), piece_in _ _ c.args.sys.now.laid i.long _ i.stands e.0)))))
 
 pub loop-piece-smaller : goal.loop-piece-smaller
-loop-piece-smaller c =
+loop-piece-smaller _ c =
     let l = c.loop-piece in
     let e = c.in-Some.ensures in
     rw e.1.1 (omega (arith, some_piece c.args.sys.now.y l.vol l.walk l.invariant.stands e.0))
 
 pub loop-piece-preserved : goal.loop-piece-preserved
-loop-piece-preserved c =
+loop-piece-preserved _ c =
     let a = c.args in
     let l = c.loop-piece in
     let e = c.in-Some.ensures in
@@ -54,4 +54,4 @@ loop-piece-preserved c =
     storing_turn a.sys.now.y l.vol w l.walk a.src.now _ l.invariant e.0 c.put_piece.new.vol c.next.new.self c.put_piece.auto.vol (rw e.1.0 at stored) e.1.1
 
 pub returns : goal.returns
-returns c = storing_end _ _ _ _ _ c.loop-piece.invariant c.in_default.ensures.0
+returns _ c = storing_end _ _ _ _ _ c.loop-piece.invariant c.in_default.ensures.0

@@ -6,7 +6,7 @@ use Rattle.stream.proofs.ByteWalkLaws.{Storing}
 use Rattle.stream.proofs.bytes.store.Given as goal
 
 abbrev pub invariant-loop-piece : goal.invariant-loop-piece
-invariant-loop-piece l = Storing l.sys.y l.vol l.walk l.src (store_at l.sys.y l.initial.vol (along (fat_entry l.sys.y l.initial.vol) l.fn.a.no_fat_chain l.fn.a.first l.fn.a.count) l.at l.src)
+invariant-loop-piece _ l = Storing l.sys.y l.vol l.walk l.src (store_at l.sys.y l.initial.vol (along (fat_entry l.sys.y l.initial.vol) l.fn.a.no_fat_chain l.fn.a.first l.fn.a.count) l.at l.src)
 
 abbrev pub decreases-loop-piece : goal.decreases-loop-piece
-decreases-loop-piece l = l.walk.end - l.walk.from
+decreases-loop-piece _ l = l.walk.end - l.walk.from

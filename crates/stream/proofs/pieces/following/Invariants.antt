@@ -9,7 +9,7 @@ use Rattle.stream.specs.Pieces.{following}
 use Rattle.stream.proofs.pieces.following.Given as goal
 
 abbrev pub invariant-loop-done : goal.invariant-loop-done
-invariant-loop-done l = (l.done ≤ l.n) × ((every (in_heap l.sys.y.count) (along (fat_entry l.sys.y l.vol) false (l.k + l.done) (l.n - l.done + 1)) ≡ true) × (l.done + following (l.k + l.done) (along (fat_entry l.sys.y l.vol) false (fat_entry l.sys.y l.vol (l.k + l.done)) (l.n - l.done)) ≡ following l.k (along (fat_entry l.sys.y l.vol) false (fat_entry l.sys.y l.vol l.k) l.n)))
+invariant-loop-done _ l = (l.done ≤ l.n) × ((every (in_heap l.sys.y.count) (along (fat_entry l.sys.y l.vol) false (l.k + l.done) (l.n - l.done + 1)) ≡ true) × (l.done + following (l.k + l.done) (along (fat_entry l.sys.y l.vol) false (fat_entry l.sys.y l.vol (l.k + l.done)) (l.n - l.done)) ≡ following l.k (along (fat_entry l.sys.y l.vol) false (fat_entry l.sys.y l.vol l.k) l.n)))
 
 abbrev pub decreases-loop-done : goal.decreases-loop-done
-decreases-loop-done l = l.n - l.done
+decreases-loop-done _ l = l.n - l.done

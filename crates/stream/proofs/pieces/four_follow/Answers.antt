@@ -3,4 +3,4 @@ use Rattle.stream.proofs.pieces.four_follow.Goals as goal
 
 pub returns : goal.returns
 unfolding four_follow
-returns c = cc
+returns _ c = cc

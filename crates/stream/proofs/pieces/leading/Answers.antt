@@ -9,10 +9,10 @@ use Rattle.stream.proofs.PieceSteps.{leading-chain, leading-run}
 use Rattle.stream.proofs.pieces.leading.Goals as goal
 
 pub returns-then-run : goal.returns-then-run
-returns-then-run c = leading-run _ _ _ _ (cc)
+returns-then-run _ c = leading-run _ _ _ _ (cc)
 
 pub returns : goal.returns
-returns c =
+returns _ c =
     let a = c.args in
     let fat = fat_entry a.sys.now.y a.vol.now in
     let r : a.run ≡ false = c.if-run.false in

@@ -9,4 +9,4 @@ use Rattle.stream.specs.Stream.{system_cause}
 use Rattle.stream.proofs.system.system_cause.Given as goal
 
 abbrev pub invariant-loop : goal.invariant-loop
-invariant-loop l = (every (in_heap l.sys.y.count) (along (fat_entry l.sys.y l.vol) l.fn.run l.k (l.n - l.counter)) ≡ true) × (system_cause l.sys.map.now (along (fat_entry l.sys.y l.vol) l.fn.run l.k (l.n - l.counter)) ≡ system_cause l.sys.map.now (along (fat_entry l.sys.y l.vol) l.fn.run l.first l.n))
+invariant-loop _ l = (every (in_heap l.sys.y.count) (along (fat_entry l.sys.y l.vol) l.fn.run l.k (l.n - l.counter)) ≡ true) × (system_cause l.sys.map.now (along (fat_entry l.sys.y l.vol) l.fn.run l.k (l.n - l.counter)) ≡ system_cause l.sys.map.now (along (fat_entry l.sys.y l.vol) l.fn.run l.first l.n))

@@ -10,12 +10,12 @@ use Rattle.stream.proofs.walk.fat_chain.Goals.{then-before-goal, else-before-goa
 use Rattle.stream.proofs.walk.fat_chain.Goals as goal
 
 pub loop-before-init : goal.loop-before-init
-loop-before-init c =
+loop-before-init _ c =
     let z : c.args.sys.now.y.count - 0 ≡ c.args.sys.now.y.count = omega arith in
     (omega arith, (omega arith, rw z (walk_start _ _ _ _ _ _ (heap_in _ _ (omega arith) (omega arith)))))
 
 pub returns-then-v : goal.returns-then-v
-returns-then-v c =
+returns-then-v _ c =
     let l = c.loop-before in
     let s : c.if-before-goal.seen ≡ cond (eqb l.before c.args.goal) l.k l.seen =
     elim c.if-before-goal.branch [
@@ -25,10 +25,10 @@ returns-then-v c =
     (cc) ∙ (sym (walk_end _ _ _ _ _ _ _ _ _ _ _ (omega arith) (cc)) ∙ l.invariant.1.1)
 
 pub returns-then-not-in_heap : goal.returns-then-not-in_heap
-returns-then-not-in_heap c = sym (walk_wrong _ _ _ _ _ _ _ _ _ _ _ (omega arith) (λ z. omega arith) (cc)) ∙ c.loop-before.invariant.1.1
+returns-then-not-in_heap _ c = sym (walk_wrong _ _ _ _ _ _ _ _ _ _ _ (omega arith) (λ z. omega arith) (cc)) ∙ c.loop-before.invariant.1.1
 
 pub loop-before-preserved : goal.loop-before-preserved
-loop-before-preserved c =
+loop-before-preserved _ c =
     let l = c.loop-before in
     let h = in_heap_lem c.args.sys.now.y.count c.fat_entry-v.result (cc) in
     let z : c.args.sys.now.y.count - (l.before + 1) ≡ c.args.sys.now.y.count - l.before - 1 = omega arith in
@@ -40,4 +40,4 @@ loop-before-preserved c =
     (h.0, (h.1, (cc) ∙ (sym (walk_more _ _ _ _ _ _ _ _ _ _ _ (omega arith) (λ z. omega arith) (cc)) ∙ l.invariant.1.1)))
 
 pub returns : goal.returns
-returns c = sym (walk_none _ _ _ _ _ _ _ _ _ _ _ (omega arith)) ∙ c.loop-before.invariant.1.1
+returns _ c = sym (walk_none _ _ _ _ _ _ _ _ _ _ _ (omega arith)) ∙ c.loop-before.invariant.1.1

@@ -42,23 +42,23 @@ module _ (y : Layout) (d : List ℕ) (first n next : ℕ) (i : in_heap y.count f
       sym (run_past ∙ run_outside y.count (marked y d) next (n - (next - first)) (omega arith) w)
 
 pub overflow_sub-sys : goal.overflow_sub-sys
-overflow_sub-sys c =
+overflow_sub-sys _ c =
     let h = in_heap_lem c.args.sys.now.y.count c.args.first (cc) in
     omega arith
 
 pub first_unmarked-next-requires : goal.first_unmarked-next-requires
-first_unmarked-next-requires c =
+first_unmarked-next-requires _ c =
     let h = in_heap_lem c.args.sys.now.y.count c.args.first (cc) in
     search rules
 
 pub returns-then-next-first : goal.returns-then-next-first
-returns-then-next-first c = run-whole _ _ _ _ _ (cc) (c.first_unmarked-next.ensures.0 ∙ ap (first_unmarked c.args.sys.now.y c.args.vol.now c.args.first) (omega arith)) (omega arith)
+returns-then-next-first _ c = run-whole _ _ _ _ _ (cc) (c.first_unmarked-next.ensures.0 ∙ ap (first_unmarked c.args.sys.now.y c.args.vol.now c.args.first) (omega arith)) (omega arith)
 
 pub returns-then-in_heap-2 : goal.returns-then-in_heap-2
-returns-then-in_heap-2 c = run-stops _ _ _ _ _ (cc) (c.first_unmarked-next.ensures.0 ∙ ap (first_unmarked c.args.sys.now.y c.args.vol.now c.args.first) (omega arith)) (λ z. omega arith) (cc)
+returns-then-in_heap-2 _ c = run-stops _ _ _ _ _ (cc) (c.first_unmarked-next.ensures.0 ∙ ap (first_unmarked c.args.sys.now.y c.args.vol.now c.args.first) (omega arith)) (λ z. omega arith) (cc)
 
 pub returns-else-in_heap-2 : goal.returns-else-in_heap-2
-returns-else-in_heap-2 c = run-leaves _ _ _ _ _ (cc) (c.first_unmarked-next.ensures.0 ∙ ap (first_unmarked c.args.sys.now.y c.args.vol.now c.args.first) (omega arith)) (λ z. omega arith) (cc)
+returns-else-in_heap-2 _ c = run-leaves _ _ _ _ _ (cc) (c.first_unmarked-next.ensures.0 ∙ ap (first_unmarked c.args.sys.now.y c.args.vol.now c.args.first) (omega arith)) (λ z. omega arith) (cc)
 
 pub returns-else-in_heap : goal.returns-else-in_heap
-returns-else-in_heap c = sym (run_outside _ _ _ _ (omega arith) (cc))
+returns-else-in_heap _ c = sym (run_outside _ _ _ _ (omega arith) (cc))

@@ -11,21 +11,21 @@ use Rattle.stream.proofs.walk.stream_test.Goals as goal
 
 pub returns-then-a-eq0 : goal.returns-then-a-eq0
 unfolding stream_of number_of
-returns-then-a-eq0 c = (sym (ap number_of (stream_empty _ _ _ _ (omega arith))), sym (clear_empty _ _ _ _ (omega arith)))
+returns-then-a-eq0 _ c = (sym (ap number_of (stream_empty _ _ _ _ (omega arith))), sym (clear_empty _ _ _ _ (omega arith)))
 
 pub returns-in_err-read_run : goal.returns-in_err-read_run
 unfolding stream_of
-returns-in_err-read_run c =
+returns-in_err-read_run _ c =
     let p = err_from_is_err_and c.from_residual.result c.from_residual.ensures.1 in
     rw (p.1, p.2) (c.in_err-read_run.ensures ∙ sym (ap number_of (stream_run _ _ _ _ (λ z. omega arith) (cc))), tt)
 
 pub returns-then-a : goal.returns-then-a
 unfolding stream_of
-returns-then-a c = (c.in_ok-read_run.ensures ∙ sym (ap number_of (stream_run _ _ _ _ (λ z. omega arith) (cc))), sym (clear_run _ _ _ _ (cc)))
+returns-then-a _ c = (c.in_ok-read_run.ensures ∙ sym (ap number_of (stream_run _ _ _ _ (λ z. omega arith) (cc))), sym (clear_run _ _ _ _ (cc)))
 
 pub returns : goal.returns
 unfolding stream_of
-returns c =
+returns _ c =
     let r = c.read_chain.ensures in
     let a = c.args in
     let clear = sym (clear_chain a.sys.now.y a.vol.now a.sys.now.map.now a.a (λ z. omega arith) (cc)) in

@@ -7,15 +7,15 @@ use Rattle.stream.proofs.BytesSteps.{known_steps, known_reach, known_heap, sough
 use Rattle.stream.proofs.bytes.ByteWalk.new.Goals as goal
 
 pub seek-requires : goal.seek-requires
-seek-requires c =
+seek-requires _ c =
     let p = c.requires in
     let a = c.args in
     let s = sought _ _ _ _ _ a.at a.n a.sys.now.laid p.0 p.1.0 p.1.1.0 in
     let k = known_steps _ _ _ _ _ p.1.1.1 (omega (arith, a.sys.now.laid.size_low)) in
-    (p.0, known_heap a.sys.now.y a.vol.now a.a a.known p.1.1.1.reaches (a.at / a.sys.now.y.size) k s.before)
+    (omega arith, (p.0, known_heap a.sys.now.y a.vol.now a.a a.known p.1.1.1.reaches (a.at / a.sys.now.y.size) k s.before))
 
 pub returns : goal.returns
-returns c =
+returns _ c =
     let p = c.requires in
     let a = c.args in
     let k = known_steps _ _ _ _ _ p.1.1.1 (omega (arith, a.sys.now.laid.size_low)) in

@@ -6,7 +6,7 @@ use Rattle.stream.proofs.bytes.ByteWalk.next.Goals.{then-self-2, else-self-2}
 use Rattle.stream.proofs.bytes.ByteWalk.next.Goals as goal
 
 pub returns : goal.returns
-returns c =
+returns _ c =
     let a = c.args in
     let s = a.self.now in
     let e : c.if-self-2.len ≡ piece_length a.sys.now.y s =
