@@ -4,7 +4,7 @@ ghost use Rattle.metadata.specs.Marks.{mark_run};
 ghost use Rattle.write_alloc.specs.Take.{link_run, take_each, take_single};
 ghost use Rattle.write_alloc.specs.Internal.{prev_taken, taken_from, taken_of, whole_byte};
 
-use boot::system::System;
+use boot::system::{Places, System};
 
 // The cluster reached, 0 before the first, and how many are still to be taken.
 // Kept: 0 is no cluster's number, and `take_single` takes the cluster before likewise, 0 for none.
@@ -23,7 +23,7 @@ fn whole_byte(k: u32, left: u32) -> bool
 }
 
 // Marks the n clusters from first: eight at once where they are one byte of the bitmap.
-pub fn mark_run(vol: &mut [u8], sys: &System<'_>, first: u32, n: u32)
+pub fn mark_run<const WIDE: usize>(vol: &mut [u8], sys: &Places<'_, 1, WIDE>, first: u32, n: u32)
     requires { (length vol.old ≡ sys.now.y.len) × ((2 ≤ first) × (first + n ≤ sys.now.y.count + 2)) }
     ensures { vol.new ≡ mark_run sys.now.y vol.old first n }
 {
@@ -42,7 +42,7 @@ pub fn mark_run(vol: &mut [u8], sys: &System<'_>, first: u32, n: u32)
 }
 
 // Links n clusters from first, each to the next one (Rust: `link`, without the end).
-pub fn link_run(vol: &mut [u8], sys: &System<'_>, first: u32, n: u32)
+pub fn link_run<const APART: usize, const WIDE: usize>(vol: &mut [u8], sys: &Places<'_, APART, WIDE>, first: u32, n: u32)
     requires { (length vol.old ≡ sys.now.y.len) × (first + n ≤ sys.now.y.count + 2) }
     ensures { vol.new ≡ link_run sys.now.y vol.old first n }
 {

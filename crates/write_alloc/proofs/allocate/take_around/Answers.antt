@@ -13,7 +13,7 @@ take_usable-requires c =
     let a = c.args in
     let p = c.requires in
     let r = c.take_usable-after in
-    let q = then_ready a.sys.now.y a.vol.now a.sys.now.map.now a.start a.n a.prev a.sys.now.laid a.sys.now.apart p.0 p.1.0 p.1.1.0 p.1.1.1 _ _ r.ensures.0 r.ensures.1 in
+    let q = then_ready a.sys.now.y a.vol.now a.sys.now.map.now a.start a.n a.prev a.sys.now.laid (a.sys.now.apart (omega arith)) p.0 p.1.0 p.1.1.0 p.1.1.1 _ _ r.ensures.0 r.ensures.1 in
     (omega arith, (omega arith, (omega arith, (q.0, q.1))))
 
 pub returns : goal.returns
@@ -22,4 +22,4 @@ returns c =
     let p = c.requires in
     let r = c.take_usable-after in
     let s = c.take_usable in
-    then_done a.sys.now.y a.vol.now a.sys.now.map.now a.start a.n a.prev a.sys.now.laid a.sys.now.apart p.0 p.1.0 p.1.1.0 p.1.1.1 _ _ r.ensures.0 r.ensures.1 _ _ s.ensures.0 s.ensures.1
+    then_done a.sys.now.y a.vol.now a.sys.now.map.now a.start a.n a.prev a.sys.now.laid (a.sys.now.apart (omega arith)) p.0 p.1.0 p.1.1.0 p.1.1.1 _ _ r.ensures.0 r.ensures.1 _ _ s.ensures.0 s.ensures.1

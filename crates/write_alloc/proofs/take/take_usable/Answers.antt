@@ -19,9 +19,9 @@ loop-k-preserved c =
       (
         omega arith,
         (
-          one_taken _ _ _ _ _ a.sys.now.laid a.sys.now.apart len (omega arith) (omega arith) i.1.0 c.take_one.ensures,
+          one_taken _ _ _ _ _ a.sys.now.laid (a.sys.now.apart (omega arith)) len (omega arith) (omega arith) i.1.0 c.take_one.ensures,
           (cc)
-              ∙ (sym (takes_past _ _ _ _ l.k _ _ _ (omega arith) q.ensures.0 ∙ takes_yes _ _ _ _ _ _ _ a.sys.now.laid a.sys.now.apart len (omega arith) (omega arith) (omega arith) (omega arith) i.1.0 i.1.1.0 u)
+              ∙ (sym (takes_past _ _ _ _ l.k _ _ _ (omega arith) q.ensures.0 ∙ takes_yes _ _ _ _ _ _ _ a.sys.now.laid (a.sys.now.apart (omega arith)) len (omega arith) (omega arith) (omega arith) (omega arith) i.1.0 i.1.1.0 u)
               ∙ i.1.1.1),
         ),
       ),
