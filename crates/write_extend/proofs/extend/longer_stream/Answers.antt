@@ -1,3 +1,4 @@
+use native.Mathlib.Omega.{arith}
 use Rattle.write_alloc.proofs.AllocateLaws.{shown_as}
 use Rattle.write_extend.proofs.ExtendLaws.{last_facts, place_facts, longer_in, longer_out}
 use Rattle.write_extend.proofs.extend.longer_stream.Goals as goal
@@ -6,15 +7,15 @@ pub in_place-requires : goal.in_place-requires
 in_place-requires c =
     let a = c.args in
     let p = c.requires in
-    let f = last_facts a.sys.now.y a.vol.now a.sys.now.map.now a.a a.n a.sys.now.laid a.sys.now.apart p.0 p.1.0 p.1.1.0 p.1.1.1 in
+    let f = last_facts a.sys.now.y a.vol.now a.sys.now.map.now a.a a.n a.sys.now.laid (a.sys.now.apart (omega arith)) p.0 p.1.0 p.1.1.0 p.1.1.1 in
     (p.0, (f.0, (f.1, f.2)))
 
 pub longer_run-requires : goal.longer_run-requires
 longer_run-requires c =
     let a = c.args in
     let p = c.requires in
-    let f = last_facts a.sys.now.y a.vol.now a.sys.now.map.now a.a a.n a.sys.now.laid a.sys.now.apart p.0 p.1.0 p.1.1.0 p.1.1.1 in
-    let h = place_facts a.sys.now.y a.vol.now a.sys.now.map.now a.a a.n a.sys.now.laid a.sys.now.apart p.0 p.1.0 p.1.1.0 p.1.1.1 (cc) in
+    let f = last_facts a.sys.now.y a.vol.now a.sys.now.map.now a.a a.n a.sys.now.laid (a.sys.now.apart (omega arith)) p.0 p.1.0 p.1.1.0 p.1.1.1 in
+    let h = place_facts a.sys.now.y a.vol.now a.sys.now.map.now a.a a.n a.sys.now.laid (a.sys.now.apart (omega arith)) p.0 p.1.0 p.1.1.0 p.1.1.1 (cc) in
     (p.0, (f.0, (h, p.1.1.1.room)))
 
 pub returns-then-in_place : goal.returns-then-in_place

@@ -9,4 +9,4 @@ use Rattle.write_shrink.specs.Shrink.{free_all}
 use Rattle.write_shrink.proofs.shrink.free_from.Given as goal
 
 abbrev pub invariant-loop : goal.invariant-loop
-invariant-loop l = (every (in_heap l.sys.y.count) (along (fat_entry l.sys.y l.vol) l.run l.k (l.n - l.counter)) ≡ true) × (Distinct (along (fat_entry l.sys.y l.vol) l.run l.k (l.n - l.counter)) × (free_all l.sys.y l.vol (along (fat_entry l.sys.y l.vol) l.run l.k (l.n - l.counter)) ≡ free_all l.sys.y l.initial.vol (along (fat_entry l.sys.y l.initial.vol) l.run l.first l.n)))
+invariant-loop _ l = (every (in_heap l.sys.y.count) (along (fat_entry l.sys.y l.vol) l.run l.k (l.n - l.counter)) ≡ true) × (Distinct (along (fat_entry l.sys.y l.vol) l.run l.k (l.n - l.counter)) × (free_all l.sys.y l.vol (along (fat_entry l.sys.y l.vol) l.run l.k (l.n - l.counter)) ≡ free_all l.sys.y l.initial.vol (along (fat_entry l.sys.y l.initial.vol) l.run l.first l.n)))

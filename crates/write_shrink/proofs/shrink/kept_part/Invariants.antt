@@ -10,4 +10,4 @@ use Rattle.write_shrink.proofs.Cutting.{walk_kept}
 use Rattle.write_shrink.proofs.shrink.kept_part.Given as goal
 
 abbrev pub invariant-loop : goal.invariant-loop
-invariant-loop l = (l.last < l.sys.y.count + 2) × ((l.next ≡ after (fat_entry l.sys.y l.vol) l.run l.last) × ((every (in_heap l.sys.y.count) (along (fat_entry l.sys.y l.vol) l.run l.next (l.n - l.counter)) ≡ true) × (walk_kept (fat_entry l.sys.y l.vol) l.run l.rising l.last (l.n - l.counter) ≡ kept_part (fat_entry l.sys.y l.vol) l.run l.first l.n)))
+invariant-loop _ l = (l.last < l.sys.y.count + 2) × ((l.next ≡ after (fat_entry l.sys.y l.vol) l.run l.last) × ((every (in_heap l.sys.y.count) (along (fat_entry l.sys.y l.vol) l.run l.next (l.n - l.counter)) ≡ true) × (walk_kept (fat_entry l.sys.y l.vol) l.run l.rising l.last (l.n - l.counter) ≡ kept_part (fat_entry l.sys.y l.vol) l.run l.first l.n)))

@@ -9,7 +9,7 @@ use Rattle.write_shrink.proofs.shrink.shrink_read.Goals as goal
 pub kept_part-part-requires : goal.kept_part-part-requires
 kept_part-part-requires c =
     let p = c.requires in
-    (p.0, kept_heap _ _ _ _ c.args.sys.now.laid (omega (arith, p.1.0)) p.1.1.1.0)
+    (omega arith, (p.0, kept_heap _ _ _ _ c.args.sys.now.laid (omega (arith, p.1.0)) p.1.1.1.0))
 
 pub freed_cause-requires : goal.freed_cause-requires
 freed_cause-requires c =
