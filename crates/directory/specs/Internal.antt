@@ -44,31 +44,31 @@ unfoldable pub slot_entry : (y : Layout) (d : List ℕ) (a : Allocation) (slot :
 slot_entry y d a slot = cond (before_end (bytes_in y d a) slot) (Some (entry_place y d a slot)) None
 
 -- of a directory opened: its bytes
-abbrev pub bytes : OpenDirectory → List ℕ
+abbrev pub bytes : {A W : ℕ} → OpenDirectory A W → List ℕ
 bytes d = bytes_in d.sys.now.y d.vol.now d.allocation
 
 -- the volume's FAT
-abbrev pub fat_of : OpenDirectory → ℕ → ℕ
+abbrev pub fat_of : {A W : ℕ} → OpenDirectory A W → ℕ → ℕ
 fat_of d = fat_entry d.sys.now.y d.vol.now
 
 -- the bytes of cluster k
-abbrev pub bytes_at : OpenDirectory → (k : ℕ) → List ℕ
+abbrev pub bytes_at : {A W : ℕ} → OpenDirectory A W → (k : ℕ) → List ℕ
 bytes_at d k = cluster_bytes d.sys.now.y d.vol.now k
 
 -- n of its clusters, from cluster k on
-abbrev pub clusters_from : OpenDirectory → (k n : ℕ) → List ℕ
+abbrev pub clusters_from : {A W : ℕ} → OpenDirectory A W → (k n : ℕ) → List ℕ
 clusters_from d k n = along (fat_of d) d.allocation.no_fat_chain k n
 
 -- its entry i
-abbrev pub nth_entry : OpenDirectory → (i : ℕ) → Cursor
+abbrev pub nth_entry : {A W : ℕ} → OpenDirectory A W → (i : ℕ) → Cursor
 nth_entry d i = entry_at d.sys.now.y (fat_of d) d.allocation.no_fat_chain d.allocation.first i
 
 -- the entry of a slot by its byte
-abbrev pub slot_place : OpenDirectory → (slot : ℕ) → Cursor
+abbrev pub slot_place : {A W : ℕ} → OpenDirectory A W → (slot : ℕ) → Cursor
 slot_place d slot = entry_place d.sys.now.y d.vol.now d.allocation slot
 
 -- the set at a slot
-abbrev pub slot_set : OpenDirectory → (slot : ℕ) → List ℕ
+abbrev pub slot_set : {A W : ℕ} → OpenDirectory A W → (slot : ℕ) → List ℕ
 slot_set d slot = set_in d.sys.now.y d.vol.now d.allocation slot
 
 -- windows of n entries from entry i on, passed one after the other while the last entry of each is in use, `more` at most: where that stops
@@ -86,7 +86,7 @@ pub record Directory : Type 0 where
   pub allocation : Allocation
 
 -- by what its function gives
-abbrev pub directory_opened : Result OpenDirectory Cause → Directory
+abbrev pub directory_opened : {A W : ℕ} → Result (OpenDirectory A W) Cause → Directory
 directory_opened (Ok d) = record { number = 0; allocation = d.allocation }
 directory_opened (Err c) = record { number = cause_number c; allocation = empty }
 

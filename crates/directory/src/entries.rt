@@ -8,6 +8,7 @@ ghost use Rattle.directory.specs.Entries.{entry_count, in_use, before_end};
 ghost use Rattle.directory.specs.Internal.{next_entry, slot_entry, past_used, room_for, bytes, fat_of, bytes_at, nth_entry};
 
 use crate::directory::OpenDirectory;
+use boot::system::Places;
 
 // An entry: its cluster, and its first byte there.
 #[derive(Clone, Copy)]
@@ -28,6 +29,20 @@ struct Tail {
 pub struct Room {
     pub slot: u32,
     pub clusters: u32,
+}
+
+// One byte of a cluster.
+pub fn byte_at<const APART: usize, const WIDE: usize>(
+    vol: &[u8],
+    sys: &Places<'_, APART, WIDE>,
+    k: u32,
+    at: usize,
+) -> u8
+    requires { (length vol.now ≡ sys.now.y.len) × ((2 ≤ k) × ((k < sys.now.y.count + 2) × (at < sys.now.y.size))) }
+    ensures { result ≡ cluster_byte sys.now.y vol.now k at }
+{
+    let start = sys.cluster_offset(k);
+    vol[start + at]
 }
 
 // Whether none of the first n entries of a part has type 0. One entry a turn takes twice the time of two.
@@ -55,22 +70,13 @@ fn used_windows(part: &[u8], first: u32, n: u32) -> u32
     (at / 32) as u32
 }
 
-impl OpenDirectory<'_> {
-    // One byte of a cluster.
-    pub fn byte_at(&self, k: u32, at: usize) -> u8
-        requires { (2 ≤ k) × ((k < self.now.sys.now.y.count + 2) × (at < self.now.sys.now.y.size)) }
-        ensures { result ≡ cluster_byte self.now.sys.now.y self.now.vol.now k at }
-    {
-        let start = self.sys.cluster_offset(k);
-        self.vol[start + at]
-    }
-
+impl<const APART: usize, const WIDE: usize> OpenDirectory<'_, APART, WIDE> {
     // Whether an entry is in use.
     fn in_use(&self, e: Cursor) -> bool
         requires { (2 ≤ e.cluster) × ((e.cluster < self.now.sys.now.y.count + 2) × (e.at + 32 ≤ self.now.sys.now.y.size)) }
         ensures { result ≡ eqb (bit_of (cluster_byte self.now.sys.now.y self.now.vol.now e.cluster e.at) 7) 1 }
     {
-        primitives::bits::bit_test(self.byte_at(e.cluster, e.at), 7)
+        primitives::bits::bit_test(byte_at(self.vol, self.sys, e.cluster, e.at), 7)
     }
 
     // The cluster after one.
@@ -99,13 +105,6 @@ impl OpenDirectory<'_> {
         }
     }
 
-    // How many entries a directory has.
-    pub fn entry_count(&self) -> u32
-        ensures { (result ≡ entry_count (bytes self.now)) × (result ≤ 524288) }
-    {
-        self.allocation.count * ((self.sys.y.size / 32) as u32)
-    }
-
     // Whether none of the first n entries of a cluster has type 0. The cluster's part of the volume is handed on.
     fn none_ends_in(&self, k: u32, n: u32) -> bool
         requires { (2 ≤ k) × ((k < self.now.sys.now.y.count + 2) × (32 * n ≤ self.now.sys.now.y.size)) }
@@ -114,6 +113,25 @@ impl OpenDirectory<'_> {
         let a = self.sys.cluster_offset(k);
         let e = a + self.sys.y.size;
         none_ends(&self.vol[a..e], n)
+    }
+
+    // Windows of n entries of a cluster, passed in the same way. Its part of the volume is handed on.
+    fn used_windows_in(&self, k: u32, first: u32, n: u32) -> u32
+        requires { (2 ≤ k) × ((k < self.now.sys.now.y.count + 2) × ((32 * first ≤ self.now.sys.now.y.size) × ((1 ≤ n) × (n ≤ 19)))) }
+        ensures { result ≡ past_used (bytes_at self.now k) n first }
+    {
+        let a = self.sys.cluster_offset(k);
+        let e = a + self.sys.y.size;
+        used_windows(&self.vol[a..e], first, n)
+    }
+}
+
+impl<const WIDE: usize> OpenDirectory<'_, 1, WIDE> {
+    // How many entries a directory has.
+    pub fn entry_count(&self) -> u32
+        ensures { (result ≡ entry_count (bytes self.now)) × (result ≤ 524288) }
+    {
+        self.allocation.count * ((self.sys.y.size / 32) as u32)
     }
 
     // The entry of a slot, or none where an entry of type 0 stands before it.
@@ -194,16 +212,6 @@ impl OpenDirectory<'_> {
             };
         }
         self.last_used(e, base, n - 1)
-    }
-
-    // Windows of n entries of a cluster, passed in the same way. Its part of the volume is handed on.
-    fn used_windows_in(&self, k: u32, first: u32, n: u32) -> u32
-        requires { (2 ≤ k) × ((k < self.now.sys.now.y.count + 2) × ((32 * first ≤ self.now.sys.now.y.size) × ((1 ≤ n) × (n ≤ 19)))) }
-        ensures { result ≡ past_used (bytes_at self.now k) n first }
-    {
-        let a = self.sys.cluster_offset(k);
-        let e = a + self.sys.y.size;
-        used_windows(&self.vol[a..e], first, n)
     }
 
     // The same from entry base on, which e is, in e's cluster.

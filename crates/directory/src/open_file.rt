@@ -147,17 +147,17 @@ fn set_cause(set: &[u8; 608], count: u32, size: usize) -> Result<(), Cause>
     Ok(())
 }
 
-impl OpenDirectory<'_> {
+impl OpenDirectory<'_, 1, 1> {
     // How many entries the set has whose first entry e is, at a slot with no type 0 before it: none where that is no file entry or the
     // set does not fit.
     fn entries_here(&self, slot: u32, e: Cursor, total: u32) -> Option<usize>
         requires { (slot < entry_count (bytes self.now)) × ((e ≡ slot_place self.now slot) × ((total ≡ entry_count (bytes self.now)) × ((total ≤ 524288) × (before_end (bytes self.now) slot ≡ true)))) }
         ensures { result ≡ whole_set (bytes self.now) slot }
     {
-        if self.byte_at(e.cluster, e.at) != 0x85 {
+        if crate::entries::byte_at(self.vol, self.sys, e.cluster, e.at) != 0x85 {
             return None;
         }
-        let n = 1 + usize::from(self.byte_at(e.cluster, e.at + 1));
+        let n = 1 + usize::from(crate::entries::byte_at(self.vol, self.sys, e.cluster, e.at + 1));
         if 19 < n || (total as usize) < slot as usize + n {
             return None;
         }

@@ -17,7 +17,7 @@ pub struct Spot {
     pub at: usize,
 }
 
-impl OpenDirectory<'_> {
+impl<const APART: usize, const WIDE: usize> OpenDirectory<'_, APART, WIDE> {
     // The cluster after k in the stream, which has so many from k on, 0 where k is the last one.
     fn cluster_after(&self, k: u32, left: u32) -> u32
         requires { every (in_heap self.now.sys.now.y.count) (clusters_from self.now k left) ≡ true }

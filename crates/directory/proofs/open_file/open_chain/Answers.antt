@@ -1,3 +1,4 @@
+use native.Mathlib.Omega.{arith}
 use mathlib.Core.Path.{refl, sym}
 use Rattle.std.proofs.lemmas.Result.{err_from_is_err_and}
 use Rattle.boot.proofs.Apart.{in_heap_lem}
@@ -10,7 +11,7 @@ pub fat_chain-requires : goal.fat_chain-requires
 fat_chain-requires c =
     let p = c.requires in
     let a = c.args in
-    (p.0, in_heap_lem a.sys.now.y.count a.first p.1.0)
+    (omega arith, (p.0, in_heap_lem a.sys.now.y.count a.first p.1.0))
 
 pub returns-in_err-w : goal.returns-in_err-w
 returns-in_err-w c =

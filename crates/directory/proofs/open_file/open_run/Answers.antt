@@ -23,7 +23,7 @@ system_cause-requires c =
     let a = c.args in
     let p = c.requires in
     let b : Allocation = record { first = a.first; last = a.first + a.n - 1; count = a.n; no_fat_chain = true } in
-    (p.0, (along_heap a.sys.now.y a.vol.now b (sym c.in_ok-stream_cause.ensures), omega arith))
+    (omega arith, (p.0, (along_heap a.sys.now.y a.vol.now b (sym c.in_ok-stream_cause.ensures), omega arith)))
 
 pub returns-in_err-system_cause : goal.returns-in_err-system_cause
 returns-in_err-system_cause c =

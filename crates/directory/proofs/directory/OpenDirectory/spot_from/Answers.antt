@@ -6,23 +6,23 @@ use Rattle.directory.proofs.SpotLaws.{slot_inside, spot_found, second_heap}
 use Rattle.directory.proofs.directory.OpenDirectory.spot_from.Goals as goal
 
 pub cluster_after-second-requires : goal.cluster_after-second-requires
-cluster_after-second-requires c =
+cluster_after-second-requires _ c =
     let d = c.args.self.now in
     let p = c.requires in
     let a = c.args in
     let s = slot_inside d.sys.now.y d.vol.now d.allocation a.slot d.sys.now.laid d.reads p.0 in
-    rw (ap (λ (x : Cursor). x.cluster) p.1) s.heap
+    (omega arith, rw (ap (λ (x : Cursor). x.cluster) p.1) s.heap)
 
 pub cluster_after-third-requires : goal.cluster_after-third-requires
-cluster_after-third-requires c =
+cluster_after-third-requires _ c =
     let d = c.args.self.now in
     let p = c.requires in
     let a = c.args in
     let s = slot_inside d.sys.now.y d.vol.now d.allocation a.slot d.sys.now.laid d.reads p.0 in
-    second_heap _ _ _ _ _ _ (omega (arith, s.steps)) c.cluster_after-second.ensures (rw (ap (λ (x : Cursor). x.cluster) p.1) s.heap)
+    (omega arith, second_heap _ _ _ _ _ _ (omega (arith, s.steps)) c.cluster_after-second.ensures (rw (ap (λ (x : Cursor). x.cluster) p.1) s.heap))
 
 pub returns : goal.returns
-returns c =
+returns _ c =
     let d = c.args.self.now in
     let p = c.requires in
     let a = c.args in

@@ -6,7 +6,7 @@ use Rattle.directory.proofs.CursorLaws.{cluster_part}
 use Rattle.directory.proofs.directory.OpenDirectory.used_windows_in.Goals as goal
 
 pub returns : goal.returns
-returns c =
+returns _ c =
     let d = c.args.self.now in
     let a = c.args in
     let o = c.cluster_offset-a in
