@@ -5,7 +5,7 @@ ghost use Rattle.read_file.specs.Part.{no_part, stored_part, zero_part, part_byt
 ghost use Rattle.read_file.specs.Read.{file_part};
 ghost use Rattle.read_file.specs.Internal.{Readable};
 
-use boot::system::System;
+use boot::system::Places;
 use stream::allocation::Allocation;
 
 // Whether a part is of the zeros, else of the volume; its first byte there; and how many bytes it has.
@@ -29,9 +29,9 @@ pub fn no_part() -> Part
 }
 
 // The part of the volume from an offset below the valid length on, whose cluster k is known. Only FAT entries of the part are read.
-fn stored_part(
+fn stored_part<const APART: usize, const WIDE: usize>(
     vol: &[u8],
-    sys: &System<'_>,
+    sys: &Places<'_, APART, WIDE>,
     a: Allocation,
     k: u32,
     valid: usize,
@@ -66,9 +66,9 @@ fn zero_part(len: u64, zeros: usize, offset: u64) -> Part
 }
 
 // The part from an offset on of the file whose set, stream and cluster there are known.
-pub fn file_part(
+pub fn file_part<const APART: usize, const WIDE: usize>(
     vol: &[u8],
-    sys: &System<'_>,
+    sys: &Places<'_, APART, WIDE>,
     b: Allocation,
     k: u32,
     set: &[u8; 608],

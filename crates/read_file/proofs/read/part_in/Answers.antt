@@ -1,3 +1,4 @@
+use native.Mathlib.Omega.{arith}
 use mathlib.Core.Path.{refl, sym, ◌∙◌}
 use Rattle.std.proofs.lemmas.Result.{err_from_is_err_and}
 use Rattle.boot.proofs.CauseLaws.{cause-not0}
@@ -28,7 +29,7 @@ file_part-requires c =
     let a = c.args in
     let e = c.in_ok-f.ensures in
     let w = fits a.sys.now a.vol.now p in
-    found_readable a.sys.now.y a.vol.now a.sys.now.map.now (root_record a.sys.now.y a.vol.now a.root) a.slot a.offset w _ e.0 _ e.1 refl
+    (omega arith, found_readable a.sys.now.y a.vol.now a.sys.now.map.now (root_record a.sys.now.y a.vol.now a.root) a.slot a.offset w _ e.0 _ e.1 refl)
 
 pub returns : goal.returns
 returns c =

@@ -14,7 +14,7 @@ put_zeros-requires c =
     let w = fits a.sys.now a.vol.now p.0 in
     let i = ap (λ (r : Answer). in_heap a.sys.now.y.count r.allocation.last) c.grow_in-grown.ensures.0 ∙ last_heap a.sys.now.y a.vol.now a.sys.now.map.now a.dir 1 a.hint p.1 w (omega arith) in
     let h = in_heap_lem a.sys.now.y.count _ i in
-    (c.grow_in-grown.auto.vol ∙ p.0, (h.0, (h.1, omega (arith, cluster_end a.sys.now.y a.sys.now.laid a.sys.now.apart _ i))))
+    (omega arith, (c.grow_in-grown.auto.vol ∙ p.0, (h.0, (h.1, omega (arith, cluster_end a.sys.now.y a.sys.now.laid (a.sys.now.apart (omega arith)) _ i)))))
 
 pub returns : goal.returns
 returns c =

@@ -5,7 +5,7 @@ use Rattle.write_dir.proofs.PlaceLaws.{stored_part, store_spot}
 use Rattle.write_dir.proofs.place.write_set.Goals as goal
 
 pub returns : goal.returns
-returns c =
+returns _ c =
     let a = c.args in
     let s = a.set.now in
     let r = c.requires.1 in
