@@ -2,7 +2,7 @@
 use Rattle.std.proofs.Common.{◌≡◌, ℕ, ◌+◌, ◌*◌, ◌/◌, ◌<◌, ◌≤◌, min, Bool, true, false, cond, not, eqb, List, [], ◌∷◌, length, take, drop, replicate, sym, refl, ap, ◌∙◌, subst, mul-le-mul_right, arith, ne_eqb, eqb-true}
 use Rattle.tables.specs.Lists.{every}
 use Rattle.boot.specs.declared.layout.Layout.{Layout}
-use Rattle.boot.specs.declared.system.System.{System}
+use Rattle.boot.specs.declared.system.Places.{Places}
 use Rattle.boot.specs.Limits.{in_map}
 use Rattle.boot.specs.Internal.{Laid}
 use Rattle.boot.specs.Layout.{in_heap}
@@ -323,10 +323,10 @@ module _ (y : Layout) (d m : List ℕ) (a : Allocation) (slot offset hint : ℕ)
 
 -- ---- a file of the root, as opening it on a system gives it
 
-module _ (s : System) (d : List ℕ) (long : length d ≡ s.y.len) (root slot offset hint : ℕ) (f : OpenedFile) (bs : List ℕ)
+module _ (s : Places 1 1) (d : List ℕ) (long : length d ≡ s.y.len) (root slot offset hint : ℕ) (f : OpenedFile) (bs : List ℕ)
     (e : (f ≡ target s.y d s.map.now (root_record s.y d root) slot offset hint) × (bs ≡ target_set s.y d (root_record s.y d root) slot hint)) (z : f.number ≡ 0) where
   pub opened : Opens s.y d s.map.now (root_record s.y d root) slot bs f hint
-  opened = found_opens s.y d s.map.now (root_record s.y d root) slot offset hint (fits s d long) s.wide f e.0 bs e.1 z
+  opened = found_opens s.y d s.map.now (root_record s.y d root) slot offset hint (fits s d long) (s.wide (omega arith)) f e.0 bs e.1 z
 
   pub opened_known : Known s.y d f.stream f.place (min (valid_length bs) offset)
-  opened_known = found_known s.y d s.map.now (root_record s.y d root) slot offset hint (fits s d long) s.wide f e.0 bs e.1 z
+  opened_known = found_known s.y d s.map.now (root_record s.y d root) slot offset hint (fits s d long) (s.wide (omega arith)) f e.0 bs e.1 z

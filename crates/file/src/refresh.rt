@@ -12,7 +12,7 @@ ghost use Rattle.file.specs.Refresh.{entries_of, recorded, missing, length_cause
 ghost use Rattle.file.specs.Internal.{grown_place, zeroed_place, near_of};
 
 use boot::cause::Cause;
-use boot::system::System;
+use boot::system::{Places, System};
 use directory::spot::Spot;
 use entry_set::stamp::Stamp;
 use stream::allocation::Allocation;
@@ -37,9 +37,9 @@ fn near_of(b: Allocation, hint: u32) -> u32
 }
 
 // Refuses a length for which more clusters are missing than are usable. They are searched only where some are missing.
-pub fn length_cause(
+pub fn length_cause<const APART: usize>(
     vol: &[u8],
-    sys: &System<'_>,
+    sys: &Places<'_, APART, 1>,
     b: Allocation,
     len: u64,
     hint: u32,
@@ -69,9 +69,9 @@ fn missing(sys: &System<'_>, b: Allocation, len: u64) -> u32
 
 // Fills a stream with zeros from one byte up to another; nothing where that is not above it (Rust: `zero_range`). Answers the place that
 // the zeros reached, or the known one where there are none.
-pub fn zero_range(
+pub fn zero_range<const WIDE: usize>(
     vol: &mut [u8],
-    sys: &System<'_>,
+    sys: &Places<'_, 1, WIDE>,
     b: Allocation,
     known: Place,
     from: u64,
@@ -109,9 +109,9 @@ pub fn grow_to(vol: &mut [u8], sys: &System<'_>, b: Allocation, len: u64, hint: 
 }
 
 // Stores a set anew: its stream, both lengths, the stamp, the Archive attribute and the checksum (Rust: `record`).
-pub fn record_set(
+pub fn record_set<const APART: usize, const WIDE: usize>(
     vol: &mut [u8],
-    sys: &System<'_>,
+    sys: &Places<'_, APART, WIDE>,
     spot: Spot,
     set: &mut [u8; 608],
     b: Allocation,

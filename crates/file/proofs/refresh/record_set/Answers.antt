@@ -3,4 +3,4 @@ use Rattle.file.proofs.refresh.record_set.Goals as goal
 
 pub returns : goal.returns
 unfolding recorded
-returns c = ((cc), (cc))
+returns _ c = ((cc), (cc))

@@ -7,12 +7,12 @@ use Rattle.file.proofs.RefreshLaws.{zeros_none, zeroed_some, zeroed_none}
 use Rattle.file.proofs.refresh.zero_range.Goals as goal
 
 pub fill-requires : goal.fill-requires
-fill-requires c =
+fill-requires _ c =
     let p = c.requires in
-    (p.0, (along_heap _ _ _ p.1.0, (omega arith, (p.1.1.1, omega arith))))
+    (omega arith, (p.0, (along_heap _ _ _ p.1.0, (omega arith, (p.1.1.1, omega arith)))))
 
 pub returns-then-from-to : goal.returns-then-from-to
-returns-then-from-to c =
+returns-then-from-to _ c =
     let a = c.args in
     let p = c.requires in
     let e = c.fill.ensures in
@@ -22,6 +22,6 @@ returns-then-from-to c =
     )
 
 pub returns : goal.returns
-returns c =
+returns _ c =
     let a = c.args in
     (sym (zeros_none _ _ _ _ (a.to - a.from) (omega arith)), sym (zeroed_none _ _ _ _ _ _ (omega arith)))

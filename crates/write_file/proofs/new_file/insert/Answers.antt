@@ -1,3 +1,4 @@
+use native.Mathlib.Omega.{arith}
 use Rattle.std.proofs.Common.{◌∙◌}
 use Rattle.file.proofs.OpenLaws.{stands_inside, stands_reaches}
 use Rattle.write_file.proofs.NewFileLaws.{ready_grows, insert_stands, insert_shown}
@@ -23,7 +24,7 @@ locate-spot-requires c =
     let p = c.requires in
     let g = c.grow_by-w in
     let h = insert_stands a.sys.now.y a.vol.now a.sys.now.map.now a.dir a.hint p.0 a.n p.1.1.0 a.room p.1.1.1.0 p.1.1.1.1 _ _ g.ensures.0 g.ensures.1 in
-    stands_inside _ _ _ _ p.0.laid _ h p.1.0
+    (omega arith, stands_inside _ _ _ _ p.0.laid _ h p.1.0)
 
 pub write_set-requires : goal.write_set-requires
 write_set-requires c =
@@ -31,7 +32,7 @@ write_set-requires c =
     let p = c.requires in
     let g = c.grow_by-w in
     let h = insert_stands a.sys.now.y a.vol.now a.sys.now.map.now a.dir a.hint p.0 a.n p.1.1.0 a.room p.1.1.1.0 p.1.1.1.1 _ _ g.ensures.0 g.ensures.1 in
-    (g.auto.vol ∙ p.0.long, stands_reaches _ _ _ _ p.0.laid _ _ h c.locate-spot.ensures)
+    (omega arith, (g.auto.vol ∙ p.0.long, stands_reaches _ _ _ _ p.0.laid _ _ h c.locate-spot.ensures))
 
 pub returns : goal.returns
 returns c =

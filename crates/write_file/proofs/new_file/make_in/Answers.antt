@@ -1,3 +1,4 @@
+use native.Mathlib.Omega.{arith}
 use Rattle.std.proofs.Common.{refl}
 use Rattle.std.proofs.lemmas.Result.{err_from_is_err_and}
 use Rattle.boot.proofs.CauseLaws.{cause-not0}
@@ -17,7 +18,7 @@ returns-then-not-in_heap c = rw (← c.in_ok-sys.ensures.1.0) (shown_as (call_hi
 
 pub root_dir-requires : goal.root_dir-requires
 root_dir-requires c = let a = admits _ _ _ _ _ c.in_ok-sys.ensures in
-    a.long
+    (omega arith, a.long)
 
 pub returns-in_err-root : goal.returns-in_err-root
 returns-in_err-root c =

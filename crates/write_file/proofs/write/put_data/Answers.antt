@@ -11,7 +11,7 @@ store-requires c =
     let w = fits a.sys.now a.vol.now p.0 in
     let z = c.zero_range-reached in
     let k = zeroed_known a.sys.now.y a.vol.now a.b a.known a.valid a.offset (omega (arith, a.sys.now.laid.size_low)) (omega arith) p.1.1.1.0 in
-    (omega arith, (stored_heap a.sys.now.y a.vol.now w a.b p.1.0 a.valid (replicate (a.offset - a.valid) 0) _ z.ensures.0, (p.1.1.0, (rw z.ensures.1 (stored_known a.sys.now.y a.vol.now w a.b p.1.0 a.valid (replicate (a.offset - a.valid) 0) _ z.ensures.0 _ _ k), p.1.1.1.1))))
+    (omega arith, (omega arith, (stored_heap a.sys.now.y a.vol.now w a.b p.1.0 a.valid (replicate (a.offset - a.valid) 0) _ z.ensures.0, (p.1.1.0, (rw z.ensures.1 (stored_known a.sys.now.y a.vol.now w a.b p.1.0 a.valid (replicate (a.offset - a.valid) 0) _ z.ensures.0 _ _ k), p.1.1.1.1)))))
 
 pub returns : goal.returns
 returns c =

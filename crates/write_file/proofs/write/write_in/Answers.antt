@@ -45,7 +45,7 @@ record_set-requires c =
     let p = c.requires in
     let e = c.in_ok-f.ensures in
     let o = opened i.sys.now i.vol.now p i.root i.slot i.offset i.hint _ _ e refl in
-    (omega (arith, p), open_reaches _ _ _ _ _ _ _ _ o)
+    (omega arith, (omega (arith, p), open_reaches _ _ _ _ _ _ _ _ o))
 
 pub returns : goal.returns
 returns c =

@@ -6,7 +6,7 @@ pub kept_part-part-requires : goal.kept_part-part-requires
 kept_part-part-requires c =
     let i = c.args in
     let p = c.requires in
-    (p.0, part_heap _ _ _ _ p.1.0 (omega (arith, p.1.1, c.clusters_for-keep.ensures)))
+    (omega arith, (p.0, part_heap _ _ _ _ p.1.0 (omega (arith, p.1.1, c.clusters_for-keep.ensures))))
 
 pub returns : goal.returns
 returns c =

@@ -46,7 +46,7 @@ record_set-requires c =
     let p = c.requires in
     let x = c.in_ok-f.ensures in
     let o = opened i.sys.now i.vol.now p i.root i.slot i.len i.hint _ _ x refl in
-    (p, open_reaches _ _ _ _ _ _ _ _ o)
+    (omega arith, (p, open_reaches _ _ _ _ _ _ _ _ o))
 
 pub cut_to-requires : goal.cut_to-requires
 cut_to-requires c =
@@ -92,7 +92,7 @@ record_set-requires-2 c =
     let p = c.requires in
     let x = c.in_ok-f.ensures in
     let o = opened i.sys.now i.vol.now p i.root i.slot i.len i.hint _ _ x refl in
-    (omega (arith, p), open_reaches _ _ _ _ _ _ _ _ o)
+    (omega arith, (omega (arith, p), open_reaches _ _ _ _ _ _ _ _ o))
 
 pub returns : goal.returns
 returns c =

@@ -29,7 +29,7 @@ kept_part-part-requires c =
     let p = c.requires in
     let x = c.in_ok-f.ensures in
     let o = opened i.sys.now i.vol.now p i.root i.slot 0 i.hint _ _ x refl in
-    (omega (arith, p), unlinked_heap _ _ _ _ _ _ _ _ o _ c.unset.ensures.0 _ (omega arith))
+    (omega arith, (omega (arith, p), unlinked_heap _ _ _ _ _ _ _ _ o _ c.unset.ensures.0 _ (omega arith)))
 
 pub cut_in-requires : goal.cut_in-requires
 cut_in-requires c =
@@ -37,7 +37,7 @@ cut_in-requires c =
     let p = c.requires in
     let x = c.in_ok-f.ensures in
     let o = opened i.sys.now i.vol.now p i.root i.slot 0 i.hint _ _ x refl in
-    (omega (arith, p), (unlinked-reads _ _ _ _ _ _ _ _ o _ c.unset.ensures.0, (omega arith, c.kept_part-part.ensures)))
+    (omega arith, (omega (arith, p), (unlinked-reads _ _ _ _ _ _ _ _ o _ c.unset.ensures.0, (omega arith, c.kept_part-part.ensures))))
 
 pub returns : goal.returns
 returns c =
