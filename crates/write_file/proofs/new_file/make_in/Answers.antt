@@ -18,7 +18,7 @@ returns-then-not-in_heap c = rw (← c.in_ok-sys.ensures.1.0) (shown_as (call_hi
 
 pub root_dir-requires : goal.root_dir-requires
 root_dir-requires c = let a = admits _ _ _ _ _ c.in_ok-sys.ensures in
-    (omega arith, a.long)
+    (omega arith, (omega arith, a.long))
 
 pub returns-in_err-root : goal.returns-in_err-root
 returns-in_err-root c =
