@@ -35,7 +35,12 @@ fn usable_tail<const APART: usize>(vol: &[u8], sys: &Places<'_, APART, 1>, low: 
 }
 
 // One past the last of the n clusters from low that is marked; low where none is. A byte of none marked is one test.
-fn unmarked_tail<const APART: usize, const WIDE: usize>(vol: &[u8], sys: &Places<'_, APART, WIDE>, low: u32, n: u32) -> u32
+fn unmarked_tail<const APART: usize, const WIDE: usize>(
+    vol: &[u8],
+    sys: &Places<'_, APART, WIDE>,
+    low: u32,
+    n: u32,
+) -> u32
     requires { (length vol.now ≡ sys.now.y.len) × ((2 ≤ low) × (low + n ≤ sys.now.y.count + 2)) }
     ensures { (result ≡ past_failing (λ k. not (marked sys.now.y vol.now k)) low n) × ((low ≤ result) × (result ≤ low + n)) }
 {
@@ -60,7 +65,13 @@ fn unmarked_tail<const APART: usize, const WIDE: usize>(vol: &[u8], sys: &Places
 
 // The lowest run of n usable clusters from start to end (Rust: the closure `scan` of `free_run`). A window of n clusters is tested
 // from its end, by its marks first; no run starts before base. Behind a window whose last cluster is marked, the marked ones are passed.
-fn scan<const APART: usize>(vol: &[u8], sys: &Places<'_, APART, 1>, start: u32, end: u32, n: u32) -> Option<u32>
+fn scan<const APART: usize>(
+    vol: &[u8],
+    sys: &Places<'_, APART, 1>,
+    start: u32,
+    end: u32,
+    n: u32,
+) -> Option<u32>
     requires { (length vol.now ≡ sys.now.y.len) × ((2 ≤ start) × ((start ≤ end) × ((end ≤ sys.now.y.count + 2) × (1 ≤ n)))) }
     ensures { result ≡ run_from (is_usable sys.now.y vol.now sys.now.map.now) end n start }
 {
@@ -118,7 +129,12 @@ pub fn enough<const APART: usize>(vol: &[u8], sys: &Places<'_, APART, 1>, near: 
 }
 
 // The lowest run of n usable clusters where none starts at or after start: those that start there are not tested again.
-fn scan_before<const APART: usize>(vol: &[u8], sys: &Places<'_, APART, 1>, start: u32, n: u32) -> Option<u32>
+fn scan_before<const APART: usize>(
+    vol: &[u8],
+    sys: &Places<'_, APART, 1>,
+    start: u32,
+    n: u32,
+) -> Option<u32>
     requires { (length vol.now ≡ sys.now.y.len) × ((2 ≤ start) × ((start < sys.now.y.count + 2) × ((1 ≤ n) × (run_from (is_usable sys.now.y vol.now sys.now.map.now) (sys.now.y.count + 2) n start ≡ None)))) }
     ensures { result ≡ run_from (is_usable sys.now.y vol.now sys.now.map.now) (sys.now.y.count + 2) n 2 }
 {
@@ -127,7 +143,12 @@ fn scan_before<const APART: usize>(vol: &[u8], sys: &Places<'_, APART, 1>, start
 }
 
 // The choice of n clusters for a search that starts at start (Rust: `free_run`, `free_list`).
-pub fn choose_clusters<const APART: usize>(vol: &[u8], sys: &Places<'_, APART, 1>, start: u32, n: u32) -> Choice
+pub fn choose_clusters<const APART: usize>(
+    vol: &[u8],
+    sys: &Places<'_, APART, 1>,
+    start: u32,
+    n: u32,
+) -> Choice
     requires { (length vol.now ≡ sys.now.y.len) × ((2 ≤ start) × ((start < sys.now.y.count + 2) × (1 ≤ n))) }
     ensures { result ≡ choose (is_usable sys.now.y vol.now sys.now.map.now) sys.now.y.count n start }
 {

@@ -8,7 +8,11 @@ ghost use Rattle.metadata.specs.Internal.{first_unmarked, byte_unmarked};
 use boot::system::Places;
 
 // Whether cluster k is marked.
-pub fn allocated<const APART: usize, const WIDE: usize>(vol: &[u8], sys: &Places<'_, APART, WIDE>, k: u32) -> bool
+pub fn allocated<const APART: usize, const WIDE: usize>(
+    vol: &[u8],
+    sys: &Places<'_, APART, WIDE>,
+    k: u32,
+) -> bool
     requires { (length vol.now ≡ sys.now.y.len) × ((2 ≤ k) × (k < sys.now.y.count + 2)) }
     ensures { result ≡ marked sys.now.y vol.now k }
 {
@@ -17,7 +21,12 @@ pub fn allocated<const APART: usize, const WIDE: usize>(vol: &[u8], sys: &Places
 }
 
 // Stores b as byte i of every bitmap.
-fn put_byte<const APART: usize, const WIDE: usize>(vol: &mut [u8], sys: &Places<'_, APART, WIDE>, i: usize, b: u8)
+fn put_byte<const APART: usize, const WIDE: usize>(
+    vol: &mut [u8],
+    sys: &Places<'_, APART, WIDE>,
+    i: usize,
+    b: u8,
+)
     requires { (length vol.old ≡ sys.now.y.len) × (i < bitmap_bytes sys.now.y.count) }
     ensures { vol.new ≡ put_byte sys.now.y vol.old i b }
 {
@@ -30,7 +39,12 @@ fn put_byte<const APART: usize, const WIDE: usize>(vol: &mut [u8], sys: &Places<
 }
 
 // Marks cluster k, or unmarks it: the active bitmap's byte is read, and every bitmap takes the changed byte whole.
-pub fn mark<const APART: usize, const WIDE: usize>(vol: &mut [u8], sys: &Places<'_, APART, WIDE>, k: u32, on: bool)
+pub fn mark<const APART: usize, const WIDE: usize>(
+    vol: &mut [u8],
+    sys: &Places<'_, APART, WIDE>,
+    k: u32,
+    on: bool,
+)
     requires { (length vol.old ≡ sys.now.y.len) × ((2 ≤ k) × (k < sys.now.y.count + 2)) }
     ensures { vol.new ≡ set_mark sys.now.y vol.old k on }
 {
@@ -50,7 +64,10 @@ pub fn mark_byte<const WIDE: usize>(vol: &mut [u8], sys: &Places<'_, 1, WIDE>, k
 }
 
 // The active FAT's bitmap.
-fn bitmap<'a, const APART: usize, const WIDE: usize>(vol: &'a [u8], sys: &Places<'_, APART, WIDE>) -> &'a [u8]
+fn bitmap<'a, const APART: usize, const WIDE: usize>(
+    vol: &'a [u8],
+    sys: &Places<'_, APART, WIDE>,
+) -> &'a [u8]
     requires { length vol.now ≡ sys.now.y.len }
     ensures { (result.now ≡ take (bitmap_bytes sys.now.y.count) (drop sys.now.y.bitmap vol.now)) × (result.ref_ptr ≡ (vol.entry.ref_ptr.0, vol.entry.ref_ptr.1 + sys.now.y.bitmap)) }
 {
@@ -58,7 +75,10 @@ fn bitmap<'a, const APART: usize, const WIDE: usize>(vol: &'a [u8], sys: &Places
 }
 
 // How many clusters it marks.
-fn allocated_count<const APART: usize, const WIDE: usize>(vol: &[u8], sys: &Places<'_, APART, WIDE>) -> u32
+fn allocated_count<const APART: usize, const WIDE: usize>(
+    vol: &[u8],
+    sys: &Places<'_, APART, WIDE>,
+) -> u32
     requires { length vol.now ≡ sys.now.y.len }
     ensures { (result ≡ allocated_count sys.now.y vol.now) × (result ≤ sys.now.y.count) }
 {
@@ -66,7 +86,10 @@ fn allocated_count<const APART: usize, const WIDE: usize>(vol: &[u8], sys: &Plac
 }
 
 // How many clusters it leaves unmarked.
-pub fn free_count<const APART: usize, const WIDE: usize>(vol: &[u8], sys: &Places<'_, APART, WIDE>) -> u32
+pub fn free_count<const APART: usize, const WIDE: usize>(
+    vol: &[u8],
+    sys: &Places<'_, APART, WIDE>,
+) -> u32
     requires { length vol.now ≡ sys.now.y.len }
     ensures { result ≡ free_count sys.now.y vol.now }
 {
@@ -75,7 +98,12 @@ pub fn free_count<const APART: usize, const WIDE: usize>(vol: &[u8], sys: &Place
 
 // The first of the n clusters from k that is not marked; k + n where there is none. Bytes of marks alone are passed at once.
 // Kept: k + n is where a search goes on, which the callers count with.
-pub fn first_unmarked<const APART: usize, const WIDE: usize>(vol: &[u8], sys: &Places<'_, APART, WIDE>, k: u32, n: u32) -> u32
+pub fn first_unmarked<const APART: usize, const WIDE: usize>(
+    vol: &[u8],
+    sys: &Places<'_, APART, WIDE>,
+    k: u32,
+    n: u32,
+) -> u32
     requires { (length vol.now ≡ sys.now.y.len) × ((2 ≤ k) × (k + n ≤ sys.now.y.count + 2)) }
     ensures { (result ≡ first_unmarked sys.now.y vol.now k n) × ((k ≤ result) × (result ≤ k + n)) }
 {
@@ -83,7 +111,12 @@ pub fn first_unmarked<const APART: usize, const WIDE: usize>(vol: &[u8], sys: &P
 }
 
 // Whether none of the n clusters from first is marked. Bytes of none marked are passed at once.
-pub fn none_marked<const APART: usize, const WIDE: usize>(vol: &[u8], sys: &Places<'_, APART, WIDE>, first: u32, n: u32) -> bool
+pub fn none_marked<const APART: usize, const WIDE: usize>(
+    vol: &[u8],
+    sys: &Places<'_, APART, WIDE>,
+    first: u32,
+    n: u32,
+) -> bool
     requires { (length vol.now ≡ sys.now.y.len) × ((2 ≤ first) × (first + n ≤ sys.now.y.count + 2)) }
     ensures { result ≡ all_from (λ k. not (marked sys.now.y vol.now k)) first n }
 {
@@ -92,7 +125,11 @@ pub fn none_marked<const APART: usize, const WIDE: usize>(vol: &[u8], sys: &Plac
 
 // Whether cluster k is the last one of its byte, and the byte marks none.
 #[tactic(auto, unfolding(crate::specs::Internal::byte_unmarked, crate::specs::Marks::mark_byte))]
-pub fn byte_unmarked<const APART: usize, const WIDE: usize>(vol: &[u8], sys: &Places<'_, APART, WIDE>, k: u32) -> bool
+pub fn byte_unmarked<const APART: usize, const WIDE: usize>(
+    vol: &[u8],
+    sys: &Places<'_, APART, WIDE>,
+    k: u32,
+) -> bool
     requires { (length vol.now ≡ sys.now.y.len) × ((2 ≤ k) × (k < sys.now.y.count + 2)) }
     ensures { result ≡ byte_unmarked sys.now.y vol.now k }
 {

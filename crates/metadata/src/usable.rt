@@ -19,7 +19,12 @@ fn first_bad(fat: &[u8], first: u32, n: u32) -> Option<u32>
 }
 
 // The first of the n clusters from first that is bad in the active FAT. The FAT begins mid-volume; that part is handed on.
-fn bad_in<const APART: usize, const WIDE: usize>(vol: &[u8], sys: &Places<'_, APART, WIDE>, first: u32, n: u32) -> Option<u32>
+fn bad_in<const APART: usize, const WIDE: usize>(
+    vol: &[u8],
+    sys: &Places<'_, APART, WIDE>,
+    first: u32,
+    n: u32,
+) -> Option<u32>
     requires { (length vol.now ≡ sys.now.y.len) × (first + n ≤ sys.now.y.count + 2) }
     ensures { result ≡ first_bad (fat_entry sys.now.y vol.now) first n }
 {
@@ -46,7 +51,12 @@ pub fn usable<const APART: usize>(vol: &[u8], sys: &Places<'_, APART, 1>, k: u32
 }
 
 // The first of the n clusters from k that may be taken.
-pub fn next_usable<const APART: usize>(vol: &[u8], sys: &Places<'_, APART, 1>, k: u32, n: u32) -> Option<u32>
+pub fn next_usable<const APART: usize>(
+    vol: &[u8],
+    sys: &Places<'_, APART, 1>,
+    k: u32,
+    n: u32,
+) -> Option<u32>
     requires { (length vol.now ≡ sys.now.y.len) × ((2 ≤ k) × (k + n ≤ sys.now.y.count + 2)) }
     ensures { MatchOption result (fewest (is_usable sys.now.y vol.now sys.now.map.now) n k ≡ k + n) (λ j. (j ≡ fewest (is_usable sys.now.y vol.now sys.now.map.now) n k) × ((k ≤ j) × (j < k + n))) }
 {
@@ -67,7 +77,12 @@ pub fn next_usable<const APART: usize>(vol: &[u8], sys: &Places<'_, APART, 1>, k
 }
 
 // Whether none of the n clusters from first is in the system map or bad.
-fn none_refused<const APART: usize>(vol: &[u8], sys: &Places<'_, APART, 1>, first: u32, n: u32) -> bool
+fn none_refused<const APART: usize>(
+    vol: &[u8],
+    sys: &Places<'_, APART, 1>,
+    first: u32,
+    n: u32,
+) -> bool
     requires { (length vol.now ≡ sys.now.y.len) × ((2 ≤ first) × (first + n ≤ sys.now.y.count + 2)) }
     ensures { result ≡ none_refused sys.now.y vol.now sys.now.map.now first n }
 {
@@ -75,7 +90,12 @@ fn none_refused<const APART: usize>(vol: &[u8], sys: &Places<'_, APART, 1>, firs
 }
 
 // Whether the n clusters from first are all usable (Rust: `run_is_free`): the marks and the map by the byte, then the FAT's entries.
-pub fn run_is_free<const APART: usize>(vol: &[u8], sys: &Places<'_, APART, 1>, first: u32, n: u32) -> bool
+pub fn run_is_free<const APART: usize>(
+    vol: &[u8],
+    sys: &Places<'_, APART, 1>,
+    first: u32,
+    n: u32,
+) -> bool
     requires { (length vol.now ≡ sys.now.y.len) × ((2 ≤ first) × (first + n ≤ sys.now.y.count + 2)) }
     ensures { result ≡ all_from (is_usable sys.now.y vol.now sys.now.map.now) first n }
 {

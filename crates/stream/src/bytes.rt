@@ -20,7 +20,13 @@ pub struct Place {
 }
 
 // The cluster that so many steps along a stream lead to; in a run they are one sum.
-pub fn seek<const APART: usize, const WIDE: usize>(vol: &[u8], sys: &Places<'_, APART, WIDE>, run: bool, first: u32, steps: u32) -> u32
+pub fn seek<const APART: usize, const WIDE: usize>(
+    vol: &[u8],
+    sys: &Places<'_, APART, WIDE>,
+    run: bool,
+    first: u32,
+    steps: u32,
+) -> u32
     requires { (length vol.now ≡ sys.now.y.len) × (every (in_heap sys.now.y.count) (along (fat_entry sys.now.y vol.now) run first steps) ≡ true) }
     ensures { result ≡ reached (fat_entry sys.now.y vol.now) run first steps }
 {
@@ -35,7 +41,13 @@ pub fn seek<const APART: usize, const WIDE: usize>(vol: &[u8], sys: &Places<'_, 
 }
 
 // Stores src in cluster k, from its byte `at` on, and past its end in those that follow it in the heap.
-pub fn put_piece<const APART: usize, const WIDE: usize>(vol: &mut [u8], sys: &Places<'_, APART, WIDE>, k: u32, at: usize, src: &[u8])
+pub fn put_piece<const APART: usize, const WIDE: usize>(
+    vol: &mut [u8],
+    sys: &Places<'_, APART, WIDE>,
+    k: u32,
+    at: usize,
+    src: &[u8],
+)
     requires { (length vol.old ≡ sys.now.y.len) × ((2 ≤ k) × ((k < sys.now.y.count + 2) × (cluster_at sys.now.y k + at + length src.now ≤ sys.now.y.len))) }
     ensures { vol.new ≡ put_bytes sys.now.y vol.old k at src.now }
 {
@@ -44,7 +56,13 @@ pub fn put_piece<const APART: usize, const WIDE: usize>(vol: &mut [u8], sys: &Pl
 }
 
 // Stores n zeros in cluster k, from its byte `at` on, and past its end in those that follow it in the heap.
-pub fn put_zeros<const APART: usize, const WIDE: usize>(vol: &mut [u8], sys: &Places<'_, APART, WIDE>, k: u32, at: usize, n: usize)
+pub fn put_zeros<const APART: usize, const WIDE: usize>(
+    vol: &mut [u8],
+    sys: &Places<'_, APART, WIDE>,
+    k: u32,
+    at: usize,
+    n: usize,
+)
     requires { (length vol.old ≡ sys.now.y.len) × ((2 ≤ k) × ((k < sys.now.y.count + 2) × (cluster_at sys.now.y k + at + n ≤ sys.now.y.len))) }
     ensures { vol.new ≡ put_bytes sys.now.y vol.old k at (replicate n 0) }
 {
@@ -53,7 +71,13 @@ pub fn put_zeros<const APART: usize, const WIDE: usize>(vol: &mut [u8], sys: &Pl
 }
 
 // Fills dst with the bytes from byte `at` of cluster k on and past its end from those that follow it in the heap.
-fn get_piece<const APART: usize, const WIDE: usize>(vol: &[u8], sys: &Places<'_, APART, WIDE>, k: u32, at: usize, dst: &mut [u8])
+fn get_piece<const APART: usize, const WIDE: usize>(
+    vol: &[u8],
+    sys: &Places<'_, APART, WIDE>,
+    k: u32,
+    at: usize,
+    dst: &mut [u8],
+)
     requires { (length vol.now ≡ sys.now.y.len) × ((2 ≤ k) × ((k < sys.now.y.count + 2) × (cluster_at sys.now.y k + at + length dst.old ≤ sys.now.y.len))) }
     ensures { dst.new ≡ take (length dst.old) (drop (cluster_at sys.now.y k + at) vol.now) }
 {
@@ -104,7 +128,11 @@ impl ByteWalk {
     }
 
     // The next piece: what is left in the cluster, or all of it in a run, whose clusters are one piece of the volume.
-    fn next<const APART: usize, const WIDE: usize>(&mut self, vol: &[u8], sys: &Places<'_, APART, WIDE>) -> Option<Piece>
+    fn next<const APART: usize, const WIDE: usize>(
+        &mut self,
+        vol: &[u8],
+        sys: &Places<'_, APART, WIDE>,
+    ) -> Option<Piece>
         requires { (length vol.now ≡ sys.now.y.len) × (self.old.from < self.old.end → (self.old.at < sys.now.y.size) × (self.old.cluster < sys.now.y.count + 2)) }
         ensures { MatchOption result ((self.old.end ≤ self.old.from) × (self.new ≡ self.old)) (λ p. (self.old.from < self.old.end) × ((p ≡ piece_of sys.now.y self.old) × (self.new ≡ past_piece sys.now.y vol.now self.old))) }
     {
@@ -131,7 +159,14 @@ impl ByteWalk {
 }
 
 // Stores src in a stream, from its byte `at` on.
-pub fn store<const WIDE: usize>(vol: &mut [u8], sys: &Places<'_, 1, WIDE>, a: Allocation, known: Place, at: usize, src: &[u8])
+pub fn store<const WIDE: usize>(
+    vol: &mut [u8],
+    sys: &Places<'_, 1, WIDE>,
+    a: Allocation,
+    known: Place,
+    at: usize,
+    src: &[u8],
+)
     requires { (length vol.old ≡ sys.now.y.len) × ((every (in_heap sys.now.y.count) (along (fat_entry sys.now.y vol.old) a.no_fat_chain a.first a.count) ≡ true) × ((at + length src.now ≤ a.count * sys.now.y.size) × (Known sys.now.y vol.old a known at × (1 ≤ length src.now)))) }
     ensures { vol.new ≡ store_at sys.now.y vol.old (along (fat_entry sys.now.y vol.old) a.no_fat_chain a.first a.count) at src.now }
 {
@@ -174,7 +209,14 @@ pub fn fill<const WIDE: usize>(
 }
 
 // Fills dst with the bytes of a stream from its byte `at` on.
-pub fn read<const APART: usize, const WIDE: usize>(vol: &[u8], sys: &Places<'_, APART, WIDE>, a: Allocation, known: Place, at: usize, dst: &mut [u8])
+pub fn read<const APART: usize, const WIDE: usize>(
+    vol: &[u8],
+    sys: &Places<'_, APART, WIDE>,
+    a: Allocation,
+    known: Place,
+    at: usize,
+    dst: &mut [u8],
+)
     requires { (length vol.now ≡ sys.now.y.len) × ((every (in_heap sys.now.y.count) (along (fat_entry sys.now.y vol.now) a.no_fat_chain a.first a.count) ≡ true) × ((at + length dst.old ≤ a.count * sys.now.y.size) × Known sys.now.y vol.now a known at)) }
     ensures { dst.new ≡ take (length dst.old) (drop at (bytes_of sys.now.y vol.now (along (fat_entry sys.now.y vol.now) a.no_fat_chain a.first a.count))) }
 {

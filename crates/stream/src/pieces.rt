@@ -9,7 +9,12 @@ ghost use Rattle.stream.specs.Pieces.{following, leading};
 use boot::system::Places;
 
 // How many of the n clusters of a chain that come after k follow it in the heap, one test for each entry.
-fn following_each<const APART: usize, const WIDE: usize>(vol: &[u8], sys: &Places<'_, APART, WIDE>, k: u32, n: u32) -> u32
+fn following_each<const APART: usize, const WIDE: usize>(
+    vol: &[u8],
+    sys: &Places<'_, APART, WIDE>,
+    k: u32,
+    n: u32,
+) -> u32
     requires { (length vol.now ≡ sys.now.y.len) × (every (in_heap sys.now.y.count) (along (fat_entry sys.now.y vol.now) false k (n + 1)) ≡ true) }
     ensures { (result ≡ following k (along (fat_entry sys.now.y vol.now) false (fat_entry sys.now.y vol.now k) n)) × (result ≤ n) }
 {
@@ -23,7 +28,11 @@ fn following_each<const APART: usize, const WIDE: usize>(vol: &[u8], sys: &Place
 }
 
 // Whether each of the four FAT entries from k's on names the next number. With no way out, the compiler can compare them at once.
-fn four_follow<const APART: usize, const WIDE: usize>(vol: &[u8], sys: &Places<'_, APART, WIDE>, k: u32) -> bool
+fn four_follow<const APART: usize, const WIDE: usize>(
+    vol: &[u8],
+    sys: &Places<'_, APART, WIDE>,
+    k: u32,
+) -> bool
     requires { (length vol.now ≡ sys.now.y.len) × (k + 3 < sys.now.y.count + 2) }
     ensures { result ≡ four_follow (fat_entry sys.now.y vol.now) k }
 {
@@ -35,7 +44,12 @@ fn four_follow<const APART: usize, const WIDE: usize>(vol: &[u8], sys: &Places<'
 }
 
 // The same, four entries at a time as long as they lie in the FAT and all of them name the next number.
-fn following<const APART: usize, const WIDE: usize>(vol: &[u8], sys: &Places<'_, APART, WIDE>, k: u32, n: u32) -> u32
+fn following<const APART: usize, const WIDE: usize>(
+    vol: &[u8],
+    sys: &Places<'_, APART, WIDE>,
+    k: u32,
+    n: u32,
+) -> u32
     requires { (length vol.now ≡ sys.now.y.len) × (every (in_heap sys.now.y.count) (along (fat_entry sys.now.y vol.now) false k (n + 1)) ≡ true) }
     ensures { (result ≡ following k (along (fat_entry sys.now.y vol.now) false (fat_entry sys.now.y vol.now k) n)) × (result ≤ n) }
 {
@@ -49,7 +63,13 @@ fn following<const APART: usize, const WIDE: usize>(vol: &[u8], sys: &Places<'_,
 
 // How many of the n clusters of a stream from k on, k included, stand one behind the other in the heap: all of a run's; a chain's as
 // long as the FAT names the next number.
-pub fn leading<const APART: usize, const WIDE: usize>(vol: &[u8], sys: &Places<'_, APART, WIDE>, run: bool, k: u32, n: u32) -> u32
+pub fn leading<const APART: usize, const WIDE: usize>(
+    vol: &[u8],
+    sys: &Places<'_, APART, WIDE>,
+    run: bool,
+    k: u32,
+    n: u32,
+) -> u32
     requires { (length vol.now ≡ sys.now.y.len) × ((every (in_heap sys.now.y.count) (along (fat_entry sys.now.y vol.now) run k n) ≡ true) × (1 ≤ n)) }
     ensures { result ≡ leading (along (fat_entry sys.now.y vol.now) run k n) }
 {

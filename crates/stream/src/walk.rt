@@ -78,7 +78,12 @@ pub fn fat_chain<const APART: usize>(
 }
 
 // Refuses the n clusters from first as a run by the earliest that is outside the heap or unmarked.
-fn run_cause<const APART: usize, const WIDE: usize>(vol: &[u8], sys: &Places<'_, APART, WIDE>, first: u32, n: u32) -> Result<(), Cause>
+fn run_cause<const APART: usize, const WIDE: usize>(
+    vol: &[u8],
+    sys: &Places<'_, APART, WIDE>,
+    first: u32,
+    n: u32,
+) -> Result<(), Cause>
     requires { (length vol.now ≡ sys.now.y.len) × (1 ≤ n) }
     ensures { number result ≡ run_cause sys.now.y.count (marked sys.now.y vol.now) first n }
 {
@@ -100,7 +105,11 @@ fn run_cause<const APART: usize, const WIDE: usize>(vol: &[u8], sys: &Places<'_,
 }
 
 // Refuses a run by its length, then by its clusters.
-fn read_run<const APART: usize, const WIDE: usize>(vol: &[u8], sys: &Places<'_, APART, WIDE>, a: Allocation) -> Result<(), Cause>
+fn read_run<const APART: usize, const WIDE: usize>(
+    vol: &[u8],
+    sys: &Places<'_, APART, WIDE>,
+    a: Allocation,
+) -> Result<(), Cause>
     requires { (length vol.now ≡ sys.now.y.len) × (1 ≤ a.count) }
     ensures { number result ≡ number_of (read_run sys.now.y.count (marked sys.now.y vol.now) a.first a.last a.count) }
 {
@@ -127,7 +136,11 @@ pub fn walk_cause(w: Walk, last: u32, count: u32) -> Result<(), Cause>
 
 // Refuses a chain by its walk, then by its length and last cluster, then by its marks. Gives whether the walk saw that none of its
 // clusters is a system cluster.
-fn read_chain<const APART: usize>(vol: &[u8], sys: &Places<'_, APART, 1>, a: Allocation) -> Result<bool, Cause>
+fn read_chain<const APART: usize>(
+    vol: &[u8],
+    sys: &Places<'_, APART, 1>,
+    a: Allocation,
+) -> Result<bool, Cause>
     requires { length vol.now ≡ sys.now.y.len }
     ensures { (number result ≡ number_of (check_chain (marked sys.now.y vol.now) a.last a.count (read_chain sys.now.y.count (fat_entry sys.now.y vol.now) a.first))) × IfOk result (λ clear. clear ≡ chain_clear sys.now.y vol.now sys.now.map.now a.first) }
 {
@@ -141,7 +154,11 @@ fn read_chain<const APART: usize>(vol: &[u8], sys: &Places<'_, APART, 1>, a: All
 
 // A record's clusters tested (Rust: `clusters`, and the test of it): whether a walk of them saw that none is a system cluster, or what
 // refuses them.
-pub fn stream_test<const APART: usize>(vol: &[u8], sys: &Places<'_, APART, 1>, a: Allocation) -> Result<bool, Cause>
+pub fn stream_test<const APART: usize>(
+    vol: &[u8],
+    sys: &Places<'_, APART, 1>,
+    a: Allocation,
+) -> Result<bool, Cause>
     requires { length vol.now ≡ sys.now.y.len }
     ensures { (number result ≡ number_of (stream_of sys.now.y vol.now a)) × IfOk result (λ clear. clear ≡ stream_clear sys.now.y vol.now sys.now.map.now a) }
 {
@@ -156,7 +173,11 @@ pub fn stream_test<const APART: usize>(vol: &[u8], sys: &Places<'_, APART, 1>, a
 }
 
 // Refuses a record by its clusters.
-pub fn stream_cause<const APART: usize>(vol: &[u8], sys: &Places<'_, APART, 1>, a: Allocation) -> Result<(), Cause>
+pub fn stream_cause<const APART: usize>(
+    vol: &[u8],
+    sys: &Places<'_, APART, 1>,
+    a: Allocation,
+) -> Result<(), Cause>
     requires { length vol.now ≡ sys.now.y.len }
     ensures { number result ≡ number_of (stream_of sys.now.y vol.now a) }
 {
@@ -165,7 +186,12 @@ pub fn stream_cause<const APART: usize>(vol: &[u8], sys: &Places<'_, APART, 1>, 
 }
 
 // The cluster after k in a stream.
-pub fn next_cluster<const APART: usize, const WIDE: usize>(vol: &[u8], sys: &Places<'_, APART, WIDE>, run: bool, k: u32) -> u32
+pub fn next_cluster<const APART: usize, const WIDE: usize>(
+    vol: &[u8],
+    sys: &Places<'_, APART, WIDE>,
+    run: bool,
+    k: u32,
+) -> u32
     requires { (length vol.now ≡ sys.now.y.len) × (k < sys.now.y.count + 2) }
     ensures { result ≡ after (fat_entry sys.now.y vol.now) run k }
 {

@@ -42,7 +42,12 @@ pub fn mark_run<const WIDE: usize>(vol: &mut [u8], sys: &Places<'_, 1, WIDE>, fi
 }
 
 // Links n clusters from first, each to the next one (Rust: `link`, without the end).
-pub fn link_run<const APART: usize, const WIDE: usize>(vol: &mut [u8], sys: &Places<'_, APART, WIDE>, first: u32, n: u32)
+pub fn link_run<const APART: usize, const WIDE: usize>(
+    vol: &mut [u8],
+    sys: &Places<'_, APART, WIDE>,
+    first: u32,
+    n: u32,
+)
     requires { (length vol.old ≡ sys.now.y.len) × (first + n ≤ sys.now.y.count + 2) }
     ensures { vol.new ≡ link_run sys.now.y vol.old first n }
 {

@@ -13,7 +13,13 @@ use stream::allocation::Allocation;
 use write_alloc::answer::Updated;
 
 // Stores as much of src as cluster k has room for from its byte `at` on, and answers how many bytes.
-fn put_part<const APART: usize, const WIDE: usize>(vol: &mut [u8], sys: &Places<'_, APART, WIDE>, k: u32, at: usize, src: &[u8]) -> usize
+fn put_part<const APART: usize, const WIDE: usize>(
+    vol: &mut [u8],
+    sys: &Places<'_, APART, WIDE>,
+    k: u32,
+    at: usize,
+    src: &[u8],
+) -> usize
     requires { (length vol.old ≡ sys.now.y.len) × ((at < sys.now.y.size) × (0 < length src.now → in_heap sys.now.y.count k ≡ true)) }
     ensures { (result ≡ min (sys.now.y.size - at) (length src.now)) × (vol.new ≡ put_bytes sys.now.y vol.old k at (take result src.now)) }
 {
@@ -27,7 +33,13 @@ fn put_part<const APART: usize, const WIDE: usize>(vol: &mut [u8], sys: &Places<
 
 // Stores the n entries of a set.
 // Kept: a set is 608 bytes whatever n is, as its other functions have it, and n counts entries.
-pub fn write_set<const APART: usize, const WIDE: usize>(vol: &mut [u8], sys: &Places<'_, APART, WIDE>, spot: Spot, set: &[u8; 608], n: usize)
+pub fn write_set<const APART: usize, const WIDE: usize>(
+    vol: &mut [u8],
+    sys: &Places<'_, APART, WIDE>,
+    spot: Spot,
+    set: &[u8; 608],
+    n: usize,
+)
     requires { (length vol.old ≡ sys.now.y.len) × Reaches sys.now.y spot n }
     ensures { vol.new ≡ store_at sys.now.y vol.old (spot_clusters spot) spot.at (take (32 * n) set.now) }
 {

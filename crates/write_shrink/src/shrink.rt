@@ -26,7 +26,13 @@ pub struct Kept {
 }
 
 // The first n clusters of a stream.
-pub fn kept_part<const APART: usize, const WIDE: usize>(vol: &[u8], sys: &Places<'_, APART, WIDE>, run: bool, first: u32, n: u32) -> Kept
+pub fn kept_part<const APART: usize, const WIDE: usize>(
+    vol: &[u8],
+    sys: &Places<'_, APART, WIDE>,
+    run: bool,
+    first: u32,
+    n: u32,
+) -> Kept
     requires { (length vol.now ≡ sys.now.y.len) × (every (in_heap sys.now.y.count) (along (fat_entry sys.now.y vol.now) run first n) ≡ true) }
     ensures { result ≡ kept_part (fat_entry sys.now.y vol.now) run first n }
 {
@@ -49,7 +55,13 @@ pub fn kept_part<const APART: usize, const WIDE: usize>(vol: &[u8], sys: &Places
 }
 
 // Makes the last kept cluster of a chain the end.
-fn end_kept<const APART: usize, const WIDE: usize>(vol: &mut [u8], sys: &Places<'_, APART, WIDE>, a: Allocation, keep: u32, last: u32)
+fn end_kept<const APART: usize, const WIDE: usize>(
+    vol: &mut [u8],
+    sys: &Places<'_, APART, WIDE>,
+    a: Allocation,
+    keep: u32,
+    last: u32,
+)
     requires { (length vol.old ≡ sys.now.y.len) × ((last ≡ last_or 0 (along (fat_entry sys.now.y vol.old) a.no_fat_chain a.first keep)) × (every (in_heap sys.now.y.count) (along (fat_entry sys.now.y vol.old) a.no_fat_chain a.first keep) ≡ true)) }
     ensures { vol.new ≡ end_kept sys.now.y vol.old a (along (fat_entry sys.now.y vol.old) a.no_fat_chain a.first keep) }
 {
@@ -59,7 +71,13 @@ fn end_kept<const APART: usize, const WIDE: usize>(vol: &mut [u8], sys: &Places<
 }
 
 // Frees n clusters of a stream: the next one is read before a cluster's FAT entry becomes 0.
-fn free_from<const WIDE: usize>(vol: &mut [u8], sys: &Places<'_, 1, WIDE>, run: bool, first: u32, n: u32)
+fn free_from<const WIDE: usize>(
+    vol: &mut [u8],
+    sys: &Places<'_, 1, WIDE>,
+    run: bool,
+    first: u32,
+    n: u32,
+)
     requires { (length vol.old ≡ sys.now.y.len) × ((every (in_heap sys.now.y.count) (along (fat_entry sys.now.y vol.old) run first n) ≡ true) × Distinct (along (fat_entry sys.now.y vol.old) run first n)) }
     ensures { vol.new ≡ free_all sys.now.y vol.old (along (fat_entry sys.now.y vol.old) run first n) }
 {
@@ -73,7 +91,13 @@ fn free_from<const WIDE: usize>(vol: &mut [u8], sys: &Places<'_, 1, WIDE>, run: 
 }
 
 // Cuts a stream that reads to its first clusters, which `part` tells of, and frees the others: what shrink does where nothing refuses.
-pub fn cut_in<const WIDE: usize>(vol: &mut [u8], sys: &Places<'_, 1, WIDE>, a: Allocation, keep: u32, part: Kept)
+pub fn cut_in<const WIDE: usize>(
+    vol: &mut [u8],
+    sys: &Places<'_, 1, WIDE>,
+    a: Allocation,
+    keep: u32,
+    part: Kept,
+)
     requires { (length vol.old ≡ sys.now.y.len) × ((number_of (stream_of sys.now.y vol.old a) ≡ 0) × ((keep ≤ a.count) × (part ≡ kept_part (fat_entry sys.now.y vol.old) a.no_fat_chain a.first keep))) }
     ensures { vol.new ≡ free_all sys.now.y (end_kept sys.now.y vol.old a (take keep (clusters_in sys.now.y vol.old a))) (drop keep (clusters_in sys.now.y vol.old a)) }
 {
