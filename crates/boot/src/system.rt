@@ -10,12 +10,11 @@ use crate::geometry;
 use crate::geometry::Geometry;
 use crate::layout::Layout;
 
-// Where the parts of a volume lie, and the system map, which has a bit for each cluster.
+// Where the parts of a volume lie, and the system map. APART says whether they are known to lie apart, and WIDE whether the map is known to
+// have a bit for each cluster (0: not known, 1: known): a function asks only for what it needs, and takes any value of the others.
 // Kept: the volume's bytes and their length stay beside it, since what stores has the bytes by `&mut`: as a field, each call would have to
 // promise that it is the same reference and the same system. Bounds of one number, as `k < y.count + 2` or `1 <= n`, stay clauses: a type
 // for each would be opened wherever the number is counted with.
-// APART says whether it is known that no two of the parts overlap, and WIDE whether it is known that the map has a bit for each cluster (0: not
-// known, 1: known): a function asks only for what it needs, and takes any value of the others.
 #[derive(Clone, Copy)]
 pub struct Places<'a, const APART: usize, const WIDE: usize> {
     pub y: Layout,
@@ -25,7 +24,7 @@ pub struct Places<'a, const APART: usize, const WIDE: usize> {
     pub ghost wide: { 1 ≤ WIDE → y.count ≤ 8 * length map.now },
 }
 
-// All of these facts known.
+// Both known: what a call has once it is admitted.
 pub type System<'a> = Places<'a, 1, 1>;
 
 // What every public call begins with: the layout and the map, or the cause that refuses it before all else.
