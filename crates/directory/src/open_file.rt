@@ -17,7 +17,7 @@ use crate::directory::OpenDirectory;
 use crate::entries::Cursor;
 use crate::spot::Spot;
 use boot::cause::Cause;
-use boot::system::System;
+use boot::system::{Places, System};
 use stream::allocation::Allocation;
 use stream::bytes::Place;
 
@@ -38,9 +38,9 @@ pub struct OpenFile {
 }
 
 // Opens a chain of n clusters: one walk gives its record, the place `goal` steps along it, and what refuses it.
-fn open_chain(
+fn open_chain<const APART: usize>(
     vol: &[u8],
-    sys: &System<'_>,
+    sys: &Places<'_, APART, 1>,
     first: u32,
     n: u32,
     goal: u32,
@@ -68,9 +68,9 @@ fn open_chain(
 }
 
 // Opens a run of n clusters: its marks, then the system map; no FAT entry is read.
-fn open_run(
+fn open_run<const APART: usize>(
     vol: &[u8],
-    sys: &System<'_>,
+    sys: &Places<'_, APART, 1>,
     first: u32,
     n: u32,
     goal: u32,
@@ -94,7 +94,12 @@ fn open_run(
 }
 
 // How many steps lead to where a call on the bytes from an offset on begins, in the stream of n clusters that a set has.
-fn start_steps(sys: &System<'_>, set: &[u8; 608], offset: u64, n: u32) -> u32
+fn start_steps<const APART: usize, const WIDE: usize>(
+    sys: &Places<'_, APART, WIDE>,
+    set: &[u8; 608],
+    offset: u64,
+    n: u32,
+) -> u32
     requires { 1 ≤ n }
     ensures { result ≡ start_steps sys.now.y.size (valid_length set.now) offset n }
 {
@@ -103,9 +108,9 @@ fn start_steps(sys: &System<'_>, set: &[u8; 608], offset: u64, n: u32) -> u32
 }
 
 // Opens the stream of a set for a call on its bytes from an offset on.
-fn open_stream(
+fn open_stream<const APART: usize>(
     vol: &[u8],
-    sys: &System<'_>,
+    sys: &Places<'_, APART, 1>,
     set: &[u8; 608],
     offset: u64,
 ) -> Result<OpenStream, Cause>
@@ -147,7 +152,7 @@ fn set_cause(set: &[u8; 608], count: u32, size: usize) -> Result<(), Cause>
     Ok(())
 }
 
-impl OpenDirectory<'_, 1, 1> {
+impl<const WIDE: usize> OpenDirectory<'_, 1, WIDE> {
     // How many entries the set has whose first entry e is, at a slot with no type 0 before it: none where that is no file entry or the
     // set does not fit.
     fn entries_here(&self, slot: u32, e: Cursor, total: u32) -> Option<usize>
@@ -183,7 +188,9 @@ impl OpenDirectory<'_, 1, 1> {
             &mut set[..32 * n],
         );
     }
+}
 
+impl OpenDirectory<'_, 1, 1> {
     // Opens the file of a set that is copied, whose entry is known.
     fn open_copied(
         &self,

@@ -60,7 +60,11 @@ pub fn length_cause<const APART: usize>(
 }
 
 // The clusters that a stream must add for a length.
-fn missing(sys: &System<'_>, b: Allocation, len: u64) -> u32
+fn missing<const APART: usize, const WIDE: usize>(
+    sys: &Places<'_, APART, WIDE>,
+    b: Allocation,
+    len: u64,
+) -> u32
     requires { missing sys.now.y b len ≤ 32768 }
     ensures { result ≡ missing sys.now.y b len }
 {

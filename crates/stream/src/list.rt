@@ -11,10 +11,15 @@ ghost use Rattle.stream.specs.Listing.{listed_number, listed_list, listing_numbe
 use crate::allocation::Allocation;
 use boot::cause::Cause;
 use boot::geometry::Geometry;
-use boot::system::System;
+use boot::system::Places;
 
 // Writes the clusters of a stream to the front of a list.
-fn write_clusters(vol: &[u8], sys: &System<'_>, a: Allocation, list: &mut [u32])
+fn write_clusters<const APART: usize, const WIDE: usize>(
+    vol: &[u8],
+    sys: &Places<'_, APART, WIDE>,
+    a: Allocation,
+    list: &mut [u32],
+)
     requires { (length vol.now ≡ sys.now.y.len) × ((a.count ≤ length list.old) × (every (in_heap sys.now.y.count) (along (fat_entry sys.now.y vol.now) a.no_fat_chain a.first a.count) ≡ true)) }
     ensures { list.new ≡ splice list.old 0 (along (fat_entry sys.now.y vol.now) a.no_fat_chain a.first a.count) }
 {
@@ -26,7 +31,12 @@ fn write_clusters(vol: &[u8], sys: &System<'_>, a: Allocation, list: &mut [u32])
 }
 
 // The same once the limits are known to hold: refused where the list is too short, or by the record's clusters.
-fn list_clusters(vol: &[u8], sys: &System<'_>, a: Allocation, list: &mut [u32]) -> Result<(), Cause>
+fn list_clusters<const APART: usize>(
+    vol: &[u8],
+    sys: &Places<'_, APART, 1>,
+    a: Allocation,
+    list: &mut [u32],
+) -> Result<(), Cause>
     requires { length vol.now ≡ sys.now.y.len }
     ensures { (number result ≡ listed_number sys.now.y vol.now a (length list.old)) × (list.new ≡ listed_list sys.now.y vol.now a list.old) }
 {

@@ -16,7 +16,7 @@ use crate::answer::Updated;
 use crate::take::Taken;
 use boot::cause::Cause;
 use boot::geometry::Geometry;
-use boot::system::System;
+use boot::system::{Places, System};
 use choice::choice::Choice;
 use stream::allocation::Allocation;
 
@@ -49,7 +49,7 @@ pub fn take_chain(vol: &mut [u8], sys: &System<'_>, start: u32, n: u32, prev: u3
 }
 
 // n clusters from k as a run: marked, their FAT entries untouched.
-fn new_run(vol: &mut [u8], sys: &System<'_>, k: u32, n: u32) -> Updated
+fn new_run<const WIDE: usize>(vol: &mut [u8], sys: &Places<'_, 1, WIDE>, k: u32, n: u32) -> Updated
     requires { (length vol.old ≡ sys.now.y.len) × ((2 ≤ k) × ((k + n ≤ sys.now.y.count + 2) × (1 ≤ n))) }
     ensures { let o = new_run sys.now.y vol.old k n in (success result ≡ o.answer) × (vol.new ≡ o.volume) }
 {

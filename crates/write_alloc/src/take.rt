@@ -57,7 +57,12 @@ pub fn link_run<const APART: usize, const WIDE: usize>(
 }
 
 // Takes one cluster: marks it, and links the one before to it.
-fn take_one(vol: &mut [u8], sys: &System<'_>, prev: u32, k: u32)
+fn take_one<const APART: usize, const WIDE: usize>(
+    vol: &mut [u8],
+    sys: &Places<'_, APART, WIDE>,
+    prev: u32,
+    k: u32,
+)
     requires { (length vol.old ≡ sys.now.y.len) × ((prev < sys.now.y.count + 2) × ((2 ≤ k) × (k < sys.now.y.count + 2))) }
     ensures { vol.new ≡ take_single sys.now.y vol.old prev k }
 {

@@ -12,14 +12,19 @@ ghost use Rattle.write_alloc.specs.Outcome.{success, answer_of};
 
 use boot::cause::Cause;
 use boot::geometry::Geometry;
-use boot::system::System;
+use boot::system::{Places, System};
 use choice::choice::Choice;
 use stream::allocation::Allocation;
 use write_alloc::answer::Updated;
 
 // Refuses n more clusters for a record that has some. Fewer usable clusters than n are too few whatever the free count is: it is asked only
 // where the record is refused.
-fn more_cause(vol: &[u8], sys: &System<'_>, a: Allocation, n: u32) -> Result<(), Cause>
+fn more_cause<const APART: usize>(
+    vol: &[u8],
+    sys: &Places<'_, APART, 1>,
+    a: Allocation,
+    n: u32,
+) -> Result<(), Cause>
     requires { length vol.now ≡ sys.now.y.len }
     ensures { number result ≡ more_cause sys.now.y vol.now sys.now.map.now a n }
 {
@@ -40,7 +45,12 @@ fn more_cause(vol: &[u8], sys: &System<'_>, a: Allocation, n: u32) -> Result<(),
 }
 
 // Whether the next n clusters of a run are usable (Rust: `run_is_free`).
-fn in_place(vol: &[u8], sys: &System<'_>, a: Allocation, n: u32) -> bool
+fn in_place<const APART: usize>(
+    vol: &[u8],
+    sys: &Places<'_, APART, 1>,
+    a: Allocation,
+    n: u32,
+) -> bool
     requires { (length vol.now ≡ sys.now.y.len) × ((1 ≤ a.last) × ((a.last < sys.now.y.count + 2) × (n ≤ sys.now.y.count))) }
     ensures { result ≡ in_place sys.now.y vol.now sys.now.map.now a n }
 {
@@ -51,7 +61,12 @@ fn in_place(vol: &[u8], sys: &System<'_>, a: Allocation, n: u32) -> bool
 }
 
 // A run that keeps its flag.
-fn longer_run(vol: &mut [u8], sys: &System<'_>, a: Allocation, n: u32) -> Updated
+fn longer_run<const WIDE: usize>(
+    vol: &mut [u8],
+    sys: &Places<'_, 1, WIDE>,
+    a: Allocation,
+    n: u32,
+) -> Updated
     requires { (length vol.old ≡ sys.now.y.len) × ((1 ≤ a.last) × ((a.last + 1 + n ≤ sys.now.y.count + 2) × (a.count + n ≤ sys.now.y.count))) }
     ensures { let o = longer_run sys.now.y vol.old a n in (success result ≡ o.answer) × (vol.new ≡ o.volume) }
 {
@@ -67,7 +82,11 @@ fn longer_run(vol: &mut [u8], sys: &System<'_>, a: Allocation, n: u32) -> Update
 }
 
 // A run's clusters linked in every FAT, the last one as the end. A chain's are linked already.
-fn link_old(vol: &mut [u8], sys: &System<'_>, a: Allocation)
+fn link_old<const APART: usize, const WIDE: usize>(
+    vol: &mut [u8],
+    sys: &Places<'_, APART, WIDE>,
+    a: Allocation,
+)
     requires { (length vol.old ≡ sys.now.y.len) × ((a.last < sys.now.y.count + 2) × ((1 ≤ a.count) × (a.no_fat_chain ≡ true → a.first + a.count ≤ sys.now.y.count + 2))) }
     ensures { vol.new ≡ link_old sys.now.y vol.old a }
 {

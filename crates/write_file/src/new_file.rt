@@ -13,7 +13,7 @@ ghost use Rattle.write_file.specs.NewFile.{placed, new_file_in, new_file};
 
 use boot::cause::Cause;
 use boot::geometry::Geometry;
-use boot::system::System;
+use boot::system::{Places, System};
 use directory::directory::OpenDirectory;
 use directory::entries::Room;
 use entry_set::stamp::Stamps;
@@ -22,7 +22,12 @@ use stream::allocation::Allocation;
 
 // Refuses n more clusters for a directory where fewer are usable. They are searched only where some are wanted, those behind its last one
 // first.
-fn space_cause(vol: &[u8], sys: &System<'_>, dir: Allocation, n: u32) -> Result<(), Cause>
+fn space_cause<const APART: usize>(
+    vol: &[u8],
+    sys: &Places<'_, APART, 1>,
+    dir: Allocation,
+    n: u32,
+) -> Result<(), Cause>
     requires { length vol.now ≡ sys.now.y.len }
     ensures { number result ≡ space_cause n (count (is_usable sys.now.y vol.now sys.now.map.now) 2 sys.now.y.count) }
 {

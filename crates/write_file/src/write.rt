@@ -13,7 +13,7 @@ ghost use Rattle.write_file.specs.Write.{with_data, write_in, write_into};
 
 use boot::cause::Cause;
 use boot::geometry::Geometry;
-use boot::system::System;
+use boot::system::{Places, System};
 use entry_set::stamp::Stamp;
 use file::answer::Carried;
 use stream::allocation::Allocation;
@@ -31,9 +31,9 @@ struct Stored {
 
 // Puts data into a stream: zeros from valid up to the offset where it passes valid, from the known place on, then the data, from the place
 // that the zeros reached on.
-fn put_data(
+fn put_data<const WIDE: usize>(
     vol: &mut [u8],
-    sys: &System<'_>,
+    sys: &Places<'_, 1, WIDE>,
     b: Allocation,
     known: Place,
     valid: u64,

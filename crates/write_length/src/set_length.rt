@@ -17,7 +17,7 @@ ghost use Rattle.write_length.specs.SetLength.{zero_end, set_length_in, set_leng
 
 use boot::cause::Cause;
 use boot::geometry::Geometry;
-use boot::system::System;
+use boot::system::{Places, System};
 use entry_set::stamp::Stamp;
 use file::answer::Carried;
 use stream::allocation::Allocation;
@@ -34,7 +34,11 @@ struct Cut {
 }
 
 // Where the zeros of a longer file end.
-fn zero_end(sys: &System<'_>, valid: u64, len: u64) -> u64
+fn zero_end<const APART: usize, const WIDE: usize>(
+    sys: &Places<'_, APART, WIDE>,
+    valid: u64,
+    len: u64,
+) -> u64
     requires { (valid ≤ len) × (valid ≤ 1073741824) }
     ensures { result ≡ zero_end sys.now.y.size valid len }
 {
@@ -42,7 +46,12 @@ fn zero_end(sys: &System<'_>, valid: u64, len: u64) -> u64
 }
 
 // A stream cut to a length: the clusters kept, what a walk of them tells, and their record, a run where their numbers rise by one.
-fn cut_plan(vol: &[u8], sys: &System<'_>, b: Allocation, len: u64) -> Cut
+fn cut_plan<const WIDE: usize>(
+    vol: &[u8],
+    sys: &Places<'_, 1, WIDE>,
+    b: Allocation,
+    len: u64,
+) -> Cut
     requires { (length vol.now ≡ sys.now.y.len) × ((number_of (stream_of sys.now.y vol.now b) ≡ 0) × (clusters_for sys.now.y.size len ≤ b.count)) }
     ensures { result ≡ cut_plan sys.now.y vol.now b len }
 {
@@ -53,7 +62,13 @@ fn cut_plan(vol: &[u8], sys: &System<'_>, b: Allocation, len: u64) -> Cut
 }
 
 // Frees the clusters of a stream that are not kept, where there are any.
-fn cut_to(vol: &mut [u8], sys: &System<'_>, b: Allocation, keep: u32, part: Kept)
+fn cut_to<const WIDE: usize>(
+    vol: &mut [u8],
+    sys: &Places<'_, 1, WIDE>,
+    b: Allocation,
+    keep: u32,
+    part: Kept,
+)
     requires { (length vol.old ≡ sys.now.y.len) × ((number_of (stream_of sys.now.y vol.old b) ≡ 0) × (part ≡ kept_part (fat_entry sys.now.y vol.old) b.no_fat_chain b.first keep)) }
     ensures { vol.new ≡ cut_to sys.now.y vol.old b keep }
 {

@@ -10,12 +10,17 @@ ghost use Rattle.write_remove.specs.Remove.{remove_in, remove};
 
 use boot::cause::Cause;
 use boot::geometry::Geometry;
-use boot::system::System;
+use boot::system::{Places, System};
 use directory::spot::Spot;
 use file::answer::Carried;
 
 // Clears the InUse bit of each entry of a set, and stores it.
-fn unset(vol: &mut [u8], sys: &System<'_>, spot: Spot, set: &mut [u8; 608])
+fn unset<const APART: usize, const WIDE: usize>(
+    vol: &mut [u8],
+    sys: &Places<'_, APART, WIDE>,
+    spot: Spot,
+    set: &mut [u8; 608],
+)
     requires { (length vol.old ≡ sys.now.y.len) × Reaches sys.now.y spot (entries_of set.old) }
     ensures { let s = set.old in (vol.new ≡ store_at sys.now.y vol.old (spot_clusters spot) spot.at (take (32 * entries_of s) (cleared s (entries_of s)))) × (set.new ≡ cleared s (entries_of s)) }
 {

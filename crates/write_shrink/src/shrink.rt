@@ -121,9 +121,9 @@ pub fn kept_record(first: u32, keep: u32, part: Kept) -> Allocation
 }
 
 // Refuses to free n clusters of a stream by a system cluster among them, which a walk may have seen that there is not.
-fn freed_cause(
+fn freed_cause<const APART: usize>(
     vol: &[u8],
-    sys: &System<'_>,
+    sys: &Places<'_, APART, 1>,
     run: bool,
     first: u32,
     n: u32,

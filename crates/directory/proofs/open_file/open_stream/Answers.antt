@@ -13,7 +13,7 @@ use Rattle.directory.proofs.OpenLaws.{takes_none, takes_some, record_none, recor
 use Rattle.directory.proofs.open_file.open_stream.Goals as goal
 
 pub returns-then-len-eq0 : goal.returns-then-len-eq0
-returns-then-len-eq0 c =
+returns-then-len-eq0 _ c =
     let p = c.requires in
     let a = c.args in
     let z = takes_none a.sys.now.y.size (data_length a.set.now) (omega (arith, a.sys.now.laid.size_low)) (omega arith) in
@@ -21,7 +21,7 @@ returns-then-len-eq0 c =
     rw c.empty_record.ensures (stream_none a.sys.now.y a.vol.now a.sys.now.map.now (file_record a.sys.now.y a.vol.now a.set.now) _ e (omega (arith, ap (λ (x : Allocation). x.count) e, start_low a.sys.now.y.size (valid_length a.set.now) a.offset (file_record a.sys.now.y a.vol.now a.set.now).count)))
 
 pub overflow_cast-n : goal.overflow_cast-n
-overflow_cast-n c =
+overflow_cast-n _ c =
     let p = c.requires in
     let a = c.args in
     let n : c.clusters_for-n.result ≡ clusters_for a.sys.now.y.size (data_length a.set.now) = (cc) in
@@ -29,14 +29,14 @@ overflow_cast-n c =
     omega (arith, n, q, a.sys.now.laid.count_high)
 
 pub start_steps-goal-requires : goal.start_steps-goal-requires
-start_steps-goal-requires c =
+start_steps-goal-requires _ c =
     let p = c.requires in
     let a = c.args in
     let n : c.clusters_for-n.result ≡ clusters_for a.sys.now.y.size (data_length a.set.now) = (cc) in
-    omega (arith, n, takes_some a.sys.now.y.size (data_length a.set.now) (omega (arith, a.sys.now.laid.size_low)) (λ q. omega (arith, q)))
+    (omega arith, omega (arith, n, takes_some a.sys.now.y.size (data_length a.set.now) (omega (arith, a.sys.now.laid.size_low)) (λ q. omega (arith, q))))
 
 pub open_run-requires : goal.open_run-requires
-open_run-requires c =
+open_run-requires _ c =
     let p = c.requires in
     let a = c.args in
     let f = c.first_cluster-first in
@@ -46,10 +46,10 @@ open_run-requires c =
     let z : data_length a.set.now ≢ 0 = λ q. omega (arith, q) in
     let n : k.result ≡ clusters_for a.sys.now.y.size (data_length a.set.now) = (cc) in
     let m : 1 ≤ k.result = omega (arith, n, takes_some a.sys.now.y.size (data_length a.set.now) (omega (arith, a.sys.now.laid.size_low)) z) in
-    (p.0, (omega (arith, n, f.ensures, l.run z (cc)), omega (arith, m, g.ensures, start_low a.sys.now.y.size (valid_length a.set.now) a.offset k.result)))
+    (omega arith, (p.0, (omega (arith, n, f.ensures, l.run z (cc)), omega (arith, m, g.ensures, start_low a.sys.now.y.size (valid_length a.set.now) a.offset k.result))))
 
 pub returns-then-no_fat_chain : goal.returns-then-no_fat_chain
-returns-then-no_fat_chain c =
+returns-then-no_fat_chain _ c =
     let p = c.requires in
     let a = c.args in
     let f = c.first_cluster-first in
@@ -63,7 +63,7 @@ returns-then-no_fat_chain c =
     c.open_run.ensures ∙ ap₂ (λ (x : Allocation) (u : ℕ). opened_stream a.sys.now.y a.vol.now a.sys.now.map.now x u) e (g.ensures ∙ ap (λ (x : Allocation). start_steps a.sys.now.y.size (valid_length a.set.now) a.offset x.count) e)
 
 pub open_chain-requires : goal.open_chain-requires
-open_chain-requires c =
+open_chain-requires _ c =
     let p = c.requires in
     let a = c.args in
     let f = c.first_cluster-first in
@@ -73,10 +73,10 @@ open_chain-requires c =
     let z : data_length a.set.now ≢ 0 = λ q. omega (arith, q) in
     let n : k.result ≡ clusters_for a.sys.now.y.size (data_length a.set.now) = (cc) in
     let m : 1 ≤ k.result = omega (arith, n, takes_some a.sys.now.y.size (data_length a.set.now) (omega (arith, a.sys.now.laid.size_low)) z) in
-    (p.0, (ap (in_heap a.sys.now.y.count) f.ensures ∙ l.first z, omega (arith, m, g.ensures, start_low a.sys.now.y.size (valid_length a.set.now) a.offset k.result)))
+    (omega arith, (p.0, (ap (in_heap a.sys.now.y.count) f.ensures ∙ l.first z, omega (arith, m, g.ensures, start_low a.sys.now.y.size (valid_length a.set.now) a.offset k.result))))
 
 pub returns-else-no_fat_chain : goal.returns-else-no_fat_chain
-returns-else-no_fat_chain c =
+returns-else-no_fat_chain _ c =
     let p = c.requires in
     let a = c.args in
     let f = c.first_cluster-first in

@@ -3,4 +3,4 @@ use Rattle.directory.proofs.open_file.start_steps.Goals as goal
 
 pub returns : goal.returns
 unfolding start_steps
-returns c = cc
+returns _ c = cc

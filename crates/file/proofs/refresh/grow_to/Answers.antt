@@ -8,7 +8,7 @@ pub missing-n-requires : goal.missing-n-requires
 missing-n-requires c =
     let a = c.args in
     let p = c.requires in
-    omega (arith, length_enough a.sys.now.y a.b a.len a.vol.now a.sys.now.map.now p.1.1.1, usable_few a.sys.now.y a.vol.now a.sys.now.map.now, a.sys.now.laid.count_high)
+    (omega arith, omega (arith, length_enough a.sys.now.y a.b a.len a.vol.now a.sys.now.map.now p.1.1.1, usable_few a.sys.now.y a.vol.now a.sys.now.map.now, a.sys.now.laid.count_high))
 
 pub grow_in-requires : goal.grow_in-requires
 grow_in-requires c =

@@ -4,8 +4,8 @@ use Rattle.file.proofs.refresh.missing.Goals as goal
 
 pub overflow_cast-result : goal.overflow_cast-result
 unfolding missing
-overflow_cast-result c = omega (arith, c.clusters_for.ensures, c.saturating_sub.ensures, c.requires)
+overflow_cast-result _ c = omega (arith, c.clusters_for.ensures, c.saturating_sub.ensures, c.requires)
 
 pub returns : goal.returns
 unfolding missing
-returns c = omega (arith, c.clusters_for.ensures, c.saturating_sub.ensures)
+returns _ c = omega (arith, c.clusters_for.ensures, c.saturating_sub.ensures)

@@ -1,3 +1,4 @@
+use native.Mathlib.Omega.{arith}
 use Rattle.std.proofs.lemmas.Result.{err_from_is_err_and}
 use Rattle.boot.proofs.CauseLaws.{cause-not0}
 use Rattle.boot.proofs.Admission.{refuses, admits}
@@ -11,7 +12,7 @@ returns-in_err-sys c =
 
 pub list_clusters-requires : goal.list_clusters-requires
 list_clusters-requires c = let a = admits _ _ _ _ _ c.in_ok-sys.ensures in
-    a.long
+    (omega arith, a.long)
 
 pub returns : goal.returns
 returns c = rw (← c.in_ok-sys.ensures.1.0) (listing_is _ _ _ _ _ _ _ _ (admits _ _ _ _ _ c.in_ok-sys.ensures) (cc) (cc))

@@ -16,20 +16,20 @@ use Rattle.stream.proofs.StreamLaws.{along-step, along_head, along_rest, drop_tu
 use Rattle.stream.proofs.list.write_clusters.Goals as goal
 
 pub loop-place-init : goal.loop-place-init
-loop-place-init c =
+loop-place-init _ c =
     let n = c.args.a.count in
     let z : n - 0 ≡ n = omega arith in
     rw z (sym (splice-nil _ _), (refl, c.requires.1.1))
 
 pub next_cluster-k-requires : goal.next_cluster-k-requires
-next_cluster-k-requires c =
+next_cluster-k-requires _ c =
     let a = c.args in
     let s = length-take-le a.a.count a.list.now (omega arith) in
     let h = in_heap_lem _ _ (along_head _ _ _ _ _ (omega arith) c.loop-place.invariant.1.1) in
     search rules
 
 pub loop-place-preserved : goal.loop-place-preserved
-loop-place-preserved c =
+loop-place-preserved _ c =
     let a = c.args in
     let l = c.loop-place in
     let i = l.invariant in
@@ -45,7 +45,7 @@ loop-place-preserved c =
     )
 
 pub returns : goal.returns
-returns c =
+returns _ c =
     let a = c.args in
     let l = c.loop-place in
     let full = along (fat_entry a.sys.now.y a.vol.now) a.a.no_fat_chain a.a.first a.a.count in

@@ -3,4 +3,4 @@ use Rattle.write_alloc.proofs.allocate.new_run.Goals as goal
 
 pub returns : goal.returns
 unfolding new_run
-returns c = (cc, cc)
+returns _ c = (cc, cc)

@@ -15,7 +15,7 @@ new_run-requires c =
     let k = c.in-Run.k in
     let e : choose (is_usable a.sys.now.y a.vol.now a.sys.now.map.now) a.sys.now.y.count a.n a.start ≡ Run k = cc in
     let i = choose_inside (is_usable a.sys.now.y a.vol.now a.sys.now.map.now) a.sys.now.y.count a.n a.start p.1.0 k e in
-    (p.0, (i.0, (i.1, p.1.1.1)))
+    (omega arith, (p.0, (i.0, (i.1, p.1.1.1))))
 
 pub returns-in-Run : goal.returns-in-Run
 returns-in-Run c = (λ hint. shown_as (stream_run _ _ _ _ _ hint c.in-Run.k (cc)) c.new_run.ensures, λ h. refl)

@@ -25,7 +25,7 @@ link_old-requires c =
     let a = c.args in
     let p = c.requires in
     let f = last_facts a.sys.now.y a.vol.now a.sys.now.map.now a.a a.n a.sys.now.laid (a.sys.now.apart (omega arith)) p.0 p.1.0 p.1.1.0 p.1.1.1 in
-    (p.0, (f.1, (p.1.0, f.3)))
+    (omega arith, (p.0, (f.1, (p.1.0, f.3))))
 
 pub take_chain-last-requires : goal.take_chain-last-requires
 take_chain-last-requires c =

@@ -3,4 +3,4 @@ use Rattle.write_extend.proofs.extend.longer_run.Goals as goal
 
 pub returns : goal.returns
 unfolding longer_run
-returns c = (cc, cc)
+returns _ c = (cc, cc)

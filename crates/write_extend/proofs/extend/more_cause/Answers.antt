@@ -4,18 +4,18 @@ use Rattle.write_extend.proofs.ExtendLaws.{more_heap, more_free, more_record, mo
 use Rattle.write_extend.proofs.extend.more_cause.Goals as goal
 
 pub returns-then-from : goal.returns-then-from
-returns-then-from c = sym (more_heap _ _ _ _ _ (omega arith))
+returns-then-from _ c = sym (more_heap _ _ _ _ _ (omega arith))
 
 pub returns-in-Err : goal.returns-in-Err
-returns-in-Err c = sym (more_free _ _ _ _ _ (omega arith) (omega arith))
+returns-in-Err _ c = sym (more_free _ _ _ _ _ (omega arith) (omega arith))
 
 pub returns-in-Err-2 : goal.returns-in-Err-2
-returns-in-Err-2 c = sym (more_record _ _ _ _ _ _ (omega arith) (omega arith) c.in-Err.ensures (cause-not0 _))
+returns-in-Err-2 _ c = sym (more_record _ _ _ _ _ _ (omega arith) (omega arith) c.in-Err.ensures (cause-not0 _))
 
 pub returns-then-enough : goal.returns-then-enough
-returns-then-enough c =
+returns-then-enough _ c =
     sym (more_none _ _ _ _ _ 0 (omega arith) c.in-Ok.ensures refl (leb-true _ _ (cc)))
 
 pub returns-else-enough : goal.returns-else-enough
-returns-else-enough c =
+returns-else-enough _ c =
     sym (more_few _ _ _ _ _ 0 (omega arith) c.in-Ok.ensures refl (leb-false _ _ (cc)))

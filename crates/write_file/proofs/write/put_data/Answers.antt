@@ -5,7 +5,7 @@ use Rattle.metadata.proofs.Frame.{fits}
 use Rattle.write_file.proofs.write.put_data.Goals as goal
 
 pub store-requires : goal.store-requires
-store-requires c =
+store-requires _ c =
     let a = c.args in
     let p = c.requires in
     let w = fits a.sys.now a.vol.now p.0 in
@@ -14,7 +14,7 @@ store-requires c =
     (omega arith, (omega arith, (stored_heap a.sys.now.y a.vol.now w a.b p.1.0 a.valid (replicate (a.offset - a.valid) 0) _ z.ensures.0, (p.1.1.0, (rw z.ensures.1 (stored_known a.sys.now.y a.vol.now w a.b p.1.0 a.valid (replicate (a.offset - a.valid) 0) _ z.ensures.0 _ _ k), p.1.1.1.1)))))
 
 pub returns : goal.returns
-returns c =
+returns _ c =
     let a = c.args in
     let p = c.requires in
     let w = fits a.sys.now a.vol.now p.0 in

@@ -12,4 +12,4 @@ put_data-requires c =
     let g = c.grow_to-r in
     let k = c.grown_place-place in
     let n = grow_known a.sys.now.y a.vol.now a.sys.now.map.now w a.b a.len a.hint p.1.1.0 p.1.0 p.1.1.1.0 (success g.result) _ g.ensures.0 g.ensures.1.0 a.known _ p.1.1.1.1.1.0 in
-    (omega arith, (g.ensures.1.1.0, (omega (arith, g.ensures.1.1.1, p.1.1.1.1.0), (rw k.ensures n, p.1.1.1.1.1.1))))
+    (omega arith, (omega arith, (g.ensures.1.1.0, (omega (arith, g.ensures.1.1.1, p.1.1.1.1.0), (rw k.ensures n, p.1.1.1.1.1.1)))))

@@ -38,7 +38,7 @@ cut_plan-c-requires c =
     let v = c.valid_length-valid in
     let u = c.data_length-old in
     let h : 1 ≤ i.sys.now.y.size = omega (arith, i.sys.now.laid.size_low) in
-    (p, (open_stream _ _ _ _ _ _ _ _ o, omega (arith, clusters_mono i.sys.now.y.size h i.len u.result (omega arith), ap (clusters_for i.sys.now.y.size) u.ensures, open_count _ _ _ _ _ _ _ _ o)))
+    (omega arith, (p, (open_stream _ _ _ _ _ _ _ _ o, omega (arith, clusters_mono i.sys.now.y.size h i.len u.result (omega arith), ap (clusters_for i.sys.now.y.size) u.ensures, open_count _ _ _ _ _ _ _ _ o))))
 
 pub record_set-requires : goal.record_set-requires
 record_set-requires c =
@@ -58,7 +58,7 @@ cut_to-requires c =
     let u = c.data_length-old in
     let h : 1 ≤ i.sys.now.y.size = omega (arith, i.sys.now.laid.size_low) in
     let g = c.cut_plan-c in
-    (omega (arith, p), (cut-reads _ _ _ _ _ _ _ _ o i.len i.t _ g.result g.ensures _ c.record_set.ensures.0, cut_part _ _ _ _ _ _ _ _ o i.len i.t _ g.result g.ensures _ c.record_set.ensures.0 (omega (arith, clusters_mono i.sys.now.y.size h i.len u.result (omega (arith, c.if-len-old.true)), ap (clusters_for i.sys.now.y.size) u.ensures, open_count _ _ _ _ _ _ _ _ o))))
+    (omega arith, (omega (arith, p), (cut-reads _ _ _ _ _ _ _ _ o i.len i.t _ g.result g.ensures _ c.record_set.ensures.0, cut_part _ _ _ _ _ _ _ _ o i.len i.t _ g.result g.ensures _ c.record_set.ensures.0 (omega (arith, clusters_mono i.sys.now.y.size h i.len u.result (omega (arith, c.if-len-old.true)), ap (clusters_for i.sys.now.y.size) u.ensures, open_count _ _ _ _ _ _ _ _ o)))))
 
 pub returns-then-len-old : goal.returns-then-len-old
 returns-then-len-old c =

@@ -21,7 +21,7 @@ unset-requires c =
     let p = c.requires in
     let x = c.in_ok-f.ensures in
     let o = opened i.sys.now i.vol.now p i.root i.slot 0 i.hint _ _ x refl in
-    (p, open_reaches _ _ _ _ _ _ _ _ o)
+    (omega arith, (p, open_reaches _ _ _ _ _ _ _ _ o))
 
 pub kept_part-part-requires : goal.kept_part-part-requires
 kept_part-part-requires c =

@@ -14,7 +14,7 @@ kept_part-part-requires c =
 pub freed_cause-requires : goal.freed_cause-requires
 freed_cause-requires c =
     let p = c.requires in
-    (p.0, (rw (part_next _ _ _ _ _ c.kept_part-part.ensures) (freed_heap _ _ _ _ c.args.sys.now.laid (omega (arith, p.1.0)) p.1.1.1.0), (omega (arith, p.1.0), λ t. freed_system _ _ _ _ c.args.sys.now.laid (omega (arith, p.1.0)) p.1.1.1.0 _ _ (part_next _ _ _ _ _ c.kept_part-part.ensures) ∙ system-drop _ _ c.args.keep (p.1.1.1.1 t))))
+    (omega arith, (p.0, (rw (part_next _ _ _ _ _ c.kept_part-part.ensures) (freed_heap _ _ _ _ c.args.sys.now.laid (omega (arith, p.1.0)) p.1.1.1.0), (omega (arith, p.1.0), λ t. freed_system _ _ _ _ c.args.sys.now.laid (omega (arith, p.1.0)) p.1.1.1.0 _ _ (part_next _ _ _ _ _ c.kept_part-part.ensures) ∙ system-drop _ _ c.args.keep (p.1.1.1.1 t)))))
 
 pub returns-in_err-freed_cause : goal.returns-in_err-freed_cause
 returns-in_err-freed_cause c =

@@ -19,7 +19,7 @@ copy_set-requires c =
     let a = c.args in
     let s = whole_some (bytes d) a.slot c.in-Some.n (sym c.entries_here.ensures ∙ c.in-Some.is) in
     let t = set_fits_lem (bytes d) a.slot s.0 in
-    (p.1.0, (s.1, (omega (arith, s.1, t.1.0), (omega (arith, s.1, t.1.1), p.1.1.1.1.1))))
+    (omega arith, (p.1.0, (s.1, (omega (arith, s.1, t.1.0), (omega (arith, s.1, t.1.1), p.1.1.1.1.1)))))
 
 pub open_copied-requires : goal.open_copied-requires
 open_copied-requires c =

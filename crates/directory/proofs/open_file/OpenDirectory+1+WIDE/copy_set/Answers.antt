@@ -12,14 +12,14 @@ use Rattle.directory.specs.Internal.{bytes}
 use Rattle.directory.proofs.OpenedLaws.{opened_fits}
 use Rattle.directory.proofs.CursorLaws.{dir_heap, slot_bytes}
 use Rattle.directory.proofs.OpenLaws.{entries_low, slot_known, copy_is}
-use Rattle.directory.proofs.open_file.OpenDirectory+1+1.copy_set.Goals as goal
+use Rattle.directory.proofs.open_file.OpenDirectory+1+WIDE.copy_set.Goals as goal
 
 -- the part of a set's 608 bytes that its entries take
 length-part : (n : ℕ) (s : List ℕ) → n ≤ 19 → s ≡ replicate 608 0 → length (take (32 * n) s) ≡ 32 * n
 length-part n s h e = length-take-le (32 * n) s (omega (arith, ap (length {A = ℕ}) e, length-replicate {A = ℕ} 608 0))
 
 pub read-requires : goal.read-requires
-read-requires c =
+read-requires _ c =
     let d = c.args.self.now in
     let p = c.requires in
     let a = c.args in
@@ -29,7 +29,7 @@ read-requires c =
     (omega arith, (d.long, (dir_heap d.sys.now.y d.vol.now w d.allocation d.reads, (slot_bytes d.sys.now.y d.vol.now w d.allocation d.reads a.slot a.n p.1.1.1.0, slot_known d.sys.now.y d.vol.now w d.allocation d.reads a.slot h a.e p.0))))
 
 pub returns : goal.returns
-returns c =
+returns _ c =
     let d = c.args.self.now in
     let p = c.requires in
     let a = c.args in

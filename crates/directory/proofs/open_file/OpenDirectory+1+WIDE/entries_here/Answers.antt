@@ -6,11 +6,11 @@ use Rattle.directory.specs.Internal.{bytes}
 use Rattle.directory.proofs.OpenedLaws.{opened_fits}
 use Rattle.directory.proofs.EntryLaws.{file_type, file_of}
 use Rattle.directory.proofs.OpenLaws.{fits_no, fits_yes, whole_no, whole_yes, slot_in, slot_type, slot_count}
-use Rattle.directory.proofs.open_file.OpenDirectory+1+1.entries_here.Goals as goal
-use Rattle.directory.proofs.open_file.OpenDirectory+1+1.entries_here.Goals.{then-n-gt19-via-then-n-gt19, then-n-gt19-via-else-n-gt19+then-total-slot}
+use Rattle.directory.proofs.open_file.OpenDirectory+1+WIDE.entries_here.Goals as goal
+use Rattle.directory.proofs.open_file.OpenDirectory+1+WIDE.entries_here.Goals.{then-n-gt19-via-then-n-gt19, then-n-gt19-via-else-n-gt19+then-total-slot}
 
 pub byte_at-requires : goal.byte_at-requires
-byte_at-requires c =
+byte_at-requires _ c =
     let d = c.args.self.now in
     let p = c.requires in
     let a = c.args in
@@ -19,7 +19,7 @@ byte_at-requires c =
     (omega arith, (d.long, (q.0, (q.1.0, omega (arith, q.1.1)))))
 
 pub returns-then-byte_at : goal.returns-then-byte_at
-returns-then-byte_at c =
+returns-then-byte_at _ c =
     let d = c.args.self.now in
     let p = c.requires in
     let a = c.args in
@@ -28,7 +28,7 @@ returns-then-byte_at c =
     (fits_no (bytes d) a.slot (λ f g h. omega (arith, file_type (bytes d) a.slot f, slot_type d.sys.now.y d.vol.now w d.allocation d.reads a.slot p.0 a.e p.1.0)))
 
 pub byte_at-requires-2 : goal.byte_at-requires-2
-byte_at-requires-2 c =
+byte_at-requires-2 _ c =
     let d = c.args.self.now in
     let p = c.requires in
     let a = c.args in
@@ -37,7 +37,7 @@ byte_at-requires-2 c =
     (omega arith, (d.long, (q.0, (q.1.0, omega (arith, q.1.1)))))
 
 pub returns-then-n-gt19 : goal.returns-then-n-gt19
-returns-then-n-gt19 c =
+returns-then-n-gt19 _ c =
     let d = c.args.self.now in
     let p = c.requires in
     let a = c.args in
@@ -49,7 +49,7 @@ returns-then-n-gt19 c =
     ]))
 
 pub returns : goal.returns
-returns c =
+returns _ c =
     let d = c.args.self.now in
     let p = c.requires in
     let a = c.args in
