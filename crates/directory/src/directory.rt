@@ -6,7 +6,7 @@ use boot::cause::Cause;
 use boot::system::Places;
 use stream::allocation::Allocation;
 
-// A directory opened: its record, whose stream reads, on the volume's bytes. What is known of its places, a function asks as it needs it.
+// A directory opened: its record, whose stream reads, on the volume's bytes. APART and WIDE say what is known of its places (`Places`).
 #[derive(Clone, Copy)]
 pub struct OpenDirectory<'a, const APART: usize, const WIDE: usize> {
     pub vol: &'a [u8],

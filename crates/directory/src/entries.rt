@@ -115,7 +115,7 @@ impl<const APART: usize, const WIDE: usize> OpenDirectory<'_, APART, WIDE> {
         none_ends(&self.vol[a..e], n)
     }
 
-    // Windows of n entries of a cluster, passed in the same way. Its part of the volume is handed on.
+    // Windows of n entries of a cluster, passed as those of a part are. The cluster's part of the volume is handed on.
     fn used_windows_in(&self, k: u32, first: u32, n: u32) -> u32
         requires { (2 ≤ k) × ((k < self.now.sys.now.y.count + 2) × ((32 * first ≤ self.now.sys.now.y.size) × ((1 ≤ n) × (n ≤ 19)))) }
         ensures { result ≡ past_used (bytes_at self.now k) n first }
@@ -214,7 +214,7 @@ impl<const WIDE: usize> OpenDirectory<'_, 1, WIDE> {
         self.last_used(e, base, n - 1)
     }
 
-    // The same from entry base on, which e is, in e's cluster.
+    // Windows of n entries from entry base on, which e is, passed in e's cluster.
     fn pass_used(&self, e: Cursor, base: u32, n: u32) -> Tail
         requires { (e ≡ nth_entry self.now base) × ((1 ≤ n) × ((n ≤ 19) × (base < entry_count (bytes self.now)))) }
         ensures { (result.slot ≡ base + (past_used (bytes_at self.now e.cluster) n (e.at / 32) - e.at / 32)) × (result.entry ≡ nth_entry self.now result.slot) }
