@@ -1,5 +1,5 @@
 // A record's clusters walked and tested: what refuses it.
-ghost use Rattle.std.specs.Prelude.{◌≡◌, Ok, IfOk, not, false, ◌+◌, ◌-◌, ◌*◌, ◌≤◌, ◌<◌, min, length};
+ghost use Rattle.std.specs.Prelude.{◌≡◌, Ok, not, false, ◌+◌, ◌-◌, ◌*◌, ◌≤◌, ◌<◌, min, length};
 ghost use Rattle.boot.specs.Causes.{number};
 ghost use Rattle.metadata.specs.Fat.{fat_entry};
 ghost use Rattle.metadata.specs.Marks.{marked};
@@ -22,6 +22,14 @@ pub struct Walk {
     pub marked: bool,
     pub clear: bool,
     pub seen: u32,
+}
+
+// A record's clusters tested: what refuses them, and whether a walk of them saw that none is a system cluster, which it tells of a chain
+// that is refused too.
+#[derive(Clone, Copy)]
+pub struct Tested {
+    pub outcome: Result<(), Cause>,
+    pub clear: bool,
 }
 
 // Whether cluster k may not be in a stream (number 9): a bitmap's cluster in the root directory, a system cluster in any other stream.
@@ -134,40 +142,49 @@ pub fn walk_cause(w: Walk, last: u32, count: u32) -> Result<(), Cause>
     }
 }
 
-// Refuses a chain by its walk, then by its length and last cluster, then by its marks. Gives whether the walk saw that none of its
-// clusters is a system cluster.
-fn read_chain<const APART: usize>(
-    vol: &[u8],
-    sys: &Places<'_, APART, 1>,
-    a: Allocation,
-) -> Result<bool, Cause>
+// Tests a chain by its walk, then by its length and last cluster, then by its marks.
+fn read_chain<const APART: usize>(vol: &[u8], sys: &Places<'_, APART, 1>, a: Allocation) -> Tested
     requires { length vol.now ≡ sys.now.y.len }
-    ensures { (number result ≡ number_of (check_chain (marked sys.now.y vol.now) a.last a.count (read_chain sys.now.y.count (fat_entry sys.now.y vol.now) a.first))) × IfOk result (λ clear. clear ≡ chain_clear sys.now.y vol.now sys.now.map.now a.first) }
+    ensures { (number result.outcome ≡ number_of (check_chain (marked sys.now.y vol.now) a.last a.count (read_chain sys.now.y.count (fat_entry sys.now.y vol.now) a.first))) × (result.clear ≡ chain_clear sys.now.y vol.now sys.now.map.now a.first) }
 {
     if !boot::layout::in_heap(sys.y.count, a.first) {
-        return Err(Cause::OutsideHeap);
+        return Tested {
+            outcome: Err(Cause::OutsideHeap),
+            clear: false,
+        };
     }
-    let w = fat_chain(vol, sys, false, a.first, 0)?;
-    walk_cause(w, a.last, a.count)?;
-    Ok(w.clear)
+    match fat_chain(vol, sys, false, a.first, 0) {
+        Ok(w) => Tested {
+            outcome: walk_cause(w, a.last, a.count),
+            clear: w.clear,
+        },
+        Err(cause) => Tested {
+            outcome: Err(cause),
+            clear: false,
+        },
+    }
 }
 
-// A record's clusters tested (Rust: `clusters`, and the test of it): whether a walk of them saw that none is a system cluster, or what
-// refuses them.
+// A record's clusters tested (Rust: `clusters`, and the test of it).
 pub fn stream_test<const APART: usize>(
     vol: &[u8],
     sys: &Places<'_, APART, 1>,
     a: Allocation,
-) -> Result<bool, Cause>
+) -> Tested
     requires { length vol.now ≡ sys.now.y.len }
-    ensures { (number result ≡ number_of (stream_of sys.now.y vol.now a)) × IfOk result (λ clear. clear ≡ stream_clear sys.now.y vol.now sys.now.map.now a) }
+    ensures { (number result.outcome ≡ number_of (stream_of sys.now.y vol.now a)) × (result.clear ≡ stream_clear sys.now.y vol.now sys.now.map.now a) }
 {
     if a.count == 0 {
-        return Ok(false);
+        return Tested {
+            outcome: Ok(()),
+            clear: false,
+        };
     }
     if a.no_fat_chain {
-        read_run(vol, sys, a)?;
-        return Ok(false);
+        return Tested {
+            outcome: read_run(vol, sys, a),
+            clear: false,
+        };
     }
     read_chain(vol, sys, a)
 }
@@ -181,8 +198,7 @@ pub fn stream_cause<const APART: usize>(
     requires { length vol.now ≡ sys.now.y.len }
     ensures { number result ≡ number_of (stream_of sys.now.y vol.now a) }
 {
-    stream_test(vol, sys, a)?;
-    Ok(())
+    stream_test(vol, sys, a).outcome
 }
 
 // The cluster after k in a stream.

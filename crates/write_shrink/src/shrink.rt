@@ -179,8 +179,9 @@ fn shrink_in(
             hint,
         });
     }
-    let clear = stream::walk::stream_test(vol, sys, a)?;
-    shrink_read(vol, sys, a, keep, clear, hint)
+    let tested = stream::walk::stream_test(vol, sys, a);
+    tested.outcome?;
+    shrink_read(vol, sys, a, keep, tested.clear, hint)
 }
 
 // Shrinks a record to its first `keep` clusters (Rust: `shrink_clusters`).
