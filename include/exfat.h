@@ -11,9 +11,9 @@
  * is not null, at length 0 too; nothing else changes a slice or an array during the call; and what a call writes (a volume that
  * is not const, `list`, `out`) overlaps no other argument.
  *
- * What the library needs: an x86-64 with Linux's calling convention and its SSE2 registers; the C functions memcpy, memmove and
- * memset; and stack, at most 1,640 bytes in exfat_write, the deepest call, besides what these three take. It uses the red zone of
- * 128 bytes below the stack pointer, and keeps no data of its own.
+ * What the library needs: an x86-64 with Linux's calling convention and its SSE2 registers; the C functions memmove and memset;
+ * and stack, at most 1,560 bytes in exfat_write, the deepest call, besides what these two take. It uses the red zone of 128
+ * bytes below the stack pointer, and keeps no data of its own.
  *
  * Arguments that the calls share
  *

@@ -3,6 +3,8 @@ ghost use Rattle.std.specs.Prelude.{◌≡◌, ◌+◌, ◌≤◌, length, repli
 ghost use Rattle.primitives.specs.Splice.{splice};
 
 // Stores src into dst from `at`.
+// Out of line: where the compiler sees that the two lie apart it calls `memcpy`, and the library needs no more than `memmove` and `memset`.
+#[inline(never)]
 pub fn copy_in(dst: &mut [u8], at: usize, src: &[u8])
     requires { at + length src.now ≤ length dst.old }
     ensures { dst.new ≡ splice dst.old at src.now }

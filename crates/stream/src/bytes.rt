@@ -71,6 +71,8 @@ pub fn put_zeros<const APART: usize, const WIDE: usize>(
 }
 
 // Fills dst with the bytes from byte `at` of cluster k on and past its end from those that follow it in the heap.
+// Out of line, as `copy_in` of primitives is.
+#[inline(never)]
 fn get_piece<const APART: usize, const WIDE: usize>(
     vol: &[u8],
     sys: &Places<'_, APART, WIDE>,
