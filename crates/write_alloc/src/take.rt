@@ -51,8 +51,10 @@ pub fn link_run<const APART: usize, const WIDE: usize>(
     requires { (length vol.old ≡ sys.now.y.len) × (first + n ≤ sys.now.y.count + 2) }
     ensures { vol.new ≡ link_run sys.now.y vol.old first n }
 {
+    // A copy: what the loop stores in the volume can't change it, so the compiler reads it once and stores four entries at a time.
+    let sys = *sys;
     for k in first..first + n {
-        metadata::fat::set_fat(vol, sys, k, k + 1);
+        metadata::fat::set_fat(vol, &sys, k, k + 1);
     }
 }
 
@@ -77,14 +79,16 @@ pub fn take_usable(vol: &mut [u8], sys: &System<'_>, from: u32, end: u32, start:
     requires { (length vol.old ≡ sys.now.y.len) × ((2 ≤ from) × ((end ≤ sys.now.y.count + 2) × ((start.prev < sys.now.y.count + 2) × (prev_taken sys.now.y vol.old start.prev ≡ true)))) }
     ensures { let ks = taken_from sys.now.y vol.old sys.now.map.now from end start.left in (vol.new ≡ take_each sys.now.y vol.old start.prev ks) × (result ≡ taken_of start ks) }
 {
+    // A copy, as in `link_run`.
+    let sys = *sys;
     let mut taken = start;
     let mut k = from;
     // Kept: a step goes to the next usable cluster, and the count of those left ends it too.
     while k < end && taken.left != 0 {
-        let Some(next) = metadata::usable::next_usable(vol, sys, k, end - k) else {
+        let Some(next) = metadata::usable::next_usable(vol, &sys, k, end - k) else {
             break;
         };
-        take_one(vol, sys, taken.prev, next);
+        take_one(vol, &sys, taken.prev, next);
         taken = Taken {
             prev: next,
             left: taken.left - 1,
