@@ -55,7 +55,7 @@ byte l i (suc r) h =
 
 -- ---- whole bytes, and the last one that is cut
 
-more_byte : (l : List ℕ) (i : ℕ) → get_or l i 0 < 256 → count_bits l ((i + 1) * 8) ≡ count_bits l (i * 8) + ones (get_or l i 0)
+pub more_byte : (l : List ℕ) (i : ℕ) → get_or l i 0 < 256 → count_bits l ((i + 1) * 8) ≡ count_bits l (i * 8) + ones (get_or l i 0)
 more_byte l i h =
     let e : (i + 1) * 8 ≡ i * 8 + 8 = omega arith in
     ap (count_bits l) e ∙ byte l i 8 (omega arith) ∙ ap (λ (x : ℕ). count_bits l (i * 8) + x) (sym (whole_byte_lem (get_or l i 0) h))
