@@ -222,11 +222,28 @@ def words_of(term):
     return [term] if isinstance(term, str) else [w for t in term for w in words_of(t)]
 
 
-def path_of(term, result, kind, uses):
+def fields_of(kind, structs):
+    """The fields of a type that is a struct, whatever its lifetimes and const parameters are."""
+    return structs.get(re.sub(r"<'\w+(?:, \w+)*>$", "", kind) if kind else kind)
+
+
+def kind_at(path, kind, structs):
+    """The type of a field, by its path from the result."""
+    for field in path[1:]:
+        kind = dict(fields_of(kind, structs) or ()).get(field[1:])
+    return kind
+
+
+def path_of(term, result, kind, structs, uses):
     """What an equation's side is, if it is something that the function gives: ("result", field, ..), of a result that is lent
-    ("result", ".now") and ("result", ".ref_ptr"), or (lent,). A result that is shown by a map that shows it whole is the result; by one
-    of two that do so together, the result and the map."""
+    ("result", ".now") and ("result", ".ref_ptr"), or (lent,). A result, or a field of it, that is shown by a map that shows it whole is
+    that result or field; by one of two that do so together, the result and the map."""
     words = words_of(term)
+    if isinstance(term, list) and len(words) > 2 and words[1] == result and all(w.startswith(".") for w in words[2:]):
+        path = ("result",) + tuple(words[2:])
+        full = uses.get(words[0])
+        if full in SHOWN and SHOWN[full] == kind_at(path, kind, structs):
+            return path
     if isinstance(term, list) and len(gives(term[1:], result)) == 1 and (result in term or ["Ok", result] in term):
         full = uses.get(term[0]) if isinstance(term[0], str) else None
         if full in SHOWN and SHOWN[full] in (None, kind):
@@ -268,7 +285,7 @@ def settled(path, told, kind, structs):
         return all(path + part in told for part in LENT)
     if all(path + (full,) in told for full in SHOWN_TOGETHER):
         return True
-    fields = structs.get(re.sub(r"<'\w+>$", "", kind) if kind else kind)
+    fields = fields_of(kind, structs)
     return bool(fields) and all(settled(path + ("." + f,), told, t, structs) for f, t in fields)
 
 
@@ -291,7 +308,7 @@ def told_by(claims, result, kind, structs, uses):
     while True:
         for claim in left:
             for mine, other in ((claim[1], claim[2]), (claim[2], claim[1])):
-                path = path_of(mine, result, kind, uses)
+                path = path_of(mine, result, kind, structs, uses)
                 if path and all(settled(p, told, None, structs) for p in gives(other, result)):
                     told.add(path)
                     left.remove(claim)
@@ -315,9 +332,12 @@ def structs_of(texts):
     """The fields of each struct, by its name, without the ghost fields, which hold no value."""
     found = {}
     for text in texts:
-        for name, body in re.findall(r"\bstruct (\w+)(?:<'\w+>)?\s*\{((?:[^{}]|\{[^}]*\})*)\}", text):
+        for name, body in re.findall(r"\bstruct (\w+)(?:<'\w+(?:, const \w+: \w+)*>)?\s*\{((?:[^{}]|\{[^}]*\})*)\}", text):
             body = re.sub(r"(?:pub )?ghost \w+: \{[^}]*\}", "", body)
-            found[name] = re.findall(r"(?:pub )?(\w+): ([^,\n]+)", body)
+            found[name] = re.findall(r"(?:pub )?(\w+): ([^\n]+),\n", body + "\n")
+    for text in texts:
+        for name, other in re.findall(r"\btype (\w+)<'\w+> = (\w+)<'\w+(?:, \w+)*>;", text):
+            found[name] = found[other]
     return found
 
 
@@ -333,7 +353,7 @@ def uses_of(text):
     return uses
 
 
-def cite_faults(claims, result, kind, parts, lent, names, uses, cited):
+def cite_faults(claims, result, kind, parts, lent, names, structs, uses, cited):
     """Whether each equation of a public call cites its definition, applied to every argument of the call."""
     faults = []
 
@@ -358,7 +378,7 @@ def cite_faults(claims, result, kind, parts, lent, names, uses, cited):
         for claim in claims:
             if claim[0] == "equation":
                 for mine, other in ((claim[1], claim[2]), (claim[2], claim[1])):
-                    path = path_of(mine, result, kind, uses)
+                    path = path_of(mine, result, kind, structs, uses)
                     if path and path[: len(thing)] == thing:
                         sides.append(other)
         cites(thing[0], sides)
@@ -388,7 +408,7 @@ def promise_faults(signature, promises, structs, uses, cited):
             faults.append("does not say what `%s` equals afterwards" % one)
     if cited:
         parts = LENT if result and kind.startswith("&") else ((),)
-        faults += cite_faults(claims, result, kind, parts, lent, names, uses, cited)
+        faults += cite_faults(claims, result, kind, parts, lent, names, structs, uses, cited)
     return faults
 
 
@@ -431,6 +451,9 @@ def text_faults(path, text, structs, calls):
 # ---- contracts that are wrong on purpose: what each must be reported for
 
 USES = "ghost use Rattle.c.specs.D.{right};\nghost use Rattle.c.specs.E.{other};\nghost use Rattle.boot.specs.Causes.{number};\nghost use Rattle.std.specs.Result.{result_unwrap_or};\nghost use Rattle.file.specs.Outcome.{file_answer};\npub struct Pair {\n    pub a: u32,\n    pub b: u32,\n}\npub struct View<'a> {\n    pub all: &'a [u8],\n    pub ghost long: { 1 ≤ length all.now },\n}\n"
+USES += "pub struct Test {\n    pub outcome: Result<(), Cause>,\n    pub clear: bool,\n}\n"
+USES += "pub struct Facts<'a, const A: usize, const B: usize> {\n    pub all: &'a [u8],\n    pub n: u32,\n    pub ghost long: { 1 ≤ A → 1 ≤ length all.now },\n}\n"
+USES += "pub type Known<'a> = Facts<'a, 1, 1>;\n"
 CALLS = {"c::f": "c.specs.D.right"}
 BAD = [
     ("fn h(x: u32) -> u32 ensures { result ≡ result } {", "same text on both sides"),
@@ -475,9 +498,15 @@ BAD = [
     ("fn h(x: u32) -> Result<Pair, Cause> ensures { MatchResult result (λ p. p ≡ right x) (λ e. x ≡ 0) } {", "what its result equals"),
     ("fn h(v: &[u8]) -> Result<View<'_>, Cause> ensures { MatchResult result (λ p. p.all.now ≡ v.now) (λ e. e ≡ other v) } {", "what its result equals"),
     ("pub fn f(x: u32, y: u32) -> Result<Pair, Cause> ensures { file_answer y result ≡ right x } {", "does not cite `right`"),
+    ("fn h(x: u32) -> Test ensures { (number result.clear ≡ right x) × (result.outcome ≡ other x) } {", "every field of it"),
+    ("fn h(x: u32) -> Test ensures { number result.outcome ≡ right x } {", "every field of it"),
+    ("fn h(v: &[u8]) -> Known<'_> ensures { (result.all.now ≡ v.now) × (result.all.ref_ptr ≡ v.entry.ref_ptr) } {", "every field of it"),
     ('pub extern "C" fn e(x: u32) -> u32 ensures { result ≡ right x } {', "no public call for it"),
 ]
 GOOD = [
+    "fn h(x: u32) -> Test ensures { (number result.outcome ≡ right x) × (result.clear ≡ other x) } {",
+    "fn h(v: &[u8]) -> Known<'_> ensures { (result.all.now ≡ v.now) × ((result.all.ref_ptr ≡ v.entry.ref_ptr) × (result.n ≡ right v)) } {",
+    "fn h(v: &[u8]) -> Facts<'_, 1, N> ensures { (result.all.now ≡ v.now) × ((result.all.ref_ptr ≡ v.entry.ref_ptr) × (result.n ≡ right v)) } {",
     "pub fn f(x: u32) -> Result<(), Cause> ensures { number result ≡ right x } {",
     "pub fn f(x: u32, y: u32) -> Result<Pair, Cause> ensures { file_answer y result ≡ right x y } {",
     "fn h(x: u32) -> Pair ensures { file_answer x (Ok result) ≡ right x } {",
