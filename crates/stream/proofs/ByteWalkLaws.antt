@@ -22,7 +22,7 @@ use Rattle.stream.specs.Internal.{after, along, reached}
 use Rattle.stream.specs.Internal.{byte_walk, piece_length, past_piece}
 use Rattle.stream.specs.Bytes.{bytes_of, store_at}
 use Rattle.stream.proofs.StreamLaws.{along_head, length-along}
-use Rattle.stream.proofs.BytesSteps.{Sought, some_left, left_after, cluster_room, piece_is, splice-none, store_next, store_empty, take_zeros, drop_zeros, reach_none, reach_sum, reach_next, read_next, last_here, last_next, last_inside, last_from, bytes_length}
+use Rattle.stream.proofs.BytesSteps.{Sought, some_left, left_after, cluster_room, piece_is, splice-none, store_next, store_empty, take_zeros, drop_zeros, reach_none, reach_sum, reach_next, read_next, last_here, last_next, last_inside, last_from, length_bytes_of}
 use Rattle.stream.proofs.RowLaws.{run_inside, store_run, read_run}
 
 pub zeros_part : (m i n : ℕ) → i + m ≤ n → ◌≡◌ {A = List ℕ} (take m (drop i (replicate n 0))) (replicate m 0)
@@ -227,7 +227,7 @@ module _ (y : Layout) where
         let z : i % y.size + (n - 0) ≤ m * y.size = omega (arith, s.room) in
         let u : n - 0 ≡ n = omega arith in
         let whole : length (bytes_of y d ks) ≡ m * y.size =
-        bytes_length y d l long ks s.heap ∙ ap (λ (x : ℕ). x * y.size) (length-along (fat_entry y d) a.no_fat_chain k m) in
+        length_bytes_of y d l long ks s.heap ∙ ap (λ (x : ℕ). x * y.size) (length-along (fat_entry y d) a.no_fat_chain k m) in
         let full : length (take n bs) ≡ n = length-take-le n bs (omega (arith, length-drop (i % y.size) (bytes_of y d ks), whole, s.room)) in
         subst (λ (x : ByteWalk). Reading d dst x (take n (drop i (bytes_of y d (along (fat_entry y d) a.no_fat_chain a.first a.count))))) (sym e)
         (record {

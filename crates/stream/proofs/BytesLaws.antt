@@ -23,7 +23,7 @@ use Rattle.metadata.proofs.Frame.{Fits, fits_kept, length_bytes, bytes_other, fa
 use Rattle.metadata.proofs.View.{plain, plain_heap, plain_off}
 use Rattle.stream.specs.Internal.{along}
 use Rattle.stream.specs.Bytes.{cluster_bytes, bytes_of, store_at}
-use Rattle.stream.proofs.BytesSteps.{every_take, along_same, store_past, store_here, store_nothing, length_cluster, bytes_length}
+use Rattle.stream.proofs.BytesSteps.{every_take, along_same, store_past, store_here, store_nothing, length_cluster, length_bytes_of}
 
 -- ---- parts of lists
 
@@ -121,7 +121,7 @@ module _ (y : Layout) where
 
 module _ (y : Layout) (d : List ℕ) (w : Fits y d) where
   pub length_of : (ks : List ℕ) → every (in_heap y.count) ks ≡ true → length (bytes_of y d ks) ≡ length ks * y.size
-  length_of = bytes_length y d w.laid w.long
+  length_of = length_bytes_of y d w.laid w.long
 
   -- byte r of the cluster at place m
   pub byte_of : (ks : List ℕ) (m r : ℕ) → every (in_heap y.count) ks ≡ true → m < length ks → r < y.size

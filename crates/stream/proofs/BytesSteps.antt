@@ -371,12 +371,12 @@ module _ (y : Layout) (d : List ℕ) (l : Laid y) (long : length d ≡ y.len) wh
   unfolding cluster_bytes
   length_cluster k h = length-take-le y.size (drop (cluster_at y k) d) (omega (arith, length-drop (cluster_at y k) d, cluster_room k h))
 
-  pub bytes_length : (ks : List ℕ) → every (in_heap y.count) ks ≡ true → length (bytes_of y d ks) ≡ length ks * y.size
+  pub length_bytes_of : (ks : List ℕ) → every (in_heap y.count) ks ≡ true → length (bytes_of y d ks) ≡ length ks * y.size
   unfolding bytes_of
-  bytes_length [] e = omega arith
-  bytes_length (k ∷ ks) e =
+  length_bytes_of [] e = omega arith
+  length_bytes_of (k ∷ ks) e =
       let n = length_cluster k (every_head (in_heap y.count) k ks e) in
-      omega (arith, length-append (cluster_bytes y d k) (bytes_of y d ks), bytes_length ks (every_tail (in_heap y.count) k ks e), suc-mul (length ks) y.size)
+      omega (arith, length-append (cluster_bytes y d k) (bytes_of y d ks), length_bytes_of ks (every_tail (in_heap y.count) k ks e), suc-mul (length ks) y.size)
 
   -- whole clusters passed over
   pub bytes_over : (m : ℕ) (ks : List ℕ) (at : ℕ) → m ≤ length ks → every (in_heap y.count) ks ≡ true
