@@ -71,6 +71,14 @@ fn used_windows(part: &[u8], first: u32, n: u32) -> u32
 }
 
 impl<const APART: usize, const WIDE: usize> OpenDirectory<'_, APART, WIDE> {
+    // One byte of a cluster of the volume that the directory is opened on.
+    pub fn byte_at(&self, k: u32, at: usize) -> u8
+        requires { (2 ≤ k) × ((k < self.now.sys.now.y.count + 2) × (at < self.now.sys.now.y.size)) }
+        ensures { result ≡ cluster_byte self.now.sys.now.y self.now.vol.now k at }
+    {
+        byte_at(self.vol, self.sys, k, at)
+    }
+
     // Whether an entry is in use.
     fn in_use(&self, e: Cursor) -> bool
         requires { (2 ≤ e.cluster) × ((e.cluster < self.now.sys.now.y.count + 2) × (e.at + 32 ≤ self.now.sys.now.y.size)) }

@@ -6,3 +6,5 @@ pub mod directory;
 pub mod entries;
 pub mod open_file;
 pub mod spot;
+#[cfg(test)]
+mod tests;
