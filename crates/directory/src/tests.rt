@@ -4,7 +4,7 @@ use boot::geometry::geometry_of;
 use boot::system::admit;
 use primitives::words::put_u32;
 
-// A volume of 16 clusters of 512 bytes, the first at byte 16,384, its root in cluster 3: the first and last bytes of clusters.
+// A volume of 16 clusters of 512 bytes, the first at byte 16,384, its root in cluster 3: bytes at the ends of clusters.
 #[test]
 fn bytes_of_an_opened_directory(rt: HostRuntime) {
     let mut vol = [0u8; 24576];
@@ -15,7 +15,7 @@ fn bytes_of_an_opened_directory(rt: HostRuntime) {
     vol[16897] = 0x33;
     vol[17407] = 0x44;
     vol[17408] = 0x55;
-    vol[24575] = 0x66;
+    vol[24575] = 0xE6;
     let g = geometry_of(&[9, 0, 24, 1, 1, 0, 32, 16, 3, 2, 0]);
     let sys = admit(g, vol.len(), b"\x03\x00").expect(&rt, "the geometry is refused");
     assert_eq!(rt; sys.y.len, vol.len());
@@ -27,7 +27,7 @@ fn bytes_of_an_opened_directory(rt: HostRuntime) {
         (3, 2, 0),
         (3, 511, 0x44),
         (4, 0, 0x55),
-        (17, 511, 0x66),
+        (17, 511, 0xE6),
     ] {
         assert!(rt; 2 <= k && k < d.sys.y.count + 2 && at < d.sys.y.size);
         assert_eq!(rt; d.byte_at(k, at), b);
